@@ -1,19 +1,6 @@
 -- The signals of a target of which nothing is refused are nodes and pins of cells.
 use Rattle.std.proofs.Common.{◌≡◌, ℕ, ◌==◌, Bool, true, false, ◌&&◌, ◌||◌, if◌then◌else◌, Option, Some, List, [], ◌∷◌, ◌++◌, inl, inr, refl, ap, subst}
-use Rattle.std.specs.List.{list_any}
-use Rattle.std.proofs.lemmas.Bool.{and_parts, eqb-true, or_cases}
-use Rattle.pld_base.specs.declared.place.Place.{Place}
-use Rattle.abel_tree.specs.declared.words.Extension.{Extension}
-use Rattle.abel_tree.specs.Extensions.{is_data}
-use Rattle.abel_meaning.specs.Designs.{Context, name_at}
-use Rattle.abel_meaning.specs.Targets.{some_signals}
-use Rattle.set_expr.specs.declared.fault.SectionFault.TheVariants.{NotAnOutput}
-use Rattle.section_targets.specs.declared.aim.Aim.{Aim}
-use Rattle.section_targets.specs.declared.manner.Manner.{Manner}
-use Rattle.section_targets.specs.Manners.{manner_of, is_output_kind, is_output, may_be_assigned, no_output, mixed, aims_refused}
-use Rattle.section_targets.proofs.Built.{left_empty, right_empty}
-use Rattle.section_targets.proofs.SideTerms.{positions_of}
-use Rattle.declared_names.proofs.AmongNumbers.{among}
+use Rattle.design.proofs.Common.{list_any, and_parts, eqb-true, or_cases, Place, Extension, is_data, Context, name_at, some_signals, NotAnOutput, Aim, Manner, manner_of, is_output_kind, is_output, may_be_assigned, no_output, mixed, aims_refused, left_empty, right_empty, positions_of, among}
 
 -- some aim is at the signal
 abbrev pub is_aimed : ℕ → List Aim → Bool

@@ -1,21 +1,8 @@
 -- What is assigned, and the data that are given to it.
 use Rattle.std.proofs.Common.{◌≡◌, ℕ, ◌==◌, Bool, true, false, ◌&&◌, ◌||◌, Option, None, Some, List, [], ◌∷◌, ◌++◌, length, inl, inr, refl, sym, ap, ap₂, ◌∙◌}
 use Rattle.std.specs.Prelude.{replicate}
-use Rattle.std.specs.List.{list_any}
-use Rattle.std.proofs.lemmas.Bool.{or_left, or_right, or_cases}
-use Rattle.std.proofs.lemmas.List.Folds.{list_any-append}
-use Rattle.abel_tree.specs.declared.words.Extension.{Extension}
+use Rattle.design.proofs.Common.{list_any, or_left, or_right, or_cases, list_any-append, Extension, Assigned, assigned_each, assigned_by, is_assigned, is_data, Contribution, Gives, Guard, Context, is_data_to, given_each, no_matches, some_signals, SignalUse, reads_of_terms, among}
 use Rattle.abel_tree.specs.declared.words.Extension.TheVariants as extension
-use Rattle.abel_tree.specs.Assigned.{Assigned, assigned_each, assigned_by, is_assigned}
-use Rattle.abel_tree.specs.Extensions.{is_data}
-use Rattle.abel_meaning.specs.Contributions.{Contribution, Gives, Guard}
-use Rattle.abel_meaning.specs.Designs.{Context}
-use Rattle.abel_meaning.specs.Functions.{is_data_to}
-use Rattle.abel_meaning.specs.Statements.{given_each}
-use Rattle.abel_meaning.specs.Tables.{no_matches}
-use Rattle.abel_meaning.specs.Targets.{some_signals}
-use Rattle.netlist_laws.specs.SignalUses.{SignalUse, reads_of_terms}
-use Rattle.declared_names.proofs.AmongNumbers.{among}
 
 -- one of what is assigned to the signal
 pub assigned_among : (s : ℕ) (c : Bool) (ss : List ℕ) → is_assigned (assigned_each c ss) s ≡ among s ss

@@ -1,19 +1,8 @@
 -- What the names of a module say of its assignments.
 use Rattle.std.proofs.Common.{◌≡◌, ℕ, zero, suc, ◌+◌, Bool, true, false, Some, List, [], ◌∷◌, ◌++◌, get_or, refl, sym, ap, ◌∙◌, arith}
 use Rattle.std.specs.Prelude.{slice_get}
-use Rattle.pld_device.specs.declared.flip.Flip.{Flip}
-use Rattle.pld_device.specs.Table.{Table}
-use Rattle.abel_tree.specs.Assigned.{Named, Assigned, meant, signals_of, named_after, named_of, is_assigned, sections_assign}
-use Rattle.abel_tree.specs.Entries.{Entry, is_signal}
-use Rattle.abel_tree.specs.Tree.{Tree, ModuleTree}
-use Rattle.abel_meaning.specs.Declarations.{declared_names}
-use Rattle.abel_meaning.specs.Designs.{Design, design_of, name_at, no_name}
-use Rattle.abel_meaning.specs.Held.{Holds, holds_of}
-use Rattle.abel_meaning.specs.Kinds.{with_kind, with_kinds, names_of}
-use Rattle.abel_meaning.specs.Terms.{term_of}
+use Rattle.design.proofs.Common.{Flip, Table, Named, Assigned, meant, signals_of, named_after, named_of, is_assigned, sections_assign, Entry, is_signal, Tree, ModuleTree, declared_names, Design, design_of, name_at, no_name, Holds, holds_of, with_kind, with_kinds, names_of, term_of, among, bare_signals}
 use Rattle.declared_names.proofs.AssignedMarks.{is_no_target}
-use Rattle.declared_names.proofs.AmongNumbers.{among}
-use Rattle.design.specs.AssignedCorrect.{bare_signals}
 use Rattle.design.proofs.NamedTerms.{IsWithin, same_signals, bare_among}
 
 -- kinds change neither names nor what they stand for

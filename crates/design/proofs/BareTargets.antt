@@ -1,23 +1,6 @@
 -- A target of which nothing is refused is a signal's bare name, or a set of such.
 use Rattle.std.proofs.Common.{◌≡◌, ℕ, Bool, true, false, ◌&&◌, Option, None, Some, List, [], ◌∷◌, ◌++◌, if◌then◌else◌, length, map, refl, sym, ap, ap₂, ◌∙◌}
-use Rattle.std.proofs.lemmas.Bool.{and_parts}
-use Rattle.std.proofs.lemmas.List.{map-append}
-use Rattle.pld_base.specs.declared.place.Place.{Place}
-use Rattle.abel_tree.specs.Assigned.{without_extension}
-use Rattle.abel_tree.specs.Entries.{find}
-use Rattle.abel_tree.specs.Ranges.{range_names}
-use Rattle.abel_tree.specs.Tree.{Tree, ANumber, ASpecial, AName, ASet, AParen, AUnary, ABinary, OneMember, SpanMember, Members, NoMember, MoreMembers}
-use Rattle.abel_meaning.specs.Designs.{Context}
-use Rattle.abel_meaning.specs.Targets.{targets_of, all_targets, some_signals}
-use Rattle.abel_meaning.specs.Terms.{Term, Terms, Number, X, Pulse, Release, Read, Set, UnaryOf, BinaryOf, NoTerm, Before, term_named, term_of, terms_of, named_before}
-use Rattle.netlist_laws.specs.SignalUses.{SignalUse, term_uses, all_term_uses}
-use Rattle.set_expr.specs.declared.fault.SectionFault.TheVariants.{NotAnOutput}
-use Rattle.set_expr.specs.FoundNames.{found_use, name_found, names_found}
-use Rattle.set_expr.specs.Refusals.{too_wide}
-use Rattle.section_targets.specs.TargetSignals.{names_signals, all_name_signals, no_signals, target_name, target_range, target_member, target_members, left_side, start_of}
-use Rattle.section_targets.proofs.Built.{left_empty, right_empty}
-use Rattle.section_targets.proofs.SignalLists.{some_append}
-use Rattle.design.specs.AssignedCorrect.{bare_signals, all_bare_signals}
+use Rattle.design.proofs.Common.{and_parts, map-append, Place, without_extension, find, range_names, Tree, ANumber, ASpecial, AName, ASet, AParen, AUnary, ABinary, OneMember, SpanMember, Members, NoMember, MoreMembers, Context, targets_of, all_targets, some_signals, Term, Terms, Number, X, Pulse, Release, Read, Set, UnaryOf, BinaryOf, NoTerm, Before, term_named, term_of, terms_of, named_before, SignalUse, term_uses, all_term_uses, NotAnOutput, found_use, name_found, names_found, too_wide, names_signals, all_name_signals, no_signals, target_name, target_range, target_member, target_members, left_side, start_of, left_empty, right_empty, some_append, bare_signals, all_bare_signals}
 use Rattle.design.proofs.GivenBlocks.{bare}
 
 -- ---- of which nothing is refused

@@ -1,37 +1,13 @@
 -- The resets of a netlist's cells are those of a design's signals.
 use Rattle.std.proofs.Common.{◌≡◌, ℕ, zero, suc, ◌+◌, ◌<◌, Bool, true, false, not, ◌||◌, List, [], ◌∷◌, length, map, get_or, Option, Some, None, refl, sym, ap, ◌∙◌, subst, inl, inr, arith}
 use Rattle.std.specs.Prelude.{All, is_none, IsSome}
-use Rattle.std.specs.Option.{option_map}
-use Rattle.std.proofs.lemmas.Bool.{cases_Bool, and_parts}
-use Rattle.std.proofs.lemmas.List.{get_or-map, length-map}
-use Rattle.std.proofs.lemmas.List.Elements.{All-map}
-use Rattle.std.proofs.lemmas.Option.{same_Some}
-use Rattle.pld_base.specs.declared.place.Place.{Place}
-use Rattle.pld_device.specs.Table.{Table}
-use Rattle.bit_expr.specs.declared.netlist.CellWanted.{CellWanted}
-use Rattle.bit_expr.specs.declared.netlist.Control.{Control}
-use Rattle.bit_expr.specs.declared.node.Leaf.{Leaf}
-use Rattle.bit_expr.specs.Formulas.{Formula}
+use Rattle.design.proofs.Common.{option_map, cases_Bool, and_parts, get_or-map, length-map, All-map, same_Some, Place, Table, CellWanted, Control, Leaf, Formula, Kind, APin, ANode, AConstant, ADeviceName, Entry, is_signal, is_stored, cell_on, control_of, control_if_stored, Context, Design, name_at, no_name, formulas, Wanted, plain_control, plain_wanted, given_formulas, leaf_of, names_if_any, is_one_of, HasNoSignalPath, Link, wanted_for, cell_of, and_cell, cells_from, inside, AreLinks, IsPlaced, AssignedHaveCells, is_sooner, IsResetAt, IsFirstPath, IsResetOf, LeadsNowhereAt, AnyPlace, IsFirstOf, AllLeadNowhere}
 use Rattle.abel_tree.specs.declared.words.Extension.TheVariants as extension
-use Rattle.abel_tree.specs.Entries.{Kind, APin, ANode, AConstant, ADeviceName, Entry, is_signal, is_stored}
-use Rattle.pld_device.specs.Pins.{cell_on}
 use Rattle.abel_meaning.specs.Contributions as meant
-use Rattle.abel_meaning.specs.Controls.{control_of, control_if_stored}
-use Rattle.abel_meaning.specs.Designs.{Context, Design, name_at, no_name}
-use Rattle.abel_meaning.specs.FormulaBits.{formulas}
-use Rattle.abel_meaning.specs.Netlists.{Wanted, plain_control, plain_wanted}
-use Rattle.abel_meaning.specs.SignalReads.{given_formulas, leaf_of, names_if_any, is_one_of, HasNoSignalPath}
 use Rattle.set_expr.specs.declared.contributions.Contribution.{Contribution}
-use Rattle.gathering.specs.declared.link.Link.{Link}
-use Rattle.netlist_laws.specs.Gathered.{wanted_for, cell_of, and_cell, cells_from}
 use Rattle.netlist_laws.proofs.SoundCells.{IsFor, each_for}
-use Rattle.netlist_laws.proofs.SoundLeaves.{inside}
-use Rattle.gathering.specs.Linked.{AreLinks}
-use Rattle.gathering.specs.Placed.{IsPlaced}
-use Rattle.gathering.specs.Resets.{AssignedHaveCells}
-use Rattle.design.specs.Answers.{is_sooner, IsResetAt, IsFirstPath}
 use Rattle.design.proofs.GivenSignals.{IsRowed}
-use Rattle.design.specs.Resets.{IsResetOf, LeadsNowhereAt, AnyPlace, Before, IsFirstOf, AllLeadNowhere}
+use Rattle.design.specs.{Before}
 
 -- ---- what is asked of each cell
 

@@ -1,16 +1,10 @@
 -- The names of a module, as those of its design.
 use Rattle.std.proofs.Common.{◌≡◌, ℕ, ◌<◌, Some, List, take, length, get_or, refl, sym, ap, subst, ◌∙◌, inl, inr}
 use Rattle.std.specs.Prelude.{slice_get}
-use Rattle.std.proofs.lemmas.Bool.{cases_lt}
-use Rattle.std.proofs.lemmas.List.{get_or_past}
-use Rattle.std.proofs.lemmas.Option.{slice_get-get_or}
-use Rattle.abel_tree.specs.Entries.{ANode, ADeviceName, Entry}
+use Rattle.design.proofs.Common.{cases_lt, get_or_past, slice_get-get_or, ANode, ADeviceName, Entry, no_name, names_of, NamesAreAccepted}
 use Rattle.abel_tree.specs.SoundNames.{IsSoundKind}
-use Rattle.abel_meaning.specs.Designs.{no_name}
-use Rattle.abel_meaning.specs.Kinds.{names_of}
 use Rattle.declared_names.specs.AcceptedNames.{PinsAreApart, BuffersAreAllowed}
 use Rattle.design.proofs.AssignedNames.{signal_there}
-use Rattle.design.specs.NamedCorrect.{NamesAreAccepted}
 
 no_node : (n : ℕ) → ADeviceName ≡ ANode n → ⊥
 no_node n e = absurd cc

@@ -1,22 +1,13 @@
 -- The first path of several cells.
 use Rattle.std.proofs.Common.{◌≡◌, ℕ, ◌<◌, ◌+◌, Bool, true, false, if◌then◌else◌, Option, None, Some, List, [], ◌∷◌, ◌++◌, length, take, get_or, sym, ap, subst, ◌∙◌, arith, length-append}
 use Rattle.std.specs.Prelude.{All}
+use Rattle.design.proofs.Common.{true≢false, take_more, get_or_append_left, All-append, All-cons, All-nil, All-weaker, same_Some, Place, CellWanted, Control, Formula, Link, is_sooner, LeadsNowhereAt, AnyPlace, IsPathOf, IsFoundOf, IsFirstOf, IsFirstFound, path_order}
 use Rattle.std.proofs.Math.Seq.{get_or-append_seam}
-use Rattle.std.proofs.lemmas.Bool.{true≢false}
 use Rattle.std.proofs.lemmas.Bool.Decides.{nat_tests}
-use Rattle.std.proofs.lemmas.List.{take_more, get_or_append_left}
-use Rattle.std.proofs.lemmas.List.Elements.{All-append, All-cons, All-nil, All-weaker}
-use Rattle.std.proofs.lemmas.Option.{same_Some}
-use Rattle.pld_base.specs.declared.place.Place.{Place}
-use Rattle.bit_expr.specs.declared.netlist.CellWanted.{CellWanted}
-use Rattle.bit_expr.specs.declared.netlist.Control.{Control}
-use Rattle.bit_expr.specs.Formulas.{Formula}
 use Rattle.abel_tree.specs.FirstRefusal.{sooner, is_before, earlier, place_order}
 use Rattle.abel_tree.proofs.FirstRefusals.{before_by, before_trans}
-use Rattle.gathering.specs.declared.link.Link.{Link}
 use Rattle.design.specs.declared.resets.ResetPath.{ResetPath}
-use Rattle.design.specs.Answers.{is_sooner}
-use Rattle.design.specs.Resets.{LeadsNowhereAt, AnyPlace, Before, IsPathOf, IsFoundOf, IsFirstOf, IsFirstFound, path_order}
+use Rattle.design.specs.{Before}
 
 never_sooner : (a b : ℕ) → sooner a b 0 a b 0 ≡ false
 never_sooner a b = grind (arith, nat_tests)

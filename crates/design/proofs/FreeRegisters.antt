@@ -1,35 +1,10 @@
 -- Where nothing is refused of the sections, the polarity of a free register may be chosen.
 use Rattle.std.proofs.Common.{◌≡◌, ℕ, ◌==◌, Bool, true, false, not, ◌&&◌, ◌||◌, if◌then◌else◌, Option, None, Some, List, [], ◌∷◌, inl, inr, refl, sym, ap, ◌∙◌}
-use Rattle.std.specs.List.{AllByRecursion, list_any}
-use Rattle.std.proofs.lemmas.Bool.{and_parts, cases_Bool, not-true, or_parts, true≢false}
+use Rattle.design.proofs.Common.{AllByRecursion, list_any, and_parts, cases_Bool, not-true, or_parts, true≢false, list_any-append, Formula, Flip, Table, Extension, signals_of, target_extension, without_extension, is_assigned, is_clocked_target, Entry, is_signal, is_stored, Tree, ModuleTree, is_data, is_raw, Contribution, is_the_control, is_control, control_by, declared_names, Design, design_of, name_at, formulas, is_data_to, is_raw_signal, Part, ATarget, AValue, sections_parts, read_in, part_reads, parts_read, held_by, held_of, is_shared, part_shares, is_held, is_buffer_by_default, is_registered, is_buffer, is_open, stays_free, words_with_kind, with_kind, given_formulas, term_of, HasNoEquation, among, PlacedUse, design_uses, FreeMayChoose, HaveBareHeaders}
 use Rattle.std.proofs.Math.Bool.{and-false}
-use Rattle.std.proofs.lemmas.List.Folds.{list_any-append}
-use Rattle.bit_expr.specs.Formulas.{Formula}
-use Rattle.pld_device.specs.declared.flip.Flip.{Flip}
 use Rattle.pld_device.specs.declared.flip.Flip.TheVariants.{Always, AfterRegister, BeforeRegister}
-use Rattle.pld_device.specs.Table.{Table}
-use Rattle.abel_tree.specs.declared.words.Extension.{Extension}
 use Rattle.abel_tree.specs.declared.words.Extension.TheVariants as extension
-use Rattle.abel_tree.specs.Assigned.{signals_of, target_extension, without_extension, is_assigned, is_clocked_target}
-use Rattle.abel_tree.specs.Entries.{Entry, is_signal, is_stored}
-use Rattle.abel_tree.specs.Tree.{Tree, ModuleTree}
-use Rattle.abel_tree.specs.Extensions.{is_data, is_raw}
 use Rattle.abel_meaning.specs.Choices.{is_free}
-use Rattle.abel_meaning.specs.Contributions.{Contribution}
-use Rattle.abel_meaning.specs.Controls.{is_the_control, is_control, control_by}
-use Rattle.abel_meaning.specs.Declarations.{declared_names}
-use Rattle.abel_meaning.specs.Designs.{Design, design_of, name_at}
-use Rattle.abel_meaning.specs.FormulaBits.{formulas}
-use Rattle.abel_meaning.specs.Functions.{is_data_to, is_raw_signal}
-use Rattle.abel_meaning.specs.Held.{Part, ATarget, AValue, sections_parts, read_in, part_reads, parts_read, held_by, held_of, is_shared, part_shares, is_held}
-use Rattle.abel_meaning.specs.Kinds.{is_buffer_by_default, is_registered, is_buffer, is_open, stays_free, words_with_kind, with_kind}
-use Rattle.abel_meaning.specs.SignalReads.{given_formulas}
-use Rattle.abel_meaning.specs.Terms.{term_of}
-use Rattle.netlist_laws.specs.Takeable.{HasNoEquation}
-use Rattle.declared_names.proofs.AmongNumbers.{among}
-use Rattle.design_checks.specs.LocatedUses.{PlacedUse}
-use Rattle.design_checks.specs.SectionUses.{design_uses}
-use Rattle.design.specs.Accepted.{FreeMayChoose, HaveBareHeaders}
 use Rattle.design.proofs.AssignedNames.{own_names, own_held, own_assigned, same_targets, declared_there, signal_there}
 use Rattle.design.proofs.BareTargets.{bare_alike}
 use Rattle.design.proofs.Each.{each_always, each_weaker, Misses, any_none, none_any, none_filtered}

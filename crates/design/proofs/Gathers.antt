@@ -1,48 +1,19 @@
 -- The netlist of a module, once its signals are checked.
 use Rattle.std.proofs.Common.{◌≡◌, ℕ, ◌<◌, List, [], ◌∷◌, map, length, get_or, refl, sym, ap, subst, ◌∙◌}
 use Rattle.std.specs.Prelude.{All}
-use Rattle.std.proofs.lemmas.Bool.{true≢false}
-use Rattle.std.proofs.lemmas.List.Elements.{All-cons, All-nil}
-use Rattle.pld_device.specs.Laws.{IsDevice}
-use Rattle.pld_device.specs.Table.{Table}
+use Rattle.design.proofs.Common.{true≢false, All-cons, All-nil, IsDevice, Table, arena, Formula, entries_of, is_signal, ModuleTree, view_module, Context, Design, design_of, names_of, PlainNetlist, plain_netlist, plain_wanted, given_formulas, HasNoSignalLoop, HasNoSignalPath, no_pair, pair_of_pin, pair_of_cell, IsSoundNetlist, IsSound, known_of, given, view_contribution, Link, cells_from, gathered_from, netlist_of, inside, AreLinks, AreIdsIn, IsPlaced, IsAccepted, IsSignalOf, AreToNames, IsDesignFor, HasSoundSignals, IsSignalRefused, HasNoRefusal, IsDesignRefused, UnrefusedIsSound, AllLeadNowhere, AreSignals, IsLinkedDesign, IsChainTold}
 use Rattle.bit_expr.specs.declared.netlist.Netlist.{Netlist}
-use Rattle.bit_expr.specs.Arena.{arena}
-use Rattle.bit_expr.specs.Formulas.{Formula}
 use Rattle.abel_tree.specs.declared.names.Names.{Names}
 use Rattle.abel_tree.specs.declared.sections.Module.{Module}
-use Rattle.abel_tree.specs.Entries.{entries_of, is_signal}
-use Rattle.abel_tree.specs.Tree.{ModuleTree}
-use Rattle.abel_tree.specs.View.{view_module}
-use Rattle.abel_meaning.specs.Designs.{Context, Design, design_of}
-use Rattle.abel_meaning.specs.Kinds.{names_of}
-use Rattle.abel_meaning.specs.Netlists.{PlainNetlist, plain_netlist, plain_wanted}
-use Rattle.abel_meaning.specs.SignalReads.{given_formulas, HasNoSignalLoop, HasNoSignalPath}
-use Rattle.abel_meaning.specs.SoundIds.{no_pair, pair_of_pin, pair_of_cell, IsSoundNetlist}
-use Rattle.abel_meaning.specs.Soundness.{IsSound}
-use Rattle.abel_meaning.specs.Terms.{known_of}
 use Rattle.netlist_laws.specs.FittedCorrect.{MeansTheSame}
 use Rattle.set_expr.specs.declared.contributions.Contribution.{Contribution}
 use Rattle.set_expr.specs.declared.contributions.Contributions.{Contributions}
 use Rattle.set_expr.specs.Answer.{IsContextOf}
-use Rattle.set_expr.specs.Given.{given, view_contribution}
-use Rattle.gathering.specs.declared.link.Link.{Link}
-use Rattle.netlist_laws.specs.Gathered.{cells_from, gathered_from, netlist_of}
 use Rattle.netlist_laws.proofs.NodeNumbers.{names_numbered}
-use Rattle.netlist_laws.proofs.SoundLeaves.{inside}
 use Rattle.gathering.specs.declared.netlist.Gathered.{Gathered}
-use Rattle.gathering.specs.Linked.{AreLinks}
-use Rattle.gathering.specs.Placed.{AreIdsIn, IsPlaced}
-use Rattle.design.specs.Accepted.{IsAccepted}
 use Rattle.design.proofs.GivenSignals.{EachSignal, given_signals, reset_had}
-use Rattle.section_targets.proofs.KnownTargets.{IsSignalOf}
-use Rattle.design_checks.specs.SignalsRefused.{AreToNames}
 use Rattle.design_checks.specs.declared.fault.DesignFault.{DesignFault}
 use Rattle.design_checks.specs.declared.fault.DesignFault.TheVariants as fault
-use Rattle.design_checks.specs.Verdict.{IsDesignFor, HasSoundSignals, IsSignalRefused}
-use Rattle.design.specs.Answers.{HasNoRefusal, IsDesignRefused}
-use Rattle.design.specs.DesignCorrect.{UnrefusedIsSound}
-use Rattle.design.specs.Resets.{AllLeadNowhere, AreSignals}
-use Rattle.design.specs.Told.{IsLinkedDesign, IsChainTold}
 use Rattle.design.proofs.CellResets.{none_leads, first_leads}
 use Rattle.design.proofs.LinkSizes.{are_signals}
 use Rattle.design.proofs.Unrefused.{had, unrefused}

@@ -1,21 +1,10 @@
 -- What tables, diagrams and equations contribute, contribution by contribution, where their terms read what they may.
 use Rattle.std.proofs.Common.{◌≡◌, ℕ, zero, suc, ◌==◌, Bool, true, false, Option, None, Some, List, [], ◌∷◌, ◌++◌, map, reverse, length, if◌then◌else◌}
 use Rattle.std.specs.Prelude.{filter, replicate}
-use Rattle.std.specs.List.{AllByRecursion, list_any}
-use Rattle.abel_tree.specs.declared.words.Extension.{Extension}
-use Rattle.abel_tree.specs.Tree.{RowTree, StateTree}
-use Rattle.abel_meaning.specs.Contributions.{Contribution, Gives, Guard, contribution}
-use Rattle.abel_meaning.specs.Designs.{Context}
-use Rattle.abel_meaning.specs.Diagrams.{registers_equal, is_state, goal_gives, in_state, is_other, once, first_of_each, state_matches, other_matches}
+use Rattle.design.proofs.Common.{AllByRecursion, list_any, Extension, RowTree, StateTree, Contribution, Gives, Guard, contribution, Context, registers_equal, is_state, goal_gives, in_state, is_other, once, first_of_each, state_matches, other_matches, given_each, literal, agrees, row_matches, match_of, outputs_given, rows_give, no_matches, targets_of, some_signals, Term, term_of, SignalUse, term_uses, reads_of_terms, is_kept}
 use Rattle.abel_meaning.specs.Numbers.{width_of, digits}
 use Rattle.abel_meaning.specs.Rows.{entry_levels}
-use Rattle.abel_meaning.specs.Statements.{given_each}
-use Rattle.abel_meaning.specs.Tables.{literal, agrees, row_matches, match_of, outputs_given, rows_give, no_matches}
-use Rattle.abel_meaning.specs.Targets.{targets_of, some_signals}
-use Rattle.abel_meaning.specs.Terms.{Term, term_of}
 use Rattle.abel_meaning.specs.Values.{constant_of}
-use Rattle.netlist_laws.specs.SignalUses.{SignalUse, term_uses, reads_of_terms}
-use Rattle.netlist_laws.specs.Takeable.{is_kept}
 use Rattle.design.proofs.Each.{each_append, each_filter}
 
 -- the read of a signal by its name alone

@@ -1,46 +1,15 @@
 -- The sections of a design, part by part: what they contribute, and what holds of their targets where nothing is refused.
 use Rattle.std.proofs.Common.{◌≡◌, ℕ, Bool, true, false, Option, None, Some, List, [], ◌∷◌, ◌++◌, map, length, append_assoc, refl, sym, ap, subst, ◌∙◌, if◌then◌else◌}
 use Rattle.std.specs.Prelude.{filter, replicate}
-use Rattle.std.specs.List.{AllByRecursion, list_all}
-use Rattle.std.proofs.lemmas.Bool.{and_parts}
+use Rattle.design.proofs.Common.{AllByRecursion, list_all, and_parts, Table, cell_at, Formula, Const, Extension, Named, Assigned, signals_of, target_extension, without_extension, is_clocked, assigned_each, statement_assigns, else_assigns, statements_assign, list_assigns, with_assigns, branch_assigns, other_assigns, choices_assign, branches_assign, states_assign, section_assigns, sections_assign, is_assigned, Tree, AParen, Statement, AnAssign, AWhen, AGroup, ADontCare, Otherwise, NoElse, AnElse, Statements, NoStatement, MoreStatements, statements_of, Branch, AGoal, AnIf, ACase, OtherBranch, NoBranch, ABranch, Choices, NoChoice, MoreChoices, StateTree, SectionTree, Declarations, Equations, ATable, ADiagram, SomeVectors, DontCareSection, Contribution, Guard, guarded, condition, Context, name_at, goal_gives, branch_gives, other_gives, choices_give, branches_give, in_state, states_give, is_other, first_of_each, other_matches, with_statements, Part, ATarget, AValue, statement_parts, else_parts, statements_parts, list_parts, with_parts, branch_parts, other_parts, choices_parts, branches_parts, states_parts, section_parts, sections_parts, sign_gives, statement_gives, else_gives, statements_give, rows_give, no_matches, targets_of, some_signals, term_of, cell_of, SignalUse, term_uses, reads_of_terms, is_kept, is_enabled_by_row, is_row, expression_found, Manner, names_signals, target_member, left_side, CountedUnit, units_refused, right_empty, side_positions, statement_manners, statements_manners, units_of_statement, units_of_else, units_of_statements, register_manners, state_guard, state_manners, branch_manners, units_of_branch, units_of_other, units_of_choices, units_of_branches, units_of_states, listed_after, section_manners, units_of_section, units_of_sections, among, PlacedUse, is_by_pin, is_cell_by_pin, is_enabled_by_pin, is_compared_by, is_compared, expression_uses, statement_uses, else_uses, statements_uses, with_uses, branch_uses, other_uses, choices_uses, branches_uses, states_uses, section_uses, sections_uses, HasBareHeader, HaveBareHeaders}
 use Rattle.pld_device.specs.declared.enable.Enable.{Enable}
 use Rattle.pld_device.specs.declared.enable.Enable.TheVariants.{Row, PinLow}
-use Rattle.pld_device.specs.Table.{Table, cell_at}
-use Rattle.bit_expr.specs.Formulas.{Formula, Const}
-use Rattle.abel_tree.specs.declared.words.Extension.{Extension}
 use Rattle.abel_tree.specs.declared.words.Extension.TheVariants as extension
-use Rattle.abel_tree.specs.Assigned.{Named, Assigned, signals_of, target_extension, without_extension, is_clocked, assigned_each, statement_assigns, else_assigns, statements_assign, list_assigns, with_assigns, branch_assigns, other_assigns, choices_assign, branches_assign, states_assign, section_assigns, sections_assign, is_assigned}
-use Rattle.abel_tree.specs.Tree.{Tree, AParen, Statement, AnAssign, AWhen, AGroup, ADontCare, Otherwise, NoElse, AnElse, Statements, NoStatement, MoreStatements, statements_of, Branch, AGoal, AnIf, ACase, OtherBranch, NoBranch, ABranch, Choices, NoChoice, MoreChoices, StateTree, SectionTree, Declarations, Equations, ATable, ADiagram, SomeVectors, DontCareSection}
-use Rattle.abel_meaning.specs.Contributions.{Contribution, Guard, guarded, condition}
 use Rattle.abel_meaning.specs.CountedNodes.{condition_of, guard_then, guard_else}
-use Rattle.abel_meaning.specs.Designs.{Context, name_at}
-use Rattle.abel_meaning.specs.Diagrams.{goal_gives, branch_gives, other_gives, choices_give, branches_give, in_state, states_give, is_other, first_of_each, other_matches, with_statements}
 use Rattle.abel_meaning.specs.Directives.{after_section}
-use Rattle.abel_meaning.specs.Held.{Part, ATarget, AValue, statement_parts, else_parts, statements_parts, list_parts, with_parts, branch_parts, other_parts, choices_parts, branches_parts, states_parts, section_parts, sections_parts}
 use Rattle.abel_meaning.specs.Sections.{next_block, unguarded, section_gives, sections_give}
-use Rattle.abel_meaning.specs.Statements.{sign_gives, statement_gives, else_gives, statements_give}
-use Rattle.abel_meaning.specs.Tables.{rows_give, no_matches}
-use Rattle.abel_meaning.specs.Targets.{targets_of, some_signals}
-use Rattle.abel_meaning.specs.Terms.{term_of}
-use Rattle.netlist_laws.specs.Gathered.{cell_of}
-use Rattle.netlist_laws.specs.SignalUses.{SignalUse, term_uses, reads_of_terms}
-use Rattle.netlist_laws.specs.Takeable.{is_kept, is_enabled_by_row, is_row}
-use Rattle.set_expr.specs.FoundNames.{expression_found}
-use Rattle.section_targets.specs.declared.manner.Manner.{Manner}
-use Rattle.section_targets.specs.TargetSignals.{names_signals, target_member, left_side}
-use Rattle.section_targets.specs.Units.{CountedUnit, units_refused}
-use Rattle.section_targets.proofs.Built.{right_empty}
-use Rattle.section_targets.proofs.SideTerms.{side_positions}
-use Rattle.equations.specs.StatementUnits.{statement_manners, statements_manners, units_of_statement, units_of_else, units_of_statements}
-use Rattle.state_diagrams.specs.DiagramUnits.{register_manners, state_guard, state_manners, branch_manners, units_of_branch, units_of_other, units_of_choices, units_of_branches, units_of_states}
 use Rattle.state_diagrams.specs.DiagramUnits as diagram
-use Rattle.state_diagrams.specs.StateValues.{listed_after}
-use Rattle.source_sections.specs.SectionUnits.{section_manners, units_of_section, units_of_sections}
-use Rattle.declared_names.proofs.AmongNumbers.{among}
-use Rattle.design_checks.specs.LocatedUses.{PlacedUse}
-use Rattle.design_checks.specs.SectionUses.{is_by_pin, is_cell_by_pin, is_enabled_by_pin, is_compared_by, is_compared, expression_uses, statement_uses, else_uses, statements_uses, with_uses, branch_uses, other_uses, choices_uses, branches_uses, states_uses, section_uses, sections_uses}
 use Rattle.design_checks.proofs.UsesRead.{uses_read}
-use Rattle.design.specs.Accepted.{HasBareHeader, HaveBareHeaders}
 use Rattle.design.proofs.AimedOutputs.{IsOutput, aimed_among, aimed_output}
 use Rattle.design.proofs.AssignedData.{assigned_among, assigned_data, one_of_two, has_data, in_front, behind, each_data, each_matched}
 use Rattle.design.proofs.BareTargets.{bare_alike, left_bare}

@@ -1,39 +1,16 @@
 -- Each contribution to a design is to a signal, and each control is one that its signal has.
 use Rattle.std.proofs.Common.{◌≡◌, ℕ, ◌==◌, Bool, true, false, not, ◌||◌, cond, Option, None, Some, List, [], ◌∷◌, map, refl, sym, ap, subst, ◌∙◌}
 use Rattle.std.specs.Prelude.{IsSome, filter, is_none}
-use Rattle.std.specs.List.{AllByRecursion, list_any}
-use Rattle.std.proofs.lemmas.Bool.{and_parts, eqb-true}
-use Rattle.pld_device.specs.Table.{Table}
-use Rattle.bit_expr.specs.Formulas.{Formula}
-use Rattle.abel_tree.specs.declared.words.Extension.{Extension}
+use Rattle.design.proofs.Common.{AllByRecursion, list_any, and_parts, eqb-true, Table, Formula, Extension, Kind, APin, ANode, AConstant, ADeviceName, Entry, is_signal, is_stored, Tree, Contribution, Evaluator, is_control, is_the_control, control_by, control_of, Design, name_at, formulas, is_data_to, Part, ATarget, AValue, sections_parts, given_formulas, targets_of, some_signals, known_of, term_of, view_contribution, lacking_controls, lacks_by, lacks_control, pin_lacks, SignalUse, given_uses, PlacedUse, design_uses, HaveBareHeaders, EachTarget, IsSignalOf, signal_targets}
 use Rattle.abel_tree.specs.declared.words.Extension.TheVariants as extension
-use Rattle.abel_tree.specs.Entries.{Kind, APin, ANode, AConstant, ADeviceName, Entry, is_signal, is_stored}
-use Rattle.abel_tree.specs.Tree.{Tree}
-use Rattle.abel_meaning.specs.Contributions.{Contribution, Evaluator}
-use Rattle.abel_meaning.specs.Controls.{is_control, is_the_control, control_by, control_of}
-use Rattle.abel_meaning.specs.Designs.{Design, name_at}
 use Rattle.abel_meaning.specs.Follows.{seen}
-use Rattle.abel_meaning.specs.FormulaBits.{formulas}
-use Rattle.abel_meaning.specs.Functions.{is_data_to}
-use Rattle.abel_meaning.specs.Held.{Part, ATarget, AValue, sections_parts}
-use Rattle.abel_meaning.specs.SignalReads.{given_formulas}
-use Rattle.abel_meaning.specs.Targets.{targets_of, some_signals}
-use Rattle.abel_meaning.specs.Terms.{known_of, term_of}
 use Rattle.set_expr.specs.declared.contributions.Contribution as code
-use Rattle.set_expr.specs.Given.{view_contribution}
-use Rattle.design_checks.specs.Refused.{lacking_controls}
-use Rattle.design_checks.specs.SignalsRefused.{lacks_by, lacks_control, pin_lacks}
-use Rattle.netlist_laws.specs.SignalUses.{SignalUse, given_uses}
 use Rattle.netlist_laws.proofs.SourcedFormulas.{Sourced, sourced_contributions, formulas_are, uses_are}
-use Rattle.design_checks.specs.LocatedUses.{PlacedUse}
-use Rattle.design_checks.specs.SectionUses.{design_uses}
-use Rattle.design.specs.Accepted.{HaveBareHeaders}
 use Rattle.design.proofs.AssignedData.{has_data}
 use Rattle.design.proofs.Each.{each_always, each_weaker, some_of}
 use Rattle.design.proofs.GivenBlocks.{IsGood, EachGood}
 use Rattle.design.proofs.GivenSections.{MayGive, sections_part}
 use Rattle.design.proofs.NamedTerms.{signals_in}
-use Rattle.section_targets.proofs.KnownTargets.{EachTarget, IsSignalOf, signal_targets}
 use Rattle.design.proofs.Unlisted.{HasControl, controls_there}
 
 -- ---- formulas and uses are contributed alike

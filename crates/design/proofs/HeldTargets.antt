@@ -1,11 +1,6 @@
 -- What a target names by its names alone is among what its names would read as Q.
 use Rattle.std.proofs.Common.{◌≡◌, ℕ, suc, ◌==◌, Bool, true, false, if◌then◌else◌, None, Some, List, [], ◌∷◌, ◌++◌, bytes_eq, refl, sym, ap, ◌∙◌}
-use Rattle.abel_tree.specs.Assigned.{Named, signals_of_name, signals_of_names, signals_of, signals_of_members, signals_of_member, meant, named_after, named_of}
-use Rattle.abel_tree.specs.Entries.{Kind, APin, ANode, AConstant, ADeviceName, Entry}
-use Rattle.abel_tree.specs.Ranges.{range_names}
-use Rattle.abel_tree.specs.Tree.{Tree, ANumber, ASpecial, AName, ASet, AParen, AUnary, ABinary, SetMember, OneMember, SpanMember, Members, NoMember, MoreMembers}
-use Rattle.abel_meaning.specs.Held.{Held, held_by, held_meant, held_after, held_of, read_names, read_in, read_in_members, read_in_member}
-use Rattle.declared_names.proofs.AmongNumbers.{among}
+use Rattle.design.proofs.Common.{Named, signals_of_name, signals_of_names, signals_of, signals_of_members, signals_of_member, meant, named_after, named_of, Kind, APin, ANode, AConstant, ADeviceName, Entry, range_names, Tree, ANumber, ASpecial, AName, ASet, AParen, AUnary, ABinary, SetMember, OneMember, SpanMember, Members, NoMember, MoreMembers, Held, held_by, held_meant, held_after, held_of, read_names, read_in, read_in_members, read_in_member, among}
 use Rattle.design.proofs.NamedTerms.{both_among}
 
 module _ (s : ℕ) where

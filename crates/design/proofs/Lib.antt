@@ -3,6 +3,7 @@ pub mod AssignedData
 pub mod AssignedNames
 pub mod BareTargets
 mod CellResets
+pub mod Common
 pub mod DesignNames
 pub mod Each
 mod Firsts

@@ -1,36 +1,15 @@
 -- The links of a design are few, and each leaf has a number that leaves may have.
 use Rattle.std.proofs.Common.{◌≡◌, ◌≢◌, ℕ, zero, suc, ◌+◌, ◌<◌, ◌≤◌, Bool, true, false, eqb, List, [], ◌∷◌, length, map, get_or, Option, Some, None, refl, sym, ap, ◌∙◌, subst, inl, inr, arith, if◌then◌else◌}
 use Rattle.std.specs.Prelude.{is_some}
-use Rattle.std.specs.List.{IsDistinct}
-use Rattle.std.specs.Option.{option_map}
-use Rattle.std.proofs.lemmas.Bool.{true≢false, cases_lt, eqb-true, eq-eqb, ne_eqb}
-use Rattle.std.proofs.lemmas.List.{get_or-map, length-map}
-use Rattle.std.proofs.lemmas.List.Quantifiers.{position-Some}
+use Rattle.design.proofs.Common.{IsDistinct, option_map, true≢false, cases_lt, eqb-true, eq-eqb, ne_eqb, get_or-map, length-map, position-Some, none-some, same_Some, has, few, place_of, IsDevice, cell_at, no_cell, Leaf, IsLeaf, Kind, APin, ANode, AConstant, ADeviceName, Entry, is_stored, Tree, cell_on, is_pin, Design, name_at, no_name, given_formulas, settles, leaf_by, PinsApart, NodesAreFew, Link, is_linked, IsLinkOf, AreLinks, AreSignals}
 use Rattle.std.proofs.lemmas.Map.Keys.{IsDistinct-from_apart}
-use Rattle.std.proofs.lemmas.Option.{none-some, same_Some}
-use Rattle.pld_order.specs.Graphs.{has}
-use Rattle.pld_order.proofs.Lists.{few, place_of}
-use Rattle.pld_device.specs.Laws.{IsDevice}
-use Rattle.pld_device.specs.Table.{cell_at, no_cell}
-use Rattle.bit_expr.specs.declared.node.Leaf.{Leaf}
 use Rattle.bit_expr.specs.declared.node.Leaf.TheVariants as leaf
-use Rattle.bit_expr.specs.Arena.{IsLeaf}
-use Rattle.abel_tree.specs.Entries.{Kind, APin, ANode, AConstant, ADeviceName, Entry, is_stored}
-use Rattle.abel_tree.specs.Tree.{Tree}
-use Rattle.pld_device.specs.Pins.{cell_on}
-use Rattle.abel_meaning.specs.Controls.{is_pin}
-use Rattle.abel_meaning.specs.Designs.{Design, name_at, no_name}
-use Rattle.abel_meaning.specs.SignalReads.{given_formulas, settles, leaf_by}
-use Rattle.netlist_laws.specs.Takeable.{PinsApart, NodesAreFew}
 use Rattle.netlist_laws.proofs.CellsFound.{has_pin}
 use Rattle.netlist_laws.proofs.NodesFound.{next_number, AreNumbered}
-use Rattle.gathering.specs.declared.link.Link.{Link}
 use Rattle.gathering.specs.Links.{leaf_in, AreLeaves}
 use Rattle.gathering.proofs.LinkSets.{leaf_there}
-use Rattle.gathering.specs.Linked.{is_linked, IsLinkOf, AreLinks}
 use Rattle.gathering.proofs.Graphed.{no_link}
 use Rattle.gathering.proofs.LinkFacts.{Facts, facts}
-use Rattle.design.specs.Resets.{AreSignals}
 
 -- ---- numbers of nodes
 

@@ -1,19 +1,7 @@
 -- A target names by its names alone the signals of its term that have no extension.
 use Rattle.std.proofs.Common.{◌≡◌, ℕ, suc, ◌==◌, Bool, true, false, if◌then◌else◌, Option, None, Some, List, [], ◌∷◌, ◌++◌, map, bytes_eq, append_assoc, inl, inr, refl, sym, ap, ap₂, ◌∙◌}
 use Rattle.std.specs.Prelude.{codes}
-use Rattle.std.proofs.lemmas.Bool.{or_left, or_right, or_cases}
-use Rattle.std.proofs.lemmas.List.{map-append}
-use Rattle.std.proofs.lemmas.List.Folds.{list_any-append}
-use Rattle.abel_tree.specs.declared.words.Extension.{Extension}
-use Rattle.abel_tree.specs.Assigned.{Named, signals_of_name, signals_of_names, signals_of, signals_of_members, signals_of_member, meant, named_after, named_of, without_extension}
-use Rattle.abel_tree.specs.Entries.{Kind, APin, ANode, AConstant, ADeviceName, Entry}
-use Rattle.abel_tree.specs.Ranges.{range_names}
-use Rattle.abel_tree.specs.Tree.{Tree, ANumber, ASpecial, AName, ASet, AParen, AUnary, ABinary, SetMember, OneMember, SpanMember, Members, NoMember, MoreMembers}
-use Rattle.abel_meaning.specs.Targets.{targets_of, all_targets, some_signals}
-use Rattle.abel_meaning.specs.Terms.{Term, Terms, Number, X, Pulse, Release, Read, Set, UnaryOf, BinaryOf, NoTerm, Before, Known, term_named, extended, extended_each, extended_if, named_before, member_before, special_term, term_of, terms_of, term_meant, known_after, known_of}
-use Rattle.section_targets.proofs.SignalLists.{some_append, extended_targets}
-use Rattle.declared_names.proofs.AmongNumbers.{among}
-use Rattle.design.specs.AssignedCorrect.{bare_signals, all_bare_signals}
+use Rattle.design.proofs.Common.{or_left, or_right, or_cases, map-append, list_any-append, Extension, Named, signals_of_name, signals_of_names, signals_of, signals_of_members, signals_of_member, meant, named_after, named_of, without_extension, Kind, APin, ANode, AConstant, ADeviceName, Entry, range_names, Tree, ANumber, ASpecial, AName, ASet, AParen, AUnary, ABinary, SetMember, OneMember, SpanMember, Members, NoMember, MoreMembers, targets_of, all_targets, some_signals, Term, Terms, Number, X, Pulse, Release, Read, Set, UnaryOf, BinaryOf, NoTerm, Before, Known, term_named, extended, extended_each, extended_if, named_before, member_before, special_term, term_of, terms_of, term_meant, known_after, known_of, some_append, extended_targets, among, bare_signals, all_bare_signals}
 
 -- a name with the bare signals of what it stands for
 abbrev as_named : Known → Named

@@ -1,28 +1,9 @@
 -- A module is accepted whose declarations and sections are.
 use Rattle.std.proofs.Common.{◌≡◌, ℕ, ◌+◌, ◌==◌, Bool, true, false, ◌||◌, cond, Option, None, Some, List, [], ◌∷◌, ◌++◌, length, refl, sym, subst, ◌∙◌}
 use Rattle.std.specs.Prelude.{IsSome}
-use Rattle.std.specs.List.{AllByRecursion, list_any, position_from}
+use Rattle.design.proofs.Common.{AllByRecursion, list_any, position_from, Cell, Table, arena, Extension, Tree, SectionTree, Declarations, Equations, ATable, ADiagram, SomeVectors, DontCareSection, ModuleTree, cell_on, Context, Design, design_of, sections_parts, term_of, SignalUse, given_uses, design_uses, constants_refused, Manner, is_cell_pin, is_output_kind, units_refused, all_refused, limit_refused, right_empty, section_manners, units_of_section, units_of_sections, AssignedAreOnCells, AssignedHaveData, HasBareHeader, HaveBareHeaders, IsAccepted, AreGiven, HasSoundSections, HasSoundDeclarations}
 use Rattle.std.proofs.lemmas.Iterator.Adapters.{position_from-zero}
-use Rattle.pld_device.specs.declared.cell.Cell.{Cell}
-use Rattle.pld_device.specs.Table.{Table}
-use Rattle.bit_expr.specs.Arena.{arena}
-use Rattle.abel_tree.specs.declared.words.Extension.{Extension}
-use Rattle.abel_tree.specs.Tree.{Tree, SectionTree, Declarations, Equations, ATable, ADiagram, SomeVectors, DontCareSection, ModuleTree}
-use Rattle.pld_device.specs.Pins.{cell_on}
-use Rattle.abel_meaning.specs.Designs.{Context, Design, design_of}
-use Rattle.abel_meaning.specs.Held.{sections_parts}
-use Rattle.abel_meaning.specs.Terms.{term_of}
-use Rattle.netlist_laws.specs.SignalUses.{SignalUse, given_uses}
-use Rattle.design_checks.specs.SectionUses.{design_uses}
-use Rattle.set_expr.specs.FoundNames.{constants_refused}
-use Rattle.section_targets.specs.declared.manner.Manner.{Manner}
-use Rattle.section_targets.specs.Manners.{is_cell_pin, is_output_kind}
-use Rattle.section_targets.specs.Units.{units_refused, all_refused, limit_refused}
-use Rattle.section_targets.proofs.Built.{right_empty}
 use Rattle.source_sections.specs.SectionAnswers.{source_units}
-use Rattle.source_sections.specs.SectionUnits.{section_manners, units_of_section, units_of_sections}
-use Rattle.design.specs.Accepted.{AssignedAreOnCells, AssignedHaveData, HasBareHeader, HaveBareHeaders, IsAccepted}
-use Rattle.design.specs.AssignedCorrect.{AreGiven, HasSoundSections, HasSoundDeclarations}
 use Rattle.design.proofs.AssignedNames.{own_names, own_assigned, names_within, by_sections, signal_there}
 use Rattle.design.proofs.BareTargets.{member_bare}
 use Rattle.design.proofs.Each.{each_always}

@@ -1,24 +1,11 @@
 -- The outputs of a table of which nothing is refused are nodes and pins of cells.
 use Rattle.std.proofs.Common.{◌≡◌, ℕ, ◌==◌, Bool, true, false, ◌||◌, Option, None, Some, List, [], ◌∷◌, refl, sym, ap, ◌∙◌}
-use Rattle.pld_base.specs.declared.place.Place.{Place}
-use Rattle.abel_tree.specs.Assigned.{Named, signals_of, assigned_each, is_assigned}
-use Rattle.abel_tree.specs.Tree.{Tree, RowTree}
+use Rattle.design.proofs.Common.{Place, Named, signals_of, assigned_each, is_assigned, Tree, RowTree, Context, some_signals, term_of, SectionFault, expression_found, Aim, Manner, aims_refused, CountedUnit, units_refused, right_empty, among}
 use Rattle.abel_meaning.specs.CountedBlocks.{table_units}
-use Rattle.abel_meaning.specs.Designs.{Context}
-use Rattle.abel_meaning.specs.Targets.{some_signals}
-use Rattle.abel_meaning.specs.Terms.{term_of}
-use Rattle.set_expr.specs.declared.fault.SectionFault.{SectionFault}
-use Rattle.set_expr.specs.FoundNames.{expression_found}
-use Rattle.section_targets.specs.declared.aim.Aim.{Aim}
-use Rattle.section_targets.specs.declared.manner.Manner.{Manner}
-use Rattle.section_targets.specs.Manners.{aims_refused}
-use Rattle.section_targets.specs.Units.{CountedUnit, units_refused}
-use Rattle.section_targets.proofs.Built.{right_empty}
 use Rattle.truth_tables.specs.OutputHeaders.{output_header}
 use Rattle.truth_tables.specs.TableUnits.{some_aims, if_none, outputs_refused, header_refused, row_units, units_behind, units_of_table}
 use Rattle.truth_tables.specs.Gives as gives
 use Rattle.truth_tables.proofs.OutputPositions.{header_signals}
-use Rattle.declared_names.proofs.AmongNumbers.{among}
 use Rattle.design.proofs.AimedOutputs.{is_aimed, IsOutput, aimed_output}
 use Rattle.design.proofs.AssignedData.{assigned_among}
 use Rattle.design.proofs.NamedTerms.{IsWithin}

@@ -1,44 +1,12 @@
 -- A device can take the netlist of a design of which nothing is refused.
 use Rattle.std.proofs.Common.{◌≡◌, ◌≢◌, ℕ, ◌==◌, Bool, true, false, not, ◌&&◌, ◌||◌, Option, None, Some, List, [], ◌∷◌, map, refl, sym, ap, subst, ◌∙◌, if◌then◌else◌, inl, inr}
 use Rattle.std.specs.Prelude.{slice_get, IsSome, is_none}
-use Rattle.std.specs.List.{AllByRecursion}
-use Rattle.std.proofs.lemmas.Bool.{cases_Bool, and_from, and_parts, eqb-true, true≢false}
-use Rattle.std.proofs.lemmas.List.Elements.{All-get_or}
-use Rattle.std.proofs.lemmas.List.Folds.{list_any_at}
-use Rattle.std.proofs.lemmas.List.Quantifiers.{position-Some}
-use Rattle.std.proofs.lemmas.Option.{get_or_from_slice_get}
-use Rattle.bit_expr.specs.declared.node.Leaf.{Leaf}
-use Rattle.bit_expr.specs.Formulas.{Formula}
-use Rattle.pld_device.specs.declared.cell.Cell.{Cell}
+use Rattle.design.proofs.Common.{AllByRecursion, cases_Bool, and_from, and_parts, eqb-true, true≢false, All-get_or, list_any_at, position-Some, get_or_from_slice_get, Leaf, Formula, Cell, IsCell, IsDevice, Table, cell_at, no_cell, Extension, Kind, APin, ANode, AConstant, ADeviceName, Entry, is_signal, is_stored, Tree, cell_on, is_data, Design, name_at, no_name, is_data_to, given_formulas, MayRegister, Part, ATarget, AValue, sections_parts, term_of, view_contribution, is_wrong_kind, is_wrong_cell, has_wrong_kind, has_wrong_kind_by, has_wrong_kind_on, lacks_by, is_registered_by, cell_by, SignalUse, use_reads, uses_read, given_uses, HasColumns, IsAllowedOn, ControlIsThere, IsTakeable, PlacedUse, is_missing, is_unread, design_uses, IsAccepted, UnrefusedIsTakeable, IsUnrefused}
 use Rattle.pld_device.specs.declared.kinds.Kinds.{Kinds}
 use Rattle.pld_device.specs.declared.kinds.Kinds.TheVariants.{Combinational, Registered, Either}
-use Rattle.pld_device.specs.Laws.{IsCell, IsDevice}
-use Rattle.pld_device.specs.Table.{Table, cell_at, no_cell}
-use Rattle.abel_tree.specs.declared.words.Extension.{Extension}
 use Rattle.abel_tree.specs.declared.words.Extension.TheVariants as extension
-use Rattle.abel_tree.specs.Entries.{Kind, APin, ANode, AConstant, ADeviceName, Entry, is_signal, is_stored}
-use Rattle.abel_tree.specs.Tree.{Tree}
-use Rattle.pld_device.specs.Pins.{cell_on}
-use Rattle.abel_tree.specs.Extensions.{is_data}
-use Rattle.abel_meaning.specs.Designs.{Design, name_at, no_name}
-use Rattle.abel_meaning.specs.Functions.{is_data_to}
-use Rattle.abel_meaning.specs.SignalReads.{given_formulas}
-use Rattle.abel_meaning.specs.Soundness.{MayRegister}
-use Rattle.abel_meaning.specs.Held.{Part, ATarget, AValue, sections_parts}
-use Rattle.abel_meaning.specs.Terms.{term_of}
 use Rattle.set_expr.specs.declared.contributions.Contribution as code
-use Rattle.set_expr.specs.Given.{view_contribution}
-use Rattle.design_checks.specs.SignalsRefused.{is_wrong_kind, is_wrong_cell, has_wrong_kind, has_wrong_kind_by, has_wrong_kind_on, lacks_by, is_registered_by}
-use Rattle.netlist_laws.specs.Gathered.{cell_by}
-use Rattle.netlist_laws.specs.SignalUses.{SignalUse, use_reads, uses_read, given_uses}
-use Rattle.netlist_laws.specs.Takeable.{HasColumns, IsAllowedOn, ControlIsThere, IsTakeable}
-use Rattle.design_checks.specs.LocatedUses.{PlacedUse}
-use Rattle.design_checks.specs.RefusedUses.{is_missing, is_unread}
-use Rattle.design_checks.specs.SectionUses.{design_uses}
 use Rattle.design_checks.specs.Correct.{UsesHaveColumns}
-use Rattle.design.specs.Accepted.{IsAccepted}
-use Rattle.design.specs.AcceptedCorrect.{UnrefusedIsTakeable}
-use Rattle.design.specs.Unrefused.{IsUnrefused}
 use Rattle.design.proofs.GivenSignals.{reset_had, preset_had}
 use Rattle.design.proofs.Each.{each_always, each_at, filtered_none, some_of}
 use Rattle.design.proofs.GivenBlocks.{IsGood, EachGood}

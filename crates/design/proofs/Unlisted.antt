@@ -1,20 +1,10 @@
 -- What an empty list of refusals says of each contribution and each name.
 use Rattle.std.proofs.Common.{◌≡◌, ℕ, zero, suc, Bool, true, false, ◌&&◌, Some, List, [], ◌∷◌, map, refl, subst}
 use Rattle.std.specs.Prelude.{slice_get}
-use Rattle.std.specs.List.{AllByRecursion}
-use Rattle.std.proofs.lemmas.Option.{same_Some}
-use Rattle.bit_expr.specs.Formulas.{Formula}
-use Rattle.abel_tree.specs.Entries.{Entry}
-use Rattle.abel_tree.specs.Extensions.{is_data}
+use Rattle.design.proofs.Common.{AllByRecursion, same_Some, Formula, Entry, is_data, Context, name_at, view_contribution, left_empty, right_empty, is_lacking, is_wrong_target, lacking_controls, targets_refused, wrong_kinds, has_wrong_kind, is_registered_node, lacks_control, node_refused, registered_nodes, told_if}
 use Rattle.abel_meaning.specs.Contributions as meant
-use Rattle.abel_meaning.specs.Designs.{Context, name_at}
 use Rattle.set_expr.specs.declared.contributions.Contribution.{Contribution}
-use Rattle.set_expr.specs.Given.{view_contribution}
-use Rattle.section_targets.proofs.Built.{left_empty, right_empty}
 use Rattle.design_checks.specs.declared.refused.RefusedUse.{RefusedUse}
-use Rattle.design_checks.specs.Refused.{is_lacking, is_wrong_target, lacking_controls, targets_refused, wrong_kinds}
-use Rattle.design_checks.specs.SignalsRefused.{has_wrong_kind, is_registered_node, lacks_control, node_refused, registered_nodes}
-use Rattle.design_checks.specs.UsesRefused.{told_if}
 
 not_refused : (b : Bool) (r : RefusedUse) → told_if b r ≡ [] → b ≡ false
 not_refused true r e = absurd cc

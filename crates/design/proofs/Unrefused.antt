@@ -1,19 +1,9 @@
 -- A design of whose signals nothing is refused, and that has no chains, is unrefused, and its netlist sound.
 use Rattle.std.proofs.Common.{◌≡◌, List, [], ◌∷◌, ◌++◌, map, refl}
-use Rattle.bit_expr.specs.Formulas.{Formula}
-use Rattle.abel_meaning.specs.Designs.{Design, design_of}
+use Rattle.design.proofs.Common.{Formula, Design, design_of, missing_uses, unread_uses, told, UnrefusedIsTakeable, IsUnrefused, left_empty, right_empty, lacking_controls, other_levels, target_controls, HasSoundSignals, HasNoRefusal, UnrefusedIsSound}
 use Rattle.set_expr.specs.declared.contributions.Contribution.{Contribution}
-use Rattle.design_checks.specs.RefusedUses.{missing_uses, unread_uses}
 use Rattle.design_checks.specs.Written.{unwritten}
-use Rattle.design_checks.specs.UsesRefused.{told}
 use Rattle.netlist_laws.specs.GatheredCorrect.{GatheredIsSound, GatheredMeansTheSame}
-use Rattle.design.specs.AcceptedCorrect.{UnrefusedIsTakeable}
-use Rattle.design.specs.Unrefused.{IsUnrefused}
-use Rattle.section_targets.proofs.Built.{left_empty, right_empty}
-use Rattle.design_checks.specs.Refused.{lacking_controls, other_levels, target_controls}
-use Rattle.design_checks.specs.Verdict.{HasSoundSignals}
-use Rattle.design.specs.Answers.{HasNoRefusal}
-use Rattle.design.specs.DesignCorrect.{UnrefusedIsSound}
 
 mapped_empty : {X Y : Type 0} (f : X → Y) (xs : List X) → map f xs ≡ [] → xs ≡ []
 mapped_empty f [] e = refl

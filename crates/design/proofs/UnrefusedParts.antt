@@ -1,21 +1,8 @@
 -- Where nothing is refused of several units, of an assignment or of a diagram, nothing is refused of their parts.
 use Rattle.std.proofs.Common.{◌≡◌, Bool, false, true, None, Option, List, [], ◌∷◌, ◌++◌, length, refl, sym, subst, ◌∙◌}
-use Rattle.pld_base.specs.declared.place.Place.{Place}
-use Rattle.abel_tree.specs.declared.words.Extension.{Extension}
+use Rattle.design.proofs.Common.{Place, Extension, is_clocked, Tree, StateTree, Context, SectionFault, Found, Manner, aims_refused, TargetFound, target_member, CountedUnit, units_refused, left_empty, right_empty, refused_append, unless_any, assigned_aims, taken_refused, assign_refused, registers_refused, register_manners, units_of_states, units_behind, units_of_diagram, if_none}
 use Rattle.abel_tree.specs.declared.words.Sign.{Sign}
-use Rattle.abel_tree.specs.Assigned.{is_clocked}
-use Rattle.abel_tree.specs.Tree.{Tree, StateTree}
-use Rattle.abel_meaning.specs.Designs.{Context}
-use Rattle.set_expr.specs.declared.fault.SectionFault.{SectionFault}
-use Rattle.set_expr.specs.Refusals.{Found}
-use Rattle.section_targets.specs.declared.manner.Manner.{Manner}
-use Rattle.section_targets.specs.Manners.{aims_refused}
-use Rattle.section_targets.specs.TargetSignals.{TargetFound, target_member}
-use Rattle.section_targets.specs.Units.{CountedUnit, units_refused}
-use Rattle.section_targets.proofs.Built.{left_empty, right_empty, refused_append}
-use Rattle.equations.specs.StatementUnits.{unless_any, assigned_aims, taken_refused, assign_refused}
-use Rattle.state_diagrams.specs.DiagramUnits.{registers_refused, register_manners, signals_of, units_of_states, units_behind, units_of_diagram}
-use Rattle.state_diagrams.specs.StateValues.{if_none}
+use Rattle.state_diagrams.specs.DiagramUnits.{signals_of}
 
 pub first_units : (us vs : List CountedUnit) → units_refused (us ++ vs) ≡ [] → units_refused us ≡ []
 first_units us vs h = left_empty (units_refused us) (units_refused vs) (sym (refused_append us vs) ∙ h)

@@ -1,16 +1,11 @@
 -- What the names and the sections of a design are accepted for (this project's rule).
 use Rattle.std.specs.Prelude.{◌≡◌, ◌≢◌, ℕ, Bool, true, IsSome, List, [], ◌∷◌}
+use Rattle.design.specs.Prelude.{APin, is_signal, is_stored, follows_q, SectionTree, ADiagram, Context, Design, name_at, given_formulas, known_of, term_of, PinsApart, NodesAreFew, MayChoose}
 use Rattle.std.specs.List.{list_any}
 use Rattle.pld_device.specs.declared.flip.Flip.TheVariants.{AfterRegister}
-use Rattle.abel_tree.specs.Entries.{APin, is_signal, is_stored, follows_q}
-use Rattle.abel_tree.specs.Tree.{SectionTree, ADiagram}
 use Rattle.pld_device.specs.Pins.{cell_on}
 use Rattle.abel_meaning.specs.Choices.{is_free}
-use Rattle.abel_meaning.specs.Designs.{Context, Design, name_at}
 use Rattle.abel_meaning.specs.Functions.{is_data_to}
-use Rattle.abel_meaning.specs.SignalReads.{given_formulas}
-use Rattle.abel_meaning.specs.Terms.{known_of, term_of}
-use Rattle.netlist_laws.specs.Takeable.{PinsApart, NodesAreFew, MayChoose}
 use Rattle.section_targets.specs.TargetSignals.{names_signals}
 
 -- ---- names

@@ -1,12 +1,6 @@
 -- What holds of a design of which nothing is refused (this project's rule).
 use Rattle.std.specs.Prelude.{◌≡◌, List, map}
-use Rattle.pld_device.specs.Laws.{IsDevice}
-use Rattle.bit_expr.specs.Formulas.{Formula}
-use Rattle.abel_meaning.specs.Designs.{Design}
-use Rattle.abel_meaning.specs.SignalReads.{given_formulas}
-use Rattle.netlist_laws.specs.Takeable.{IsTakeable}
-use Rattle.set_expr.specs.declared.contributions.Contribution.{Contribution}
-use Rattle.set_expr.specs.Given.{view_contribution}
+use Rattle.design.specs.Prelude.{IsDevice, Formula, Design, given_formulas, IsTakeable, Contribution, view_contribution}
 use Rattle.design.specs.Accepted.{IsAccepted}
 use Rattle.design.specs.Unrefused.{IsUnrefused}
 

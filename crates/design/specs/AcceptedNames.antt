@@ -1,8 +1,6 @@
 -- What the phase of names gives of a design (this project's rule).
 use Rattle.std.specs.Prelude.{◌≡◌}
-use Rattle.abel_meaning.specs.Designs.{Context}
-use Rattle.abel_meaning.specs.Terms.{known_of}
-use Rattle.netlist_laws.specs.Takeable.{PinsApart, NodesAreFew}
+use Rattle.design.specs.Prelude.{Context, known_of, PinsApart, NodesAreFew}
 use Rattle.design.specs.Accepted.{SignalsAreAssigned, BuffersAreBehind}
 
 -- the names of the design are accepted: no two are one pin, nodes are few, only signals are assigned, and no register

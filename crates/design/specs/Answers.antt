@@ -1,14 +1,8 @@
 -- When a design is refused, and for what (this project's rule).
 use Rattle.std.specs.Prelude.{◌≡◌, ℕ, Bool, true, Some, List, get_or}
-use Rattle.pld_base.specs.declared.place.Place.{Place}
-use Rattle.bit_expr.specs.Formulas.{Formula}
+use Rattle.design.specs.Prelude.{Place, Formula, is_before, place_order, Design, name_at, IsSignalLoop, HasNoSignalLoop, IsSignalPath, HasNoSignalPath, Contribution, DesignFault}
 use Rattle.abel_tree.specs.declared.words.Extension.TheVariants as extension
-use Rattle.abel_tree.specs.FirstRefusal.{is_before, place_order}
-use Rattle.abel_meaning.specs.Designs.{Design, name_at}
-use Rattle.abel_meaning.specs.SignalReads.{IsSignalLoop, HasNoSignalLoop, IsSignalPath, HasNoSignalPath}
-use Rattle.set_expr.specs.declared.contributions.Contribution.{Contribution}
 use Rattle.gathering.specs.Amounts.{first_target, target_place}
-use Rattle.design_checks.specs.declared.fault.DesignFault.{DesignFault}
 use Rattle.design_checks.specs.declared.fault.DesignFault.TheVariants as fault
 use Rattle.design_checks.specs.Verdict.{HasSoundSignals, IsSignalRefused}
 

@@ -1,13 +1,8 @@
 -- What is assigned by a module, by its names and by what it contributes (ABEL-HDL Reference Manual, equations; what is
 -- refused is this project's rule).
 use Rattle.std.specs.Prelude.{◌≡◌, ℕ, None, List, [], ◌∷◌, ◌++◌}
-use Rattle.pld_device.specs.Table.{Table}
+use Rattle.design.specs.Prelude.{Table, Entry, Tree, ModuleTree, Context, Design, design_of, Term, Terms, Read, Set, NoTerm, Before, known_of, term_of, PinsApart, NodesAreFew}
 use Rattle.abel_tree.specs.Assigned.{named_of, signals_of}
-use Rattle.abel_tree.specs.Entries.{Entry}
-use Rattle.abel_tree.specs.Tree.{Tree, ModuleTree}
-use Rattle.abel_meaning.specs.Designs.{Context, Design, design_of}
-use Rattle.abel_meaning.specs.Terms.{Term, Terms, Read, Set, NoTerm, Before, known_of, term_of}
-use Rattle.netlist_laws.specs.Takeable.{PinsApart, NodesAreFew}
 use Rattle.source_sections.specs.SectionAnswers.{sections_refused}
 use Rattle.design.specs.Accepted.{SignalsAreAssigned, BuffersAreBehind, AssignedAreOnCells, AssignedHaveData, IsAccepted}
 

@@ -1,16 +1,7 @@
 -- What holds of the netlist of a design of which nothing is refused (this project's rule).
 use Rattle.std.specs.Prelude.{◌≡◌, List, map}
-use Rattle.pld_device.specs.Laws.{IsDevice}
-use Rattle.pld_device.specs.Table.{Table}
-use Rattle.bit_expr.specs.Formulas.{Formula}
-use Rattle.abel_tree.specs.Tree.{ModuleTree}
-use Rattle.abel_meaning.specs.Designs.{design_of}
-use Rattle.abel_meaning.specs.SignalReads.{given_formulas}
+use Rattle.design.specs.Prelude.{IsDevice, Table, Formula, ModuleTree, design_of, given_formulas, MeansTheSame, Contribution, view_contribution, netlist_of}
 use Rattle.abel_meaning.specs.Soundness.{IsSound}
-use Rattle.netlist_laws.specs.FittedCorrect.{MeansTheSame}
-use Rattle.set_expr.specs.declared.contributions.Contribution.{Contribution}
-use Rattle.set_expr.specs.Given.{view_contribution}
-use Rattle.netlist_laws.specs.Gathered.{netlist_of}
 use Rattle.design.specs.Accepted.{IsAccepted}
 use Rattle.design.specs.Unrefused.{IsUnrefused}
 

@@ -1,12 +1,8 @@
 -- What holds of a design whose names are declared (this project's rule).
 use Rattle.std.specs.Prelude.{◌≡◌}
-use Rattle.pld_device.specs.Table.{Table}
+use Rattle.design.specs.Prelude.{Table, entries_of, ModuleTree, design_of, names_of}
 use Rattle.abel_tree.specs.declared.names.Names.{Names}
-use Rattle.abel_tree.specs.Entries.{entries_of}
 use Rattle.abel_tree.specs.SoundNames.{SoundNames}
-use Rattle.abel_tree.specs.Tree.{ModuleTree}
-use Rattle.abel_meaning.specs.Designs.{design_of}
-use Rattle.abel_meaning.specs.Kinds.{names_of}
 use Rattle.declared_names.specs.AcceptedNames.{PinsAreApart, BuffersAreAllowed}
 use Rattle.design.specs.AcceptedNames.{HasAcceptedNames}
 

@@ -1,21 +1,11 @@
 -- Private: paths from the resets of a netlist's cells to registers (this project's rule).
 use Rattle.std.specs.Prelude.{◌≡◌, ℕ, ◌<◌, ◌≤◌, true, Option, None, Some, List, All, length, get_or}
-use Rattle.pld_base.specs.declared.place.Place.{Place}
-use Rattle.bit_expr.specs.declared.netlist.CellWanted.{CellWanted}
+use Rattle.design.specs.Prelude.{Place, CellWanted, Formula, Ranks, Design, plain_control, given_formulas, IsSignalPath, HasNoSignalPath, Link, AreLinks, AssignedHaveCells, DesignFault}
 use Rattle.bit_expr.specs.declared.netlist.Control.{Control}
-use Rattle.bit_expr.specs.Formulas.{Formula}
 use Rattle.abel_tree.specs.declared.words.Extension.TheVariants as extension
-use Rattle.abel_tree.specs.FirstRefusal.{Ranks}
 use Rattle.abel_meaning.specs.Controls.{control_of}
-use Rattle.abel_meaning.specs.Designs.{Design}
 use Rattle.abel_meaning.specs.FormulaBits.{formulas}
-use Rattle.abel_meaning.specs.Netlists.{plain_control}
-use Rattle.abel_meaning.specs.SignalReads.{given_formulas, IsSignalPath, HasNoSignalPath}
-use Rattle.gathering.specs.declared.link.Link.{Link}
-use Rattle.gathering.specs.Linked.{AreLinks}
 use Rattle.gathering.specs.Links.{AreLeaves}
-use Rattle.gathering.specs.Resets.{AssignedHaveCells}
-use Rattle.design_checks.specs.declared.fault.DesignFault.{DesignFault}
 use Rattle.design_checks.specs.declared.fault.DesignFault.TheVariants as fault
 use Rattle.design.specs.declared.resets.ResetPath.{ResetPath}
 use Rattle.design.specs.Answers.{is_sooner}

@@ -1,14 +1,6 @@
 -- Private: what is told of a design's chains (this project's rule).
 use Rattle.std.specs.Prelude.{◌≡◌, ℕ, List}
-use Rattle.bit_expr.specs.declared.netlist.CellWanted.{CellWanted}
-use Rattle.bit_expr.specs.Formulas.{Formula}
-use Rattle.abel_tree.specs.Entries.{Entry}
-use Rattle.abel_meaning.specs.Designs.{Design}
-use Rattle.abel_meaning.specs.SignalReads.{given_formulas, HasNoSignalLoop}
-use Rattle.gathering.specs.declared.link.Link.{Link}
-use Rattle.gathering.specs.Linked.{AreLinks}
-use Rattle.gathering.specs.Resets.{AssignedHaveCells}
-use Rattle.design_checks.specs.declared.fault.DesignFault.{DesignFault}
+use Rattle.design.specs.Prelude.{CellWanted, Formula, Entry, Design, given_formulas, HasNoSignalLoop, Link, AreLinks, AssignedHaveCells, DesignFault}
 use Rattle.design_checks.specs.declared.fault.DesignFault.TheVariants as fault
 use Rattle.design.specs.Answers.{IsFirstLoop}
 use Rattle.design.specs.Resets.{IsFirstOf}

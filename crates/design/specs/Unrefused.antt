@@ -1,8 +1,6 @@
 -- A design of which nothing is refused, by its targets as the code has them (this project's rule).
 use Rattle.std.specs.Prelude.{◌≡◌, ℕ, List, []}
-use Rattle.abel_meaning.specs.Designs.{Design}
-use Rattle.abel_meaning.specs.SignalReads.{HasNoSignalLoop, HasNoSignalPath}
-use Rattle.set_expr.specs.declared.contributions.Contribution.{Contribution}
+use Rattle.design.specs.Prelude.{Design, HasNoSignalLoop, HasNoSignalPath, Contribution}
 use Rattle.design_checks.specs.Refused.{lacking_controls, wrong_kinds}
 use Rattle.design_checks.specs.SignalsRefused.{registered_nodes}
 use Rattle.design_checks.specs.RefusedUses.{missing_uses, unread_uses}

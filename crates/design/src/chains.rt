@@ -1,11 +1,8 @@
 //! Loops of a design's signals, as refusals.
 
 ghost use Rattle.std.specs.Prelude.{◌≡◌, ◌<◌, IfOk, IfErr, length, get_or};
-ghost use Rattle.abel_tree.specs.Entries.{entries_of};
-ghost use Rattle.abel_meaning.specs.Designs.{Design, no_name};
-ghost use Rattle.abel_meaning.specs.SignalReads.{HasNoSignalLoop};
-ghost use Rattle.design.specs.Resets.{AreSignals};
-ghost use Rattle.design.specs.Told.{IsLinkedDesign, IsLoopTold};
+ghost use Rattle.design.specs.Prelude.{entries_of, Design, no_name, HasNoSignalLoop};
+ghost use Rattle.design.specs.{AreSignals, IsLinkedDesign, IsLoopTold};
 
 use abel_tree::Names;
 use design_checks::DesignFault;

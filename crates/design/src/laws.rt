@@ -1,9 +1,6 @@
 //! Laws of designs, as the contracts of calls that do nothing.
 
-ghost use Rattle.design.specs.AcceptedCorrect.{UnrefusedIsTakeable};
-ghost use Rattle.design.specs.AssignedCorrect.{TargetsNameAlike, AssignedAreGiven, AssignedHaveCells, SoundModulesAreAccepted};
-ghost use Rattle.design.specs.DesignCorrect.{UnrefusedIsSound};
-ghost use Rattle.design.specs.NamedCorrect.{NamesAreAccepted};
+ghost use Rattle.design.specs.{UnrefusedIsTakeable, TargetsNameAlike, AssignedAreGiven, AssignedHaveCells, SoundModulesAreAccepted, UnrefusedIsSound, NamesAreAccepted};
 
 use design_checks::uses_have_columns;
 use netlist_laws::{netlist_is_sound, netlist_means_the_same};

@@ -1,23 +1,11 @@
 //! The netlist of a module, or the first refusal of its design.
 
 ghost use Rattle.std.specs.Prelude.{◌≡◌, All, IfOk, IfErr, length};
-ghost use Rattle.bit_expr.specs.Arena.{arena};
-ghost use Rattle.abel_tree.specs.Entries.{entries_of};
+ghost use Rattle.design.specs.Prelude.{arena, entries_of, Design, design_of, names_of, plain_netlist, HasNoSignalLoop, given_formulas, IsCellIn, IsSoundNetlist, MeansTheSame, given, netlist_of};
 ghost use Rattle.abel_tree.specs.View.{view_module};
-ghost use Rattle.abel_meaning.specs.Designs.{Design, design_of};
-ghost use Rattle.abel_meaning.specs.Kinds.{names_of};
-ghost use Rattle.abel_meaning.specs.Netlists.{plain_netlist};
-ghost use Rattle.abel_meaning.specs.SignalReads.{HasNoSignalLoop, given_formulas};
-ghost use Rattle.abel_meaning.specs.SoundIds.{IsCellIn, IsSoundNetlist};
-ghost use Rattle.netlist_laws.specs.FittedCorrect.{MeansTheSame};
-ghost use Rattle.set_expr.specs.Given.{given};
-ghost use Rattle.netlist_laws.specs.Gathered.{netlist_of};
 ghost use Rattle.gathering.specs.Parts.{AllLieIn};
 ghost use Rattle.gathering.specs.Placed.{IsPlaced};
-ghost use Rattle.design.specs.Accepted.{IsAccepted};
-ghost use Rattle.design.specs.Answers.{HasNoRefusal, IsDesignRefused};
-ghost use Rattle.design.specs.Resets.{AllLeadNowhere, AreSignals};
-ghost use Rattle.design.specs.Told.{IsLinkedDesign, IsChainTold};
+ghost use Rattle.design.specs.{IsAccepted, HasNoRefusal, IsDesignRefused, AllLeadNowhere, AreSignals, IsLinkedDesign, IsChainTold};
 
 use crate::chains::check_loop;
 use crate::laws::unrefused_is_sound;

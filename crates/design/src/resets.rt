@@ -1,9 +1,8 @@
 //! Paths from a design's resets to its registers, as refusals.
 
 ghost use Rattle.std.specs.Prelude.{All, IfOk, IfErr, length};
-ghost use Rattle.bit_expr.specs.Arena.{arena};
-ghost use Rattle.abel_meaning.specs.SoundIds.{IsCellIn};
-ghost use Rattle.design.specs.Resets.{AllLeadNowhere, AreSignals, IsFirstFound, IsFoundOf, IsPathTold};
+ghost use Rattle.design.specs.Prelude.{arena, IsCellIn};
+ghost use Rattle.design.specs.{AllLeadNowhere, AreSignals, IsFirstFound, IsFoundOf, IsPathTold};
 
 use abel_tree::{Ranked, earlier};
 use bit_expr::{CellWanted, Exprs};

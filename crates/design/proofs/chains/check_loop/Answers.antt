@@ -1,13 +1,6 @@
 -- A loop has a first name, which is one of the design's.
 use Rattle.std.proofs.Common.{◌≡◌, ℕ, ◌<◌, List, [], ◌∷◌, ◌==◌, length, get_or, refl, sym, subst, arith}
-use Rattle.std.proofs.lemmas.Bool.{or_left}
-use Rattle.pld_order.specs.Graphs.{has}
-use Rattle.pld_order.proofs.Lists.{eqb_same}
-use Rattle.abel_tree.specs.Entries.{entries_of}
-use Rattle.abel_meaning.specs.Designs.{Design}
-use Rattle.abel_meaning.specs.SignalReads.{given_formulas, IsSignalLoop}
-use Rattle.gathering.specs.Linked.{AreLinks}
-use Rattle.gathering.specs.Resets.{AssignedHaveCells}
+use Rattle.design.proofs.Common.{or_left, has, eqb_same, entries_of, Design, given_formulas, IsSignalLoop, AreLinks, AssignedHaveCells}
 use Rattle.design.proofs.chains.check_loop.Goals as goal
 
 first_inside : (d : Design) (chain : List ℕ) → IsSignalLoop d chain → (0 < length chain) × (get_or chain 0 0 < length d.context.names)

@@ -1,7 +1,6 @@
 use Rattle.std.proofs.Common.{subst}
 use Rattle.std.specs.Prelude.{IfOk}
-use Rattle.bit_expr.specs.Arena.{arena}
-use Rattle.design.specs.Resets.{AllLeadNowhere}
+use Rattle.design.proofs.Common.{arena, AllLeadNowhere}
 use Rattle.design.proofs.netlist.check_chains.Goals as goal
 
 pub returns-in-Ok-clause-no_path : goal.returns-in-Ok-clause-no_path

@@ -1,7 +1,5 @@
 use Rattle.std.proofs.Common.{ap, ◌∙◌}
-use Rattle.abel_tree.specs.Entries.{entries_of}
-use Rattle.abel_tree.specs.View.{view_module}
-use Rattle.abel_meaning.specs.Designs.{design_of}
+use Rattle.design.proofs.Common.{entries_of, view_module, design_of}
 use Rattle.design.proofs.Gathers.{is_design, to_names, by_signals, is_linked, signals_are, answered, by_chains}
 use Rattle.design.proofs.netlist.gather.Goals as goal
 

@@ -1,7 +1,5 @@
 use Rattle.std.proofs.Common.{subst, take, sym, ◌+◌}
-use Rattle.std.proofs.lemmas.List.{take_all}
-use Rattle.bit_expr.specs.Arena.{arena}
-use Rattle.design.specs.Resets.{IsFirstFound}
+use Rattle.design.proofs.Common.{take_all, arena, IsFirstFound}
 use Rattle.design.proofs.Firsts.{first_more, none_yet}
 use Rattle.design.proofs.resets.first_path.Goals as goal
 

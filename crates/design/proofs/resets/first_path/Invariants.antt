@@ -1,7 +1,6 @@
 -- The first of the cells so far.
 use Rattle.std.proofs.Common.{take}
-use Rattle.bit_expr.specs.Arena.{arena}
-use Rattle.design.specs.Resets.{IsFirstFound}
+use Rattle.design.proofs.Common.{arena, IsFirstFound}
 use Rattle.design.proofs.resets.first_path.Given as goal
 
 abbrev pub invariant-loop-wanted : goal.invariant-loop-wanted

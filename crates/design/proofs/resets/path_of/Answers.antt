@@ -1,12 +1,6 @@
 use Rattle.std.proofs.Common.{ℕ, Some, length, sym, ap, subst, ◌∙◌}
-use Rattle.bit_expr.specs.Arena.{arena}
+use Rattle.design.proofs.Common.{arena, Design, plain_control, given_formulas, names_if_any, HasNoSignalPath, IsControlIn, AreLinks, AssignedHaveCells, reset_names}
 use Rattle.bit_expr.specs.Reading.{AreReads}
-use Rattle.abel_meaning.specs.Designs.{Design}
-use Rattle.abel_meaning.specs.Netlists.{plain_control}
-use Rattle.abel_meaning.specs.SignalReads.{given_formulas, names_if_any, HasNoSignalPath}
-use Rattle.abel_meaning.specs.SoundIds.{IsControlIn}
-use Rattle.gathering.specs.Linked.{AreLinks}
-use Rattle.gathering.specs.Resets.{AssignedHaveCells, reset_names}
 use Rattle.design.proofs.resets.path_of.Goals as goal
 
 pub reads-requires : goal.reads-requires
