@@ -1,30 +1,20 @@
 -- A use that isn't refused reads a leaf for which the device has columns.
 use Rattle.std.proofs.Common.{◌≡◌, ℕ, ◌<◌, ◌==◌, Bool, true, false, not, ◌&&◌, ◌||◌, List, length, get_or, Option, Some, None, refl, sym, ap, ◌∙◌, subst, inl, inr}
 use Rattle.std.specs.Prelude.{position, is_some}
-use Rattle.std.specs.List.{list_any}
-use Rattle.std.proofs.lemmas.Bool.{cases_Bool, true≢false, eqb-true, eq-eqb, and_parts}
-use Rattle.std.proofs.lemmas.List.Folds.{list_any_at}
+use Rattle.design_checks.proofs.Common.{list_any, cases_Bool, true≢false, eqb-true, eq-eqb, and_parts, list_any_at, slice_get-get_or, cell_at, no_cell, same_leaf, Extension, Kind, APin, ANode, AConstant, ADeviceName, Entry, is_stored, follows_q, Context, name_at, no_name, holds_leaf, carries_level, carries_q, reads_register, reads_pin, reads_by, has_read_path}
 use Rattle.std.proofs.lemmas.List.Quantifiers.{position-Some}
-use Rattle.std.proofs.lemmas.Option.{slice_get-get_or}
 use Rattle.pld_device.specs.declared.carry.Carry.{Carry}
 use Rattle.pld_device.specs.declared.carry.Carry.TheVariants as carry
 use Rattle.pld_device.specs.declared.cell.Cell.{Cell}
 use Rattle.pld_device.specs.Pins.{pair_pins, cell_on, carries_cell}
-use Rattle.pld_device.specs.Table.{cell_at, no_cell}
 use Rattle.bit_expr.specs.declared.node.Leaf.{Leaf}
 use Rattle.bit_expr.specs.declared.node.Leaf.TheVariants as leaf
-use Rattle.bit_expr.specs.Formulas.{same_leaf}
-use Rattle.abel_tree.specs.declared.words.Extension.{Extension}
 use Rattle.abel_tree.specs.declared.words.Extension.TheVariants as extension
-use Rattle.abel_tree.specs.Entries.{Kind, APin, ANode, AConstant, ADeviceName, Entry, is_stored, follows_q}
 use Rattle.abel_meaning.specs.Controls.{is_pin, signal_on, cell_stores_for, must_register}
-use Rattle.abel_meaning.specs.Designs.{Context, name_at, no_name}
 use Rattle.abel_meaning.specs.Sources.{pin_source, register_source, node_source, on_pin, source_by}
-use Rattle.netlist_laws.specs.SignalUses.{holds_leaf}
 use Rattle.netlist_laws.specs.Takeable.{PinsApart, HasColumns}
 use Rattle.netlist_laws.proofs.CoverReads.{leaf_is}
 use Rattle.netlist_laws.proofs.SoundLeaves.{inside, some_place}
-use Rattle.design_checks.specs.RefusedUses.{carries_level, carries_q, reads_register, reads_pin, reads_by, has_read_path}
 
 -- a first place that there is
 placed : {X : Type 0} (p : X → Bool) (xs : List X) → is_some (position p xs) ≡ true → (k : ℕ) × (position p xs ≡ Some k)

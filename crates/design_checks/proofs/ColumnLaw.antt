@@ -1,8 +1,6 @@
 -- The law of columns.
 use Rattle.std.proofs.Common.{◌≡◌, Bool, true, false, not, ◌&&◌, refl}
-use Rattle.abel_meaning.specs.Designs.{name_at}
-use Rattle.design_checks.specs.Correct.{UsesHaveColumns}
-use Rattle.design_checks.specs.RefusedUses.{has_extension, has_read_path}
+use Rattle.design_checks.proofs.Common.{name_at, UsesHaveColumns, has_extension, has_read_path}
 use Rattle.design_checks.proofs.Carried.{carried}
 
 -- what isn't missing and isn't unread has a path

@@ -1,24 +1,8 @@
 -- What is refused first of several, one behind another.
 use Rattle.std.proofs.Common.{◌≡◌, ℕ, ◌+◌, ◌<◌, Bool, true, false, cond, if◌then◌else◌, Option, Some, None, List, [], ◌∷◌, ◌++◌, length, map, take, get_or, refl, sym, ap, ◌∙◌, arith, append-nil}
-use Rattle.std.specs.Option.{option_or}
+use Rattle.design_checks.proofs.Common.{option_or, flat_map, nat_tests, flat_map-append, map-append, Place, earlier, first_refusal, sooner, before_by, first_append, Context, name_at, SignalUse, front_more, first_read, first_refused, first_signal, PlacedUse, all_at, is_refused, refuses_use, first_use, told, use_at, use_order, RefusedUse, UseRule}
 use Rattle.std.specs.Prelude.{filter}
-use Rattle.std.specs.List.{flat_map}
-use Rattle.std.proofs.lemmas.Bool.Decides.{nat_tests}
-use Rattle.std.proofs.lemmas.Grind.{flat_map-append}
-use Rattle.std.proofs.lemmas.List.{map-append}
 use Rattle.std.proofs.lemmas.List.Elements.{filter-append}
-use Rattle.pld_base.specs.declared.place.Place.{Place}
-use Rattle.abel_tree.specs.FirstRefusal.{earlier, first_refusal, sooner}
-use Rattle.abel_tree.proofs.FirstRefusals.{before_by, first_append}
-use Rattle.abel_meaning.specs.Designs.{Context, name_at}
-use Rattle.netlist_laws.specs.SignalUses.{SignalUse}
-use Rattle.set_expr.proofs.FoundMembers.{front_more}
-use Rattle.design_checks.specs.Learnt.{first_read, first_refused, first_signal}
-use Rattle.design_checks.specs.LocatedUses.{PlacedUse, all_at}
-use Rattle.design_checks.specs.RefusedUses.{is_refused, refuses_use}
-use Rattle.design_checks.specs.UsesRefused.{first_use, told, use_at, use_order}
-use Rattle.design_checks.specs.declared.refused.RefusedUse.{RefusedUse}
-use Rattle.design_checks.specs.declared.rule.UseRule.{UseRule}
 
 -- ---- signals
 

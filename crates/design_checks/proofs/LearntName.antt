@@ -1,23 +1,10 @@
 -- What is kept of a name, and of the names of a source.
 use Rattle.std.proofs.Common.{◌≡◌, ℕ, ◌<◌, List, map, length, get_or, Option, None, Some, refl, ap, ap₂, sym, ◌∙◌}
+use Rattle.design_checks.proofs.Common.{get_or-map, Extension, Names, Entry, entries_of, Table, Context, name_at, Known, Read, known_of, IsContextOf, context_for, UseRule, positions_by, kept_by, signal_kept, signal_used, use_under, uses_of, is_cell_by_pin, one_written}
 use Rattle.std.proofs.Math.Bool.{and-true}
-use Rattle.std.proofs.lemmas.List.{get_or-map}
-use Rattle.abel_tree.specs.declared.words.Extension.{Extension}
 use Rattle.abel_tree.specs.declared.words.Extension.TheVariants as extension
-use Rattle.abel_tree.specs.declared.names.Names.{Names}
-use Rattle.abel_tree.specs.Entries.{Entry, entries_of}
-use Rattle.pld_device.specs.Table.{Table}
-use Rattle.abel_meaning.specs.Designs.{Context, name_at}
-use Rattle.abel_meaning.specs.Terms.{Known, Read, known_of}
-use Rattle.set_expr.specs.Answer.{IsContextOf}
-use Rattle.set_expr.specs.Contexts.{context_for}
 use Rattle.netlist_laws.specs.Gathered.{cell_of}
 use Rattle.design_checks.specs.declared.front.Positions.{Positions}
-use Rattle.design_checks.specs.declared.rule.UseRule.{UseRule}
-use Rattle.design_checks.specs.Fronts.{positions_by}
-use Rattle.design_checks.specs.Learnt.{kept_by, signal_kept, signal_used, use_under, uses_of}
-use Rattle.design_checks.specs.SectionUses.{is_cell_by_pin}
-use Rattle.design_checks.specs.Written.{one_written}
 
 -- ---- one name
 

@@ -1,10 +1,11 @@
-mod PositionTerms
 mod Carried
 mod ColumnLaw
+pub mod Common
 mod JoinedFirsts
 pub mod LearntName
 mod PartedUses
 mod PlacedNames
+mod PositionTerms
 mod RefusedStatements
 pub mod UsesRead
 mod Verdicts

@@ -1,30 +1,8 @@
 -- The uses of expressions and of sections over the names that they use.
 use Rattle.std.proofs.Common.{◌≡◌, ℕ, Bool, true, false, not, List, [], ◌∷◌, ◌++◌, map, Option, Some, None, if◌then◌else◌, refl, sym, ap, ap₂, subst, ◌∙◌, append_assoc, append-nil}
-use Rattle.std.specs.List.{flat_map}
-use Rattle.std.proofs.lemmas.Grind.{flat_map-append}
-use Rattle.std.proofs.lemmas.List.{map-append}
-use Rattle.pld_base.specs.declared.place.Place.{Place}
-use Rattle.abel_tree.specs.declared.words.Extension.{Extension}
-use Rattle.abel_tree.specs.Ranges.{range_names}
-use Rattle.abel_tree.specs.Tree.{Tree, ANumber, ASpecial, AName, ASet, AParen, AUnary, ABinary, SetMember, OneMember, SpanMember, Members, NoMember, MoreMembers, Statement, AnAssign, AWhen, AGroup, ADontCare, Otherwise, NoElse, AnElse, Statements, NoStatement, MoreStatements, statements_of, Branch, AGoal, AnIf, ACase, OtherBranch, NoBranch, ABranch, Choices, NoChoice, MoreChoices, RowTree, StateTree, SectionTree, Declarations, Equations, ATable, ADiagram, SomeVectors, DontCareSection}
-use Rattle.abel_tree.specs.declared.names.Names.{Names}
-use Rattle.pld_device.specs.Table.{Table}
-use Rattle.abel_meaning.specs.Designs.{Context, Design}
-use Rattle.abel_meaning.specs.Terms.{Known, Term, extended_if, term_named, term_of}
-use Rattle.abel_tree.specs.Extensions.{innermost}
+use Rattle.design_checks.proofs.Common.{flat_map, flat_map-append, map-append, Place, Extension, range_names, Tree, ANumber, ASpecial, AName, ASet, AParen, AUnary, ABinary, SetMember, OneMember, SpanMember, Members, NoMember, MoreMembers, Statement, AnAssign, AWhen, AGroup, ADontCare, Otherwise, NoElse, AnElse, Statements, NoStatement, MoreStatements, statements_of, Branch, AGoal, AnIf, ACase, OtherBranch, NoBranch, ABranch, Choices, NoChoice, MoreChoices, RowTree, StateTree, SectionTree, Declarations, Equations, ATable, ADiagram, SomeVectors, DontCareSection, Names, Table, Context, Design, Known, Term, extended_if, term_named, term_of, innermost, PartedSection, with_parts, SignalUse, term_uses, IsContextOf, context_for, AreUsesOf, first_refused, RefusedUse, UseRule, NameUses, PlacedUse, all_at, located, member_located, members_located, range_located, names_read, part_uses, parted_uses, reads_used, uses_used, branch_uses, branches_uses, choices_uses, design_uses, else_uses, expression_uses, is_compared, other_uses, section_uses, sections_uses, statement_uses, statements_uses, states_uses, with_uses}
 use Rattle.name_uses.specs.NamesUsed.{UsedName, member_used, members_used, names_used}
 use Rattle.name_uses.specs.Parts.{PartTree, parts_in_branch, parts_in_choices, parts_in_else, parts_in_other, parts_in_row, parts_in_section, parts_in_state, parts_in_statement, parts_in_statements, parts_in_with}
-use Rattle.name_uses.specs.Viewed.{PartedSection, with_parts}
-use Rattle.netlist_laws.specs.SignalUses.{SignalUse, term_uses}
-use Rattle.set_expr.specs.Answer.{IsContextOf}
-use Rattle.set_expr.specs.Contexts.{context_for}
-use Rattle.design_checks.specs.Learnt.{AreUsesOf, first_refused}
-use Rattle.design_checks.specs.declared.refused.RefusedUse.{RefusedUse}
-use Rattle.design_checks.specs.declared.rule.UseRule.{UseRule}
-use Rattle.design_checks.specs.declared.names.NameUses.{NameUses}
-use Rattle.design_checks.specs.LocatedUses.{PlacedUse, all_at, located, member_located, members_located, range_located}
-use Rattle.design_checks.specs.PartUses.{names_read, part_uses, parted_uses, reads_used, uses_used}
-use Rattle.design_checks.specs.SectionUses.{branch_uses, branches_uses, choices_uses, design_uses, else_uses, expression_uses, is_compared, other_uses, section_uses, sections_uses, statement_uses, statements_uses, states_uses, with_uses}
 use Rattle.design_checks.proofs.LearntName.{is_context_for}
 use Rattle.design_checks.proofs.UsesRead.{plain, plain_at, reads, twice}
 

@@ -1,13 +1,8 @@
 -- What is kept of names, by their places.
 use Rattle.std.proofs.Common.{◌≡◌, ℕ, ◌+◌, ◌≤◌, Bool, true, false, Option, None, Some, List, [], ◌∷◌, ◌++◌, if◌then◌else◌, length, map, get_or, cond, bytes_eq, refl, sym, ap, ◌∙◌, subst, arith, append_assoc, append-nil, length-append, zero-add}
-use Rattle.std.specs.List.{position_from}
+use Rattle.design_checks.proofs.Common.{position_from, map-append, get_or_past, Entry, find, Known, Number, Term, known_of, term_meant, term_named, known_more, known_names, position_past, AreOfNames, values_of}
 use Rattle.std.proofs.lemmas.Iterator.Adapters.{position_from-zero}
-use Rattle.std.proofs.lemmas.List.{map-append, get_or_past}
 use Rattle.std.proofs.Math.Seq.{get_or-append_seam}
-use Rattle.abel_tree.specs.Entries.{Entry, find}
-use Rattle.abel_meaning.specs.Terms.{Known, Number, Term, known_of, term_meant, term_named}
-use Rattle.section_targets.proofs.NameTerms.{known_more, known_names, position_past}
-use Rattle.design_checks.specs.NameValues.{AreOfNames, values_of}
 
 module _ {V : Type 0} (of : Term → V) where
   abbrev pub value_in : List V → Option ℕ → V

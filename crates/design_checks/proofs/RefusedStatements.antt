@@ -1,27 +1,14 @@
 -- Equations that are refused, one more.
 use Rattle.std.proofs.Common.{◌≡◌, ℕ, suc, ◌+◌, ◌<◌, ◌≤◌, nat_lt, Bool, true, false, List, [], ◌∷◌, ◌++◌, length, map, refl, rules, sym, ap, ◌∙◌, arith, append_assoc, append-nil, Option, Some, None, not}
 use Rattle.std.specs.Prelude.{option_map}
-use Rattle.std.proofs.lemmas.Bool.{and_right}
-use Rattle.std.proofs.lemmas.Bool.Decides.{nat_tests}
+use Rattle.design_checks.proofs.Common.{and_right, nat_tests, Extension, Entry, first_refusal, AWhen, Statement, AGroup, statements_of, otherwise_of, view, view_stmt, stmt_layer, when_layer, Table, Context, name_at, RefusedUse, told_if, use_order, is_compared_of, list_refused, may_be_compared, Written, else_refused, aim_refused, aims_refused, is_written_at, narrow, statement_refused}
 use Rattle.abel_tree.specs.declared.statements.Stmt.{Stmt, the_lemmas as stmt_lemmas}
 use Rattle.abel_tree.specs.declared.statements.Stmt as stmt
 use Rattle.abel_tree.specs.declared.statements.Stmt.TheFolds.{fold-roll-Stmt}
 use Rattle.abel_tree.specs.declared.statements.Stmt.TheOpen as open_stmt
 use Rattle.abel_tree.specs.declared.statements.When.{When}
-use Rattle.abel_tree.specs.declared.words.Extension.{Extension}
 use Rattle.abel_tree.specs.declared.words.Extension.TheVariants as extension
-use Rattle.abel_tree.specs.Entries.{Entry}
-use Rattle.abel_tree.specs.FirstRefusal.{first_refusal}
-use Rattle.abel_tree.specs.Tree.{AWhen, Statement, AGroup, statements_of, otherwise_of}
-use Rattle.abel_tree.specs.View.{view, view_stmt, stmt_layer, when_layer}
-use Rattle.pld_device.specs.Table.{Table}
-use Rattle.abel_meaning.specs.Designs.{Context, name_at}
 use Rattle.section_targets.specs.declared.aim.Aim.{Aim}
-use Rattle.design_checks.specs.declared.refused.RefusedUse.{RefusedUse}
-use Rattle.design_checks.specs.UsesRefused.{told_if, use_order}
-use Rattle.design_checks.specs.Compared.{is_compared_of}
-use Rattle.design_checks.specs.Fronts.{list_refused, may_be_compared}
-use Rattle.design_checks.specs.Written.{Written, else_refused, aim_refused, aims_refused, is_written_at, narrow, statement_refused}
 
 -- ---- signals of a target
 

@@ -1,19 +1,6 @@
 -- Kinds of which nothing is refused, by their first refusals over the names of the code.
 use Rattle.std.proofs.Common.{◌≡◌, Option, None, List, [], sym, ap, ap₂, ◌∙◌}
-use Rattle.pld_device.specs.Table.{Table}
-use Rattle.bit_expr.specs.Formulas.{Formula}
-use Rattle.abel_tree.specs.declared.names.Names.{Names}
-use Rattle.abel_tree.specs.Entries.{Entry, entries_of}
-use Rattle.abel_tree.specs.FirstRefusal.{first_refusal}
-use Rattle.abel_tree.proofs.FirstRefusals.{none_refused}
-use Rattle.abel_meaning.specs.Designs.{Design}
-use Rattle.set_expr.specs.declared.contributions.Contribution.{Contribution}
-use Rattle.set_expr.specs.Answer.{IsContextOf}
-use Rattle.design_checks.specs.declared.refused.RefusedUse.{RefusedUse}
-use Rattle.design_checks.specs.Refused.{any_controls, no_controls, wrong_kinds}
-use Rattle.design_checks.specs.SignalsRefused.{registered_nodes}
-use Rattle.design_checks.specs.UsesRefused.{use_order}
-use Rattle.design_checks.specs.Verdict.{ControlsPass, KindsPass}
+use Rattle.design_checks.proofs.Common.{Table, Formula, Names, Entry, entries_of, first_refusal, none_refused, Design, Contribution, IsContextOf, RefusedUse, any_controls, no_controls, wrong_kinds, registered_nodes, use_order, ControlsPass, KindsPass}
 
 abbrev IsFirstOf : Option RefusedUse → List RefusedUse → Type 0
 IsFirstOf r rs = r ≡ first_refusal use_order rs

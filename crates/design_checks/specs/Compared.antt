@@ -1,16 +1,9 @@
 -- What an equation for a clock, or for the enable of a cell that a pin enables, must say: what the device does anyway
 -- (the devices' datasheets, macrocell diagrams); how it must be written is said in `design_checks`.
 use Rattle.std.specs.Prelude.{ℕ, ◌==◌, Bool, true, false, not, Option, None, Some}
-use Rattle.pld_device.specs.declared.enable.Enable.{Enable}
-use Rattle.pld_device.specs.declared.enable.Enable.TheVariants.{Row, PinLow}
-use Rattle.pld_device.specs.Table.{Table, cell_at}
-use Rattle.bit_expr.specs.declared.node.Leaf.{Leaf}
+use Rattle.design_checks.specs.Prelude.{Enable, Row, PinLow, Table, cell_at, Leaf, Formula, Const, Read, Not, And, Or, Xor, Extension, Entry, cell_of}
 use Rattle.bit_expr.specs.declared.node.Leaf.TheVariants as leaf
-use Rattle.bit_expr.specs.Formulas.{Formula, Const, Read, Not, And, Or, Xor}
-use Rattle.abel_tree.specs.declared.words.Extension.{Extension}
 use Rattle.abel_tree.specs.declared.words.Extension.TheVariants as extension
-use Rattle.abel_tree.specs.Entries.{Entry}
-use Rattle.netlist_laws.specs.Gathered.{cell_of}
 use Rattle.design_checks.specs.SectionUses.{is_cell_by_pin}
 
 -- ---- levels

@@ -1,10 +1,6 @@
 -- What holds of uses (this project's rule).
 use Rattle.std.specs.Prelude.{◌≡◌, true, false, map}
-use Rattle.bit_expr.specs.declared.node.Leaf.{Leaf}
-use Rattle.abel_tree.specs.Tree.{Tree}
-use Rattle.abel_meaning.specs.Designs.{Context}
-use Rattle.abel_meaning.specs.Terms.{term_of}
-use Rattle.netlist_laws.specs.SignalUses.{term_uses, use_reads}
+use Rattle.design_checks.specs.Prelude.{Leaf, Tree, Context, term_of, term_uses, use_reads}
 use Rattle.netlist_laws.specs.Takeable.{PinsApart, HasColumns}
 use Rattle.design_checks.specs.Example.{example_design, example_missing, example_unread}
 use Rattle.design_checks.specs.LocatedUses.{PlacedUse}

@@ -1,15 +1,11 @@
 -- A design over the sample table with uses that are refused, worked by hand.
 use Rattle.std.specs.Prelude.{ℕ, Bool, true, false, Option, None, Some, List, [], ◌∷◌, codes}
-use Rattle.pld_base.specs.declared.place.Place.{Place}
+use Rattle.design_checks.specs.Prelude.{Place, Extension, Kind, APin, ANode, AConstant, Entry, Tree, AName, AUnary, ABinary, ASet, NoMember, MoreMembers, OneMember, Statement, AnAssign, Equations, context_of, Design}
 use Rattle.pld_device.specs.SampleTable.{sample}
 use Rattle.abel_tree.specs.declared.words.Binary.TheVariants as binary
-use Rattle.abel_tree.specs.declared.words.Extension.{Extension}
 use Rattle.abel_tree.specs.declared.words.Extension.TheVariants as extension
 use Rattle.abel_tree.specs.declared.words.Sign.TheVariants as sign
 use Rattle.abel_tree.specs.declared.words.Unary.TheVariants as unary
-use Rattle.abel_tree.specs.Entries.{Kind, APin, ANode, AConstant, Entry}
-use Rattle.abel_tree.specs.Tree.{Tree, AName, AUnary, ABinary, ASet, NoMember, MoreMembers, OneMember, Statement, AnAssign, Equations}
-use Rattle.abel_meaning.specs.Designs.{context_of, Design}
 use Rattle.design_checks.specs.LocatedUses.{PlacedUse}
 
 abbrev pub at : (column : ℕ) → Place

@@ -1,9 +1,7 @@
 -- Private: how values are written, as far as it is counted, and what of it is compared (this project's rule).
 use Rattle.std.specs.Prelude.{Bool, true, false, Option, Some, List, min}
-use Rattle.abel_tree.specs.declared.words.Extension.{Extension}
+use Rattle.design_checks.specs.Prelude.{Extension, Statement, statements_of, Context}
 use Rattle.abel_tree.specs.declared.words.Extension.TheVariants as extension
-use Rattle.abel_tree.specs.Tree.{Statement, statements_of}
-use Rattle.abel_meaning.specs.Designs.{Context}
 use Rattle.design_checks.specs.declared.front.Positions.{Positions}
 use Rattle.design_checks.specs.Written.{Written, statements_refused}
 use Rattle.design_checks.specs.declared.refused.RefusedUse.{RefusedUse}

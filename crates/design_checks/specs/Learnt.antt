@@ -1,16 +1,7 @@
 -- Private: what is kept of each name (this project's rule).
 use Rattle.std.specs.Prelude.{ℕ, Bool, true, Option, None, Some, List, [], ◌∷◌, filter, if◌then◌else◌}
-use Rattle.std.specs.List.{list_all}
-use Rattle.abel_tree.specs.declared.words.Extension.{Extension}
+use Rattle.design_checks.specs.Prelude.{list_all, Extension, Names, Entry, entries_of, Table, Context, name_at, all_targets, targets_of, some_signals, Term, Terms, known_of, extended_if, cell_of, SignalUse, term_uses}
 use Rattle.abel_tree.specs.declared.words.Extension.TheVariants as extension
-use Rattle.abel_tree.specs.declared.names.Names.{Names}
-use Rattle.abel_tree.specs.Entries.{Entry, entries_of}
-use Rattle.pld_device.specs.Table.{Table}
-use Rattle.abel_meaning.specs.Designs.{Context, name_at}
-use Rattle.abel_meaning.specs.Targets.{all_targets, targets_of, some_signals}
-use Rattle.abel_meaning.specs.Terms.{Term, Terms, known_of, extended_if}
-use Rattle.netlist_laws.specs.Gathered.{cell_of}
-use Rattle.netlist_laws.specs.SignalUses.{SignalUse, term_uses}
 use Rattle.design_checks.specs.Fronts.{positions_by}
 use Rattle.design_checks.specs.LocatedUses.{PlacedUse}
 use Rattle.design_checks.specs.NameValues.{AreOfNames}

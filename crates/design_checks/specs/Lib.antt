@@ -6,6 +6,7 @@ pub mod Learnt
 pub mod LocatedUses
 pub mod NameValues
 pub mod PartUses
+pub mod Prelude
 pub mod Refused
 pub mod RefusedUses
 pub mod SectionUses
@@ -13,3 +14,18 @@ pub mod SignalsRefused
 pub mod UsesRefused
 pub mod Verdict
 pub mod Written
+unfoldable pub use Compared.*
+unfoldable pub use Correct.*
+unfoldable pub use Example.*
+unfoldable pub use Fronts.*
+unfoldable pub use Learnt.*
+unfoldable pub use LocatedUses.*
+unfoldable pub use NameValues.*
+unfoldable pub use PartUses.*
+unfoldable pub use Refused.*
+unfoldable pub use RefusedUses.*
+unfoldable pub use SectionUses.*
+unfoldable pub use SignalsRefused.*
+unfoldable pub use UsesRefused.*
+unfoldable pub use Verdict.*
+unfoldable pub use Written.*

@@ -1,13 +1,7 @@
 -- Where an expression reads signals: a signal that a constant brings stands at the constant's name, and each name of a
 -- range at its first end (this project's rule).
 use Rattle.std.specs.Prelude.{ℕ, Option, List, [], ◌∷◌, ◌++◌}
-use Rattle.pld_base.specs.declared.place.Place.{Place}
-use Rattle.abel_tree.specs.declared.words.Extension.{Extension}
-use Rattle.abel_tree.specs.Ranges.{range_names}
-use Rattle.abel_tree.specs.Tree.{Tree, ANumber, ASpecial, AName, ASet, AParen, AUnary, ABinary, SetMember, OneMember, SpanMember, Members, NoMember, MoreMembers}
-use Rattle.abel_meaning.specs.Terms.{Known, term_named, extended_if}
-use Rattle.abel_tree.specs.Extensions.{innermost}
-use Rattle.netlist_laws.specs.SignalUses.{SignalUse, term_uses}
+use Rattle.design_checks.specs.Prelude.{Place, Extension, range_names, Tree, ANumber, ASpecial, AName, ASet, AParen, AUnary, ABinary, SetMember, OneMember, SpanMember, Members, NoMember, MoreMembers, Known, term_named, extended_if, innermost, SignalUse, term_uses}
 
 -- a signal where an expression reads it, with what is asked of it, and its place in the expanded text
 pub record PlacedUse : Type 0 where

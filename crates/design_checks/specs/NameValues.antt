@@ -1,7 +1,6 @@
 -- Private: what is kept of the names of a source, by their places (this project's rule).
 use Rattle.std.specs.Prelude.{◌≡◌, ℕ, List, ◌++◌, map}
-use Rattle.abel_tree.specs.Entries.{Entry}
-use Rattle.abel_meaning.specs.Terms.{Known, Term}
+use Rattle.design_checks.specs.Prelude.{Entry, Known, Term}
 
 -- of what each of these names stands for
 abbrev pub values_of : {V : Type 0} (of : Term → V) → List Known → List V

@@ -1,16 +1,9 @@
 -- Private: the uses of the parts of a section (this project's rule).
 use Rattle.std.specs.Prelude.{ℕ, Bool, true, false, not, Option, None, Some, List, [], ◌∷◌, if◌then◌else◌}
-use Rattle.std.specs.List.{flat_map}
-use Rattle.abel_tree.specs.declared.words.Extension.{Extension}
+use Rattle.design_checks.specs.Prelude.{flat_map, Extension, innermost, range_names, Context, Known, extended_if, term_named, PartedSection, SignalUse, term_uses}
 use Rattle.abel_tree.specs.declared.words.Word.{Word}
-use Rattle.abel_tree.specs.Extensions.{innermost}
-use Rattle.abel_tree.specs.Ranges.{range_names}
-use Rattle.abel_meaning.specs.Designs.{Context}
-use Rattle.abel_meaning.specs.Terms.{Known, extended_if, term_named}
 use Rattle.name_uses.specs.NamesUsed.{UsedName}
 use Rattle.name_uses.specs.Parts.{PartRole, PartTree, Read, Registers, Value}
-use Rattle.name_uses.specs.Viewed.{PartedSection}
-use Rattle.netlist_laws.specs.SignalUses.{SignalUse, term_uses}
 use Rattle.design_checks.specs.LocatedUses.{PlacedUse, all_at}
 use Rattle.design_checks.specs.SectionUses.{is_compared}
 

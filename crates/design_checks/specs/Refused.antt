@@ -1,14 +1,7 @@
 -- What is refused of a design, kind by kind, each refusal at its place with the number of the name that is told (this
 -- project's rule).
 use Rattle.std.specs.Prelude.{Bool, not, ◌&&◌, List, ◌++◌, map, get_or}
-use Rattle.std.specs.List.{flat_map}
-use Rattle.pld_device.specs.Table.{Table}
-use Rattle.bit_expr.specs.Arena.{formula_at}
-use Rattle.bit_expr.specs.Formulas.{Formula}
-use Rattle.abel_tree.specs.Entries.{Entry}
-use Rattle.abel_tree.specs.Extensions.{is_data}
-use Rattle.abel_meaning.specs.Designs.{Design, no_name}
-use Rattle.set_expr.specs.declared.contributions.Contribution.{Contribution}
+use Rattle.design_checks.specs.Prelude.{flat_map, Table, formula_at, Formula, Entry, is_data, Design, no_name, Contribution}
 use Rattle.design_checks.specs.declared.rules.Rule.{Rule}
 use Rattle.design_checks.specs.declared.rules.Rule.TheVariants as rule
 use Rattle.design_checks.specs.SignalsRefused.{has_wrong_kind, is_control_by_any, lacks_control}

@@ -1,15 +1,9 @@
 -- Which uses a device can't follow: an extension that the signal doesn't have, and what no column carries (the devices'
 -- datasheets, macrocell diagrams; what is refused is this project's rule).
 use Rattle.std.specs.Prelude.{ℕ, ◌==◌, Bool, true, false, not, ◌&&◌, ◌||◌, Option, None, Some, is_some, is_none, List, filter, position}
-use Rattle.std.specs.List.{list_any}
-use Rattle.pld_device.specs.declared.cell.Cell.{Cell}
+use Rattle.design_checks.specs.Prelude.{list_any, Cell, Table, Extension, Kind, APin, ANode, Entry, is_stored, must_register, Context, Design, name_at}
 use Rattle.pld_device.specs.Pins.{pair_pins, cell_on, carries_cell}
-use Rattle.pld_device.specs.Table.{Table}
-use Rattle.abel_tree.specs.declared.words.Extension.{Extension}
 use Rattle.abel_tree.specs.declared.words.Extension.TheVariants as extension
-use Rattle.abel_tree.specs.Entries.{Kind, APin, ANode, Entry, is_stored}
-use Rattle.abel_meaning.specs.Controls.{must_register}
-use Rattle.abel_meaning.specs.Designs.{Context, Design, name_at}
 use Rattle.design_checks.specs.declared.rule.UseRule.{UseRule}
 use Rattle.design_checks.specs.declared.rule.UseRule.TheVariants as use_rule
 use Rattle.design_checks.specs.LocatedUses.{PlacedUse}

@@ -1,18 +1,8 @@
 -- Where the sections of a design read signals. Targets and the headers of vectors read nothing, a diagram reads its
 -- registers; what is compared with the level of the clock, or of a pin that enables, is no use (this project's rule).
 use Rattle.std.specs.Prelude.{ℕ, Bool, true, false, Option, None, Some, List, [], ◌∷◌, ◌++◌, if◌then◌else◌}
-use Rattle.std.specs.List.{list_all}
-use Rattle.pld_device.specs.declared.enable.Enable.{Enable}
-use Rattle.pld_device.specs.declared.enable.Enable.TheVariants.{Row, PinLow}
-use Rattle.pld_device.specs.Table.{Table, cell_at}
-use Rattle.abel_tree.specs.declared.words.Extension.{Extension}
+use Rattle.design_checks.specs.Prelude.{list_all, Enable, Row, PinLow, Table, cell_at, Extension, target_extension, Tree, Statement, AnAssign, AWhen, AGroup, ADontCare, Otherwise, NoElse, AnElse, Statements, NoStatement, MoreStatements, statements_of, Branch, AGoal, AnIf, ACase, OtherBranch, NoBranch, ABranch, Choices, NoChoice, MoreChoices, StateTree, SectionTree, Declarations, Equations, ATable, ADiagram, SomeVectors, DontCareSection, Context, Design, name_at, targets_of, some_signals, term_of, cell_of}
 use Rattle.abel_tree.specs.declared.words.Extension.TheVariants as extension
-use Rattle.abel_tree.specs.Assigned.{target_extension}
-use Rattle.abel_tree.specs.Tree.{Tree, Statement, AnAssign, AWhen, AGroup, ADontCare, Otherwise, NoElse, AnElse, Statements, NoStatement, MoreStatements, statements_of, Branch, AGoal, AnIf, ACase, OtherBranch, NoBranch, ABranch, Choices, NoChoice, MoreChoices, StateTree, SectionTree, Declarations, Equations, ATable, ADiagram, SomeVectors, DontCareSection}
-use Rattle.abel_meaning.specs.Designs.{Context, Design, name_at}
-use Rattle.abel_meaning.specs.Targets.{targets_of, some_signals}
-use Rattle.abel_meaning.specs.Terms.{term_of}
-use Rattle.netlist_laws.specs.Gathered.{cell_of}
 use Rattle.design_checks.specs.LocatedUses.{PlacedUse, located}
 
 -- ---- what is compared

@@ -1,16 +1,10 @@
 -- What of a design is refused by its names and its targets (the devices' datasheets, macrocell diagrams; what is refused,
 -- and where, is this project's rule).
 use Rattle.std.specs.Prelude.{ℕ, suc, ◌<◌, ◌==◌, Bool, true, false, not, ◌&&◌, ◌||◌, Option, Some, is_some, is_none, List, [], ◌∷◌, ◌++◌, All}
-use Rattle.std.specs.List.{list_any}
-use Rattle.pld_device.specs.declared.cell.Cell.{Cell}
+use Rattle.design_checks.specs.Prelude.{list_any, Cell, Table, Extension, Kind, APin, ANode, Entry, is_stored, is_data, Contribution}
 use Rattle.pld_device.specs.declared.kinds.Kinds.{Kinds}
 use Rattle.pld_device.specs.declared.kinds.Kinds.TheVariants.{Combinational, Registered, Either}
-use Rattle.pld_device.specs.Table.{Table}
-use Rattle.abel_tree.specs.declared.words.Extension.{Extension}
 use Rattle.abel_tree.specs.declared.words.Extension.TheVariants as extension
-use Rattle.abel_tree.specs.Entries.{Kind, APin, ANode, Entry, is_stored}
-use Rattle.abel_tree.specs.Extensions.{is_data}
-use Rattle.set_expr.specs.declared.contributions.Contribution.{Contribution}
 use Rattle.set_expr.specs.declared.contributions.Gives.{Gives}
 use Rattle.set_expr.specs.declared.contributions.Gives.TheVariants as gives
 use Rattle.design_checks.specs.declared.refused.RefusedUse.{RefusedUse}

@@ -1,7 +1,6 @@
 -- The order of what is refused, and the first use that is (this project's rule).
 use Rattle.std.specs.Prelude.{ℕ, Bool, true, false, Option, None, Some, List, [], ◌∷◌, map}
-use Rattle.pld_base.specs.declared.place.Place.{Place}
-use Rattle.abel_tree.specs.FirstRefusal.{Ranks, first_refusal}
+use Rattle.design_checks.specs.Prelude.{Place, Ranks, first_refusal}
 use Rattle.design_checks.specs.LocatedUses.{PlacedUse}
 use Rattle.design_checks.specs.declared.refused.RefusedUse.{RefusedUse}
 

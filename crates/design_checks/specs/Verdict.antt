@@ -1,18 +1,9 @@
 -- When a design is refused for its signals, and for what (this project's rule).
 use Rattle.std.specs.Prelude.{◌≡◌, ℕ, Some, List, [], map}
-use Rattle.pld_base.specs.declared.place.Place.{Place}
-use Rattle.pld_device.specs.Table.{Table}
-use Rattle.bit_expr.specs.Formulas.{Formula}
-use Rattle.abel_tree.specs.declared.names.Names.{Names}
+use Rattle.design_checks.specs.Prelude.{Place, Table, Formula, Names, Entry, first_refusal, view_section, Design, Contribution, IsContextOf}
 use Rattle.abel_tree.specs.declared.sections.Module.{Module}
-use Rattle.abel_tree.specs.Entries.{Entry}
-use Rattle.abel_tree.specs.FirstRefusal.{first_refusal}
-use Rattle.abel_tree.specs.View.{view_section}
-use Rattle.abel_meaning.specs.Designs.{Design}
 use Rattle.abel_meaning.specs.SignalReads.{given_formulas}
-use Rattle.set_expr.specs.declared.contributions.Contribution.{Contribution}
 use Rattle.set_expr.specs.declared.contributions.Contributions.{Contributions}
-use Rattle.set_expr.specs.Answer.{IsContextOf}
 use Rattle.set_expr.specs.Given.{given}
 use Rattle.design_checks.specs.declared.refused.RefusedUse.{RefusedUse}
 use Rattle.design_checks.specs.SignalsRefused.{registered_nodes}

@@ -3,14 +3,9 @@
 -- passed over, and a constant's name stands for its expression. A level's folded bit then tells the pin, as nothing but
 -- pairs of complements is folded.
 use Rattle.std.specs.Prelude.{ℕ, suc, ◌+◌, ◌==◌, nat_lt, Bool, true, false, not, ◌&&◌, ◌||◌, Option, List, [], ◌∷◌, ◌++◌, length, if◌then◌else◌}
-use Rattle.std.specs.List.{flat_map}
-use Rattle.pld_base.specs.declared.place.Place.{Place}
-use Rattle.abel_tree.specs.declared.words.Extension.{Extension}
+use Rattle.design_checks.specs.Prelude.{flat_map, Place, Extension, target_extension, Tree, Statement, AnAssign, AWhen, AGroup, ADontCare, Otherwise, NoElse, AnElse, Statements, NoStatement, MoreStatements, statements_of, SectionTree, Declarations, Equations, ATable, ADiagram, SomeVectors, DontCareSection, Context, Design, name_at, Term, Terms, Number, X, Pulse, Release, Set, UnaryOf, BinaryOf, NoTerm, Before, term_of}
 use Rattle.abel_tree.specs.declared.words.Unary.TheVariants as unary
-use Rattle.abel_tree.specs.Assigned.{target_extension}
-use Rattle.abel_tree.specs.Tree.{Tree, Statement, AnAssign, AWhen, AGroup, ADontCare, Otherwise, NoElse, AnElse, Statements, NoStatement, MoreStatements, statements_of, SectionTree, Declarations, Equations, ATable, ADiagram, SomeVectors, DontCareSection}
-use Rattle.abel_meaning.specs.Designs.{Context, Design, name_at}
-use Rattle.abel_meaning.specs.Terms.{Term, Terms, Number, X, Pulse, Release, Read, Set, UnaryOf, BinaryOf, NoTerm, Before, term_of}
+use Rattle.abel_meaning.specs.Terms.{Read}
 use Rattle.section_targets.specs.declared.aim.Aim.{Aim}
 use Rattle.section_targets.specs.TargetSignals.{left_side}
 use Rattle.design_checks.specs.declared.refused.RefusedUse.{RefusedUse}

@@ -1,10 +1,8 @@
 //! The cell of a signal, and which equations are compared with what the device does.
 
 ghost use Rattle.std.specs.Prelude.{◌≡◌, ◌<◌, IfSome, length};
-ghost use Rattle.abel_tree.specs.Entries.{view_declared};
-ghost use Rattle.netlist_laws.specs.Gathered.{cell_of};
-ghost use Rattle.design_checks.specs.Compared.{is_compared_of};
-ghost use Rattle.design_checks.specs.SectionUses.{is_cell_by_pin};
+ghost use Rattle.design_checks.specs.Prelude.{view_declared, cell_of};
+ghost use Rattle.design_checks.specs.{is_compared_of, is_cell_by_pin};
 
 use abel_tree::{Declared, Extension, Meaning};
 use pld_device::{Device, Enable, cell_on};

@@ -1,9 +1,8 @@
 //! Whether an equation for a clock or an enable says what the device does anyway.
 
 ghost use Rattle.std.specs.Prelude.{◌≡◌, ◌<◌, length};
-ghost use Rattle.bit_expr.specs.Arena.{arena, formula_at};
-ghost use Rattle.abel_tree.specs.Entries.{view_declared};
-ghost use Rattle.design_checks.specs.Compared.{is_level, is_level_if, says_always, says_so};
+ghost use Rattle.design_checks.specs.Prelude.{arena, formula_at, view_declared};
+ghost use Rattle.design_checks.specs.{is_level, is_level_if, says_always, says_so};
 
 use crate::by_pin::{cell_of, is_compared};
 use abel_tree::{Declared, Extension};

@@ -1,8 +1,8 @@
 //! How a value is written, position by position.
 
 ghost use Rattle.std.specs.Prelude.{◌≡◌, ◌<◌, ◌&&◌, Bool, true};
-ghost use Rattle.design_checks.specs.Fronts.{positions_by};
-ghost use Rattle.design_checks.specs.Written.{Written, is_written_at, joined, none_written, not_written, one_written};
+ghost use Rattle.design_checks.specs.{positions_by, is_written_at, joined, none_written, not_written, one_written};
+ghost use Rattle.design_checks.specs.Written.{Written};
 
 /// How many positions of a value, from the left, are written as levels of signals, each with or without `!`, where 255
 /// stands for more; whether all of it is; and whether a pin enables each signal that it stands for as a target.

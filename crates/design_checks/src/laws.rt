@@ -1,6 +1,6 @@
 //! Laws of uses, as the contracts of calls that do nothing.
 
-ghost use Rattle.design_checks.specs.Correct.{ExampleIsRefused, UsesAreRead, UsesHaveColumns};
+ghost use Rattle.design_checks.specs.{ExampleIsRefused, UsesAreRead, UsesHaveColumns};
 
 /// The uses of an expression, each at its place, are what its term reads. Does nothing.
 pub fn uses_are_read()

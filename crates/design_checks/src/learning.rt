@@ -1,12 +1,8 @@
 //! What is kept of names, learnt from their declarations.
 
 ghost use Rattle.std.specs.Prelude.{◌≡◌, IfOk};
-ghost use Rattle.abel_tree.specs.Entries.{view_declared, view_meaning};
-ghost use Rattle.abel_tree.specs.View.{view};
-ghost use Rattle.abel_meaning.specs.Designs.{Context, name_at};
-ghost use Rattle.abel_meaning.specs.Terms.{term_meant, term_of};
-ghost use Rattle.set_expr.specs.Contexts.{context_for};
-ghost use Rattle.design_checks.specs.Learnt.{AreUsesOf, Knows, signal_kept, signal_used, uses_of};
+ghost use Rattle.design_checks.specs.Prelude.{view_declared, view_meaning, view, Context, name_at, term_meant, term_of, context_for};
+ghost use Rattle.design_checks.specs.{AreUsesOf, Knows, signal_kept, signal_used, uses_of};
 
 use crate::by_pin::is_enabled_by_pin;
 use crate::front::Positions;

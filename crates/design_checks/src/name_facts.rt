@@ -1,10 +1,8 @@
 //! What is declared of a name.
 
 ghost use Rattle.std.specs.Prelude.{◌≡◌, IfOk};
-ghost use Rattle.abel_tree.specs.Entries.{entries_of, view_declared};
-ghost use Rattle.abel_tree.specs.FirstRefusal.{first_refusal};
-ghost use Rattle.design_checks.specs.SignalsRefused.{has_wrong_kind, has_wrong_kind_on, is_registered_node, is_wrong_cell, registered_nodes};
-ghost use Rattle.design_checks.specs.UsesRefused.{use_order};
+ghost use Rattle.design_checks.specs.Prelude.{entries_of, view_declared, first_refusal};
+ghost use Rattle.design_checks.specs.{has_wrong_kind, has_wrong_kind_on, is_registered_node, is_wrong_cell, registered_nodes, use_order};
 
 use crate::names::next_number;
 use crate::refused::{RefusedUse, told_if};

@@ -1,9 +1,8 @@
 //! What is kept of each name: its first refused use, by the extension that it stands with, and what its positions are.
 
 ghost use Rattle.std.specs.Prelude.{◌≡◌, ◌+◌, IfOk, get_or};
-ghost use Rattle.abel_meaning.specs.Designs.{Context};
-ghost use Rattle.abel_meaning.specs.Terms.{term_named};
-ghost use Rattle.design_checks.specs.Learnt.{Knows, no_use, read_of, use_under, uses_of};
+ghost use Rattle.design_checks.specs.Prelude.{Context, term_named};
+ghost use Rattle.design_checks.specs.{Knows, no_use, read_of, use_under, uses_of};
 
 use crate::front::Positions;
 use crate::rule::UseRule;

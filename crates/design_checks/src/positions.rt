@@ -1,11 +1,8 @@
 //! What the positions of expressions are, by those of the names in them.
 
 ghost use Rattle.std.specs.Prelude.{◌≡◌, IfOk};
-ghost use Rattle.abel_tree.specs.Ranges.{range_names};
-ghost use Rattle.abel_tree.specs.View.{view, view_member};
-ghost use Rattle.abel_meaning.specs.Designs.{Context};
-ghost use Rattle.abel_meaning.specs.Terms.{NoTerm, member_before, named_before, term_of};
-ghost use Rattle.design_checks.specs.Learnt.{Knows, all_positions, positions_of};
+ghost use Rattle.design_checks.specs.Prelude.{range_names, view, view_member, Context, NoTerm, member_before, named_before, term_of};
+ghost use Rattle.design_checks.specs.{Knows, all_positions, positions_of};
 
 use crate::front::Positions;
 use crate::names::KeptUses;

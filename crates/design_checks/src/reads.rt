@@ -1,12 +1,9 @@
 //! Which signals names read in vain.
 
 ghost use Rattle.std.specs.Prelude.{◌≡◌, IfOk, map};
-ghost use Rattle.std.specs.List.{flat_map};
-ghost use Rattle.abel_meaning.specs.Designs.{Context};
+ghost use Rattle.design_checks.specs.Prelude.{flat_map, Context, view_use};
 ghost use Rattle.name_uses.specs.RangeParts.{name_items};
-ghost use Rattle.name_uses.specs.Viewed.{view_use};
-ghost use Rattle.design_checks.specs.Learnt.{Knows, first_read};
-ghost use Rattle.design_checks.specs.PartUses.{names_read, reads_used};
+ghost use Rattle.design_checks.specs.{Knows, first_read, names_read, reads_used};
 
 use crate::names::KeptUses;
 use abel_tree::Extension;

@@ -1,8 +1,8 @@
 //! A place of a design that is refused.
 
 ghost use Rattle.std.specs.Prelude.{◌≡◌};
-ghost use Rattle.abel_tree.specs.FirstRefusal.{first_refusal};
-ghost use Rattle.design_checks.specs.UsesRefused.{told_if, use_at, use_order};
+ghost use Rattle.design_checks.specs.Prelude.{first_refusal};
+ghost use Rattle.design_checks.specs.{told_if, use_at, use_order};
 
 use abel_tree::Ranked;
 use pld_base::Place;

@@ -1,11 +1,8 @@
 //! For which uses a design is refused.
 
 ghost use Rattle.std.specs.Prelude.{◌≡◌, ◌==◌, ◌&&◌};
-ghost use Rattle.std.specs.List.{list_any};
-ghost use Rattle.pld_device.specs.declared.cell.Cell.{Cell};
-ghost use Rattle.abel_meaning.specs.Controls.{must_register};
-ghost use Rattle.abel_tree.specs.Entries.{view_declared};
-ghost use Rattle.design_checks.specs.RefusedUses.{carries_level, has_extension, has_read_path_on, refuses_use};
+ghost use Rattle.design_checks.specs.Prelude.{list_any, Cell, must_register, view_declared};
+ghost use Rattle.design_checks.specs.{carries_level, has_extension, has_read_path_on, refuses_use};
 
 use crate::name_facts::has_wrong_kind_on;
 use abel_tree::{Declared, Extension, Meaning};

@@ -1,13 +1,9 @@
 //! For which targets a design is refused.
 
 ghost use Rattle.std.specs.Prelude.{◌≡◌, ◌<◌, All, length};
-ghost use Rattle.bit_expr.specs.Arena.{arena};
-ghost use Rattle.abel_tree.specs.Entries.{entries_of, view_declared};
-ghost use Rattle.abel_tree.specs.FirstRefusal.{first_refusal};
+ghost use Rattle.design_checks.specs.Prelude.{arena, entries_of, view_declared, first_refusal};
 ghost use Rattle.set_expr.specs.declared.contributions.Contribution as code;
-ghost use Rattle.design_checks.specs.SignalsRefused.{AreToNames, lacks_control};
-ghost use Rattle.design_checks.specs.UsesRefused.{use_order};
-ghost use Rattle.design_checks.specs.Refused.{refuses, targets_refused};
+ghost use Rattle.design_checks.specs.{AreToNames, lacks_control, use_order, refuses, targets_refused};
 
 use crate::compared::says_always;
 use crate::name_facts::has_wrong_kind;

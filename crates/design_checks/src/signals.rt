@@ -1,17 +1,9 @@
 //! The first refusal of a design's kinds, nodes, controls and uses.
 
 ghost use Rattle.std.specs.Prelude.{◌≡◌, ◌<◌, All, length, IfOk, IfErr, map};
-ghost use Rattle.bit_expr.specs.Arena.{arena};
-ghost use Rattle.abel_tree.specs.Entries.{entries_of};
-ghost use Rattle.abel_tree.specs.FirstRefusal.{first_refusal};
-ghost use Rattle.abel_tree.specs.View.{view_section};
-ghost use Rattle.abel_meaning.specs.Designs.{Design};
+ghost use Rattle.design_checks.specs.Prelude.{arena, entries_of, first_refusal, view_section, Design, IsContextOf};
 ghost use Rattle.set_expr.specs.declared.contributions.Contribution as code;
-ghost use Rattle.set_expr.specs.Answer.{IsContextOf};
-ghost use Rattle.design_checks.specs.Refused.{no_controls};
-ghost use Rattle.design_checks.specs.SignalsRefused.{AreToNames};
-ghost use Rattle.design_checks.specs.UsesRefused.{use_order};
-ghost use Rattle.design_checks.specs.Verdict.{HasSoundSignals, IsDesignFor, IsSignalRefused};
+ghost use Rattle.design_checks.specs.{no_controls, AreToNames, use_order, HasSoundSignals, IsDesignFor, IsSignalRefused};
 
 use crate::fault::DesignFault;
 use crate::name_facts::registered_node;

@@ -1,15 +1,8 @@
 //! Equations that are not written as levels are.
 
 ghost use Rattle.std.specs.Prelude.{◌≡◌, IfOk, map};
-ghost use Rattle.abel_tree.specs.FirstRefusal.{first_refusal};
-ghost use Rattle.abel_tree.specs.View.{view_section, view_stmt};
-ghost use Rattle.abel_meaning.specs.Designs.{Design};
-ghost use Rattle.set_expr.specs.Answer.{IsContextOf};
-ghost use Rattle.set_expr.specs.Contexts.{context_for};
-ghost use Rattle.design_checks.specs.UsesRefused.{use_order};
-ghost use Rattle.design_checks.specs.Fronts.{list_refused};
-ghost use Rattle.design_checks.specs.Learnt.{Knows};
-ghost use Rattle.design_checks.specs.Written.{section_refused, statement_refused, unwritten};
+ghost use Rattle.design_checks.specs.Prelude.{first_refusal, view_section, view_stmt, Design, IsContextOf, context_for};
+ghost use Rattle.design_checks.specs.{use_order, list_refused, Knows, section_refused, statement_refused, unwritten};
 
 use crate::learning::learn_names;
 use crate::names::KeptUses;

@@ -1,15 +1,8 @@
 //! The first refused use of a source.
 
 ghost use Rattle.std.specs.Prelude.{◌≡◌, None, IfOk, map};
-ghost use Rattle.std.specs.List.{flat_map};
-ghost use Rattle.abel_tree.specs.View.{view_section};
-ghost use Rattle.abel_meaning.specs.Designs.{Context, Design};
-ghost use Rattle.name_uses.specs.Viewed.{view_part, view_role, view_section_parts, view_use};
-ghost use Rattle.set_expr.specs.Answer.{IsContextOf};
-ghost use Rattle.design_checks.specs.Learnt.{Knows, first_refused};
-ghost use Rattle.design_checks.specs.PartUses.{is_read, part_uses, parted_uses, uses_used};
-ghost use Rattle.design_checks.specs.RefusedUses.{refused_uses};
-ghost use Rattle.design_checks.specs.UsesRefused.{first_use};
+ghost use Rattle.design_checks.specs.Prelude.{flat_map, view_section, Context, Design, view_part, view_role, view_section_parts, view_use, IsContextOf};
+ghost use Rattle.design_checks.specs.{Knows, first_refused, is_read, part_uses, parted_uses, uses_used, refused_uses, first_use};
 
 use crate::learning::learn_names;
 use crate::names::KeptUses;

@@ -1,16 +1,9 @@
 //! An equation that is not written as a level is.
 
 ghost use Rattle.std.specs.Prelude.{◌≡◌, ◌≤◌, Bool, IfOk, length};
-ghost use Rattle.abel_tree.specs.FirstRefusal.{first_refusal};
-ghost use Rattle.abel_tree.specs.View.{view};
-ghost use Rattle.abel_meaning.specs.Designs.{Context, name_at};
-ghost use Rattle.abel_meaning.specs.Terms.{term_of};
-ghost use Rattle.set_expr.specs.Contexts.{context_for};
-ghost use Rattle.design_checks.specs.UsesRefused.{use_order};
-ghost use Rattle.design_checks.specs.Compared.{is_compared_of};
-ghost use Rattle.design_checks.specs.Fronts.{may_be_compared, positions_by};
-ghost use Rattle.design_checks.specs.Learnt.{Knows};
-ghost use Rattle.design_checks.specs.Written.{Written, aim_refused, aims_refused, assign_refused, written_if};
+ghost use Rattle.design_checks.specs.Prelude.{first_refusal, view, Context, name_at, term_of, context_for};
+ghost use Rattle.design_checks.specs.{use_order, is_compared_of, may_be_compared, positions_by, Knows, aim_refused, aims_refused, assign_refused, written_if};
+ghost use Rattle.design_checks.specs.Written.{Written};
 
 use crate::by_pin::is_compared;
 use crate::front::Positions;

@@ -1,13 +1,7 @@
 -- A constant reads what its names read.
 use Rattle.std.proofs.Common.{◌≡◌, Option, None, Some, map, ap, ◌∙◌}
-use Rattle.std.specs.List.{flat_map}
-use Rattle.abel_tree.specs.declared.words.Extension.{Extension}
+use Rattle.design_checks.proofs.Common.{flat_map, Extension, view, term_of, view_use, first_read, positions_of, read_of, reads_used}
 use Rattle.abel_tree.specs.declared.words.Extension.TheVariants as extension
-use Rattle.abel_tree.specs.View.{view}
-use Rattle.abel_meaning.specs.Terms.{term_of}
-use Rattle.name_uses.specs.Viewed.{view_use}
-use Rattle.design_checks.specs.Learnt.{first_read, positions_of, read_of}
-use Rattle.design_checks.specs.PartUses.{reads_used}
 use Rattle.design_checks.proofs.LearntName.{kept_is}
 use Rattle.design_checks.proofs.PartedUses.{names_are_read}
 use Rattle.design_checks.proofs.learning.constant_uses.Goals as goal

@@ -1,14 +1,6 @@
 -- One name more, and all names.
 use Rattle.std.proofs.Common.{◌≡◌, ◌+◌, ◌∷◌, [], ◌++◌, map, take, drop, length, get_or, refl, sym, ap, ap₂, subst, ◌∙◌, arith, length-append}
-use Rattle.std.proofs.lemmas.List.{length-map, length-take-le, map-append, take-append-drop}
-use Rattle.abel_tree.specs.Entries.{entries_of, view_declared}
-use Rattle.abel_meaning.specs.Designs.{name_at, no_name}
-use Rattle.abel_meaning.specs.Terms.{known_of, term_meant}
-use Rattle.set_expr.specs.Contexts.{context_for}
-use Rattle.set_expr.proofs.FoundMembers.{front_more, whole_front}
-use Rattle.design_checks.specs.Learnt.{learning, uses_of}
-use Rattle.design_checks.specs.NameValues.{AreOfNames, values_of}
-use Rattle.design_checks.specs.declared.names.NameUses.{NameUses}
+use Rattle.design_checks.proofs.Common.{length-map, length-take-le, map-append, take-append-drop, entries_of, view_declared, name_at, no_name, known_of, term_meant, context_for, front_more, whole_front, learning, uses_of, AreOfNames, values_of, NameUses}
 use Rattle.design_checks.proofs.LearntName.{name_here}
 use Rattle.design_checks.proofs.PlacedNames.{all_names, first_names, values_more}
 use Rattle.design_checks.proofs.learning.learn_names.Goals as goal

@@ -1,10 +1,6 @@
 -- The names that were learnt.
 use Rattle.std.proofs.Common.{◌≡◌, map, take, length}
-use Rattle.abel_tree.specs.Entries.{view_declared}
-use Rattle.abel_meaning.specs.Terms.{known_of}
-use Rattle.set_expr.specs.Contexts.{context_for}
-use Rattle.design_checks.specs.Learnt.{uses_of}
-use Rattle.design_checks.specs.NameValues.{values_of}
+use Rattle.design_checks.proofs.Common.{view_declared, known_of, context_for, uses_of, values_of}
 use Rattle.design_checks.proofs.learning.learn_names.Given as goal
 
 abbrev pub invariant-loop-declared : goal.invariant-loop-declared

@@ -1,9 +1,5 @@
-use Rattle.std.proofs.Common.{◌<◌, ◌||◌, length, sym, ap, ◌∙◌, arith}
-use Rattle.std.specs.List.{list_any}
-use Rattle.std.proofs.Common.{drop, ◌+◌}
-use Rattle.std.proofs.lemmas.Option.{get_or_from_slice_get}
-use Rattle.pld_device.specs.Table.{no_cell}
-use Rattle.design_checks.specs.SignalsRefused.{is_wrong_cell}
+use Rattle.std.proofs.Common.{◌<◌, ◌||◌, length, sym, ap, ◌∙◌, arith, drop, ◌+◌}
+use Rattle.design_checks.proofs.Common.{list_any, get_or_from_slice_get, no_cell, is_wrong_cell}
 use Rattle.pld_device.proofs.FirstPlaces.{any_here}
 use Rattle.design_checks.proofs.name_facts.has_wrong_kind_on.Goals as goal
 

@@ -1,7 +1,6 @@
 -- None of the cells so far is it.
 use Rattle.std.proofs.Common.{◌≡◌, drop}
-use Rattle.std.specs.List.{list_any}
-use Rattle.design_checks.specs.SignalsRefused.{is_wrong_cell}
+use Rattle.design_checks.proofs.Common.{list_any, is_wrong_cell}
 use Rattle.design_checks.proofs.name_facts.has_wrong_kind_on.Given as goal
 
 abbrev pub invariant-loop-index : goal.invariant-loop-index

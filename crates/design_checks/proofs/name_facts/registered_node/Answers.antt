@@ -1,11 +1,5 @@
 use Rattle.std.proofs.Common.{◌≡◌, ℕ, suc, List, ◌∷◌, [], ◌++◌, ◌+◌, length, map, take, sym, ap, ap₂, ◌∙◌, arith, append_assoc, append-nil}
-use Rattle.std.proofs.lemmas.List.{length-map, length-take-le}
-use Rattle.abel_tree.specs.Entries.{Entry, view_declared}
-use Rattle.abel_tree.specs.FirstRefusal.{earlier, first_refusal}
-use Rattle.abel_tree.proofs.FirstRefusals.{first_append}
-use Rattle.set_expr.proofs.FoundMembers.{front_more}
-use Rattle.design_checks.specs.SignalsRefused.{node_refused, registered_nodes}
-use Rattle.design_checks.specs.UsesRefused.{told_if, use_order}
+use Rattle.design_checks.proofs.Common.{length-map, length-take-le, Entry, view_declared, earlier, first_refusal, first_append, front_more, node_refused, registered_nodes, told_if, use_order}
 use Rattle.design_checks.proofs.JoinedFirsts.{one_more}
 use Rattle.design_checks.proofs.name_facts.registered_node.Goals as goal
 

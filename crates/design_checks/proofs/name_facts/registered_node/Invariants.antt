@@ -1,9 +1,6 @@
 -- The first of the names so far.
 use Rattle.std.proofs.Common.{◌≡◌, map, take}
-use Rattle.abel_tree.specs.Entries.{view_declared}
-use Rattle.abel_tree.specs.FirstRefusal.{first_refusal}
-use Rattle.design_checks.specs.UsesRefused.{use_order}
-use Rattle.design_checks.specs.SignalsRefused.{registered_nodes}
+use Rattle.design_checks.proofs.Common.{view_declared, first_refusal, use_order, registered_nodes}
 use Rattle.design_checks.proofs.name_facts.registered_node.Given as goal
 
 abbrev pub invariant-loop-declared : goal.invariant-loop-declared

@@ -1,14 +1,7 @@
 -- One member more, and each kind of expression.
 use Rattle.std.proofs.Common.{◌≡◌, ◌+◌, true, [], ◌∷◌, ◌++◌, map, take, sym, ap, ap₂, ◌∙◌}
-use Rattle.std.proofs.lemmas.Result.{IfOk-weaker}
-use Rattle.abel_tree.specs.Tree.{AParen, AUnary, members_of}
-use Rattle.abel_tree.specs.View.{view, view_member}
-use Rattle.abel_meaning.specs.Targets.{all_targets}
-use Rattle.abel_meaning.specs.Terms.{NoTerm, Set, member_before, term_named, term_of, terms_of}
+use Rattle.design_checks.proofs.Common.{IfOk-weaker, AParen, AUnary, members_of, view, view_member, all_targets, NoTerm, Set, member_before, term_named, term_of, terms_of, front_more, whole_front, all_positions, are_by_pin, positions_of, written_of_all}
 use Rattle.expr_bits.proofs.Views.{view_name, view_one, view_paren, view_set, view_span, view_special, view_unary}
-use Rattle.set_expr.proofs.FoundMembers.{front_more, whole_front}
-use Rattle.design_checks.specs.Learnt.{all_positions, are_by_pin, positions_of}
-use Rattle.design_checks.specs.Written.{written_of_all}
 use Rattle.design_checks.proofs.PositionTerms.{extended_positions, members_more, one_member, special_positions}
 use Rattle.design_checks.proofs.positions.+positions.Goals as goal
 

@@ -1,12 +1,6 @@
 -- One name more, and all names.
 use Rattle.std.proofs.Common.{◌≡◌, ℕ, ◌+◌, List, [], ◌∷◌, ◌++◌, map, take, sym, ap, ap₂, subst, ◌∙◌}
-use Rattle.std.specs.Global.{Vec}
-use Rattle.abel_tree.specs.Ranges.{range_names}
-use Rattle.abel_meaning.specs.Targets.{all_targets, targets_of}
-use Rattle.abel_meaning.specs.Terms.{NoTerm, named_before, term_named}
-use Rattle.set_expr.proofs.FoundMembers.{front_more, whole_front}
-use Rattle.design_checks.specs.Learnt.{all_positions, are_by_pin, positions_of}
-use Rattle.design_checks.specs.Written.{written_of, written_of_all}
+use Rattle.design_checks.proofs.Common.{Vec, range_names, all_targets, targets_of, NoTerm, named_before, term_named, front_more, whole_front, all_positions, are_by_pin, positions_of, written_of, written_of_all}
 use Rattle.design_checks.proofs.PositionTerms.{range_more}
 use Rattle.design_checks.proofs.positions.range_positions.Goals as goal
 

@@ -1,9 +1,6 @@
 -- The names that were looked up.
 use Rattle.std.proofs.Common.{◌≡◌, ℕ, map, take}
-use Rattle.std.specs.Global.{Vec}
-use Rattle.abel_meaning.specs.Designs.{Context}
-use Rattle.abel_meaning.specs.Terms.{NoTerm, named_before}
-use Rattle.design_checks.specs.Learnt.{Knows, all_positions}
+use Rattle.design_checks.proofs.Common.{Vec, Context, NoTerm, named_before, Knows, all_positions}
 use Rattle.design_checks.proofs.positions.range_positions.Given as goal
 
 abbrev pub invariant-loop-name : goal.invariant-loop-name

@@ -1,9 +1,6 @@
 -- One name more.
 use Rattle.std.proofs.Common.{ap₂, ◌∙◌}
-use Rattle.std.specs.Option.{option_or}
-use Rattle.name_uses.specs.Viewed.{view_use}
-use Rattle.design_checks.specs.Learnt.{first_read}
-use Rattle.design_checks.specs.PartUses.{reads_used}
+use Rattle.design_checks.proofs.Common.{option_or, view_use, first_read, reads_used}
 use Rattle.design_checks.proofs.JoinedFirsts.{joined_more, read_append}
 use Rattle.design_checks.proofs.reads.first_in.Goals as goal
 

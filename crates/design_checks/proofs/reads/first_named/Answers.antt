@@ -1,10 +1,6 @@
 -- One name more.
 use Rattle.std.proofs.Common.{ap, ap₂, ◌∙◌}
-use Rattle.std.specs.Option.{option_or}
-use Rattle.abel_meaning.specs.Terms.{extended_if, term_named}
-use Rattle.name_uses.specs.RangeParts.{name_items}
-use Rattle.netlist_laws.specs.SignalUses.{term_uses}
-use Rattle.design_checks.specs.Learnt.{first_read, read_of}
+use Rattle.design_checks.proofs.Common.{option_or, extended_if, term_named, name_items, term_uses, first_read, read_of}
 use Rattle.design_checks.proofs.JoinedFirsts.{joined_more, read_append}
 use Rattle.design_checks.proofs.reads.first_named.Goals as goal
 

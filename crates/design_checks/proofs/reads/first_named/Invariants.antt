@@ -1,9 +1,6 @@
 -- The names that were looked up.
 use Rattle.std.proofs.Common.{◌≡◌, map, take}
-use Rattle.abel_meaning.specs.Designs.{Context}
-use Rattle.name_uses.specs.RangeParts.{name_items}
-use Rattle.design_checks.specs.Learnt.{Knows, first_read}
-use Rattle.design_checks.specs.PartUses.{names_read}
+use Rattle.design_checks.proofs.Common.{Context, name_items, Knows, first_read, names_read}
 use Rattle.design_checks.proofs.reads.first_named.Given as goal
 
 abbrev pub invariant-loop-name : goal.invariant-loop-name

@@ -1,17 +1,5 @@
 use Rattle.std.proofs.Common.{◌≡◌, ◌<◌, ◌+◌, List, take, length, get_or, map, sym, ap, ap₂, subst, ◌∙◌}
-use Rattle.std.specs.List.{flat_map}
-use Rattle.std.proofs.lemmas.List.{length-map, take_more}
-use Rattle.bit_expr.specs.Arena.{arena}
-use Rattle.abel_tree.specs.declared.names.Names.{Names}
-use Rattle.abel_tree.specs.Entries.{entries_of, view_declared}
-use Rattle.abel_tree.specs.FirstRefusal.{earlier, first_refusal}
-use Rattle.abel_tree.proofs.FirstRefusals.{first_append}
-use Rattle.abel_meaning.specs.Designs.{no_name}
-use Rattle.set_expr.specs.declared.contributions.Contribution.{Contribution}
-use Rattle.design_checks.specs.declared.refused.RefusedUse.{RefusedUse}
-use Rattle.design_checks.specs.Refused.{refuses}
-use Rattle.design_checks.specs.SignalsRefused.{AreToNames}
-use Rattle.design_checks.specs.UsesRefused.{told_if, use_order}
+use Rattle.design_checks.proofs.Common.{flat_map, length-map, take_more, arena, Names, entries_of, view_declared, earlier, first_refusal, first_append, no_name, Contribution, RefusedUse, refuses, AreToNames, told_if, use_order}
 use Rattle.design_checks.proofs.JoinedFirsts.{flat_push, one_more}
 use Rattle.design_checks.proofs.LearntName.{name_here}
 use Rattle.design_checks.proofs.rules.first_refused.Goals as goal

@@ -1,10 +1,6 @@
 -- The first that is refused of the contributions so far.
 use Rattle.std.proofs.Common.{◌≡◌, take}
-use Rattle.bit_expr.specs.Arena.{arena}
-use Rattle.abel_tree.specs.Entries.{entries_of}
-use Rattle.abel_tree.specs.FirstRefusal.{first_refusal}
-use Rattle.design_checks.specs.UsesRefused.{use_order}
-use Rattle.design_checks.specs.Refused.{refuses, targets_refused}
+use Rattle.design_checks.proofs.Common.{arena, entries_of, first_refusal, use_order, refuses, targets_refused}
 use Rattle.design_checks.proofs.rules.first_refused.Given as goal
 
 abbrev pub invariant-loop-given : goal.invariant-loop-given

@@ -1,6 +1,6 @@
 -- The kinds before the first one that is refused have no refusal.
 use Rattle.std.proofs.Common.{refl, sym, ◌∙◌}
-use Rattle.bit_expr.specs.Arena.{arena}
+use Rattle.design_checks.proofs.Common.{arena}
 use Rattle.design_checks.proofs.Verdicts.{controls_pass, first_any, first_kind, first_node, kinds_pass, passed}
 use Rattle.design_checks.proofs.signals.check_signals.Goals as goal
 

@@ -1,14 +1,6 @@
 use Rattle.std.proofs.Common.{◌++◌, map, sym, ap, ap₂, ◌∙◌}
-use Rattle.bit_expr.specs.Arena.{arena}
+use Rattle.design_checks.proofs.Common.{arena, entries_of, earlier, first_refusal, view_section, first_append, lacking_controls, other_levels, target_controls, missing_uses, told, use_order, unwritten}
 use Rattle.abel_tree.specs.declared.sections.Module.{Module}
-use Rattle.abel_tree.specs.Entries.{entries_of}
-use Rattle.abel_tree.specs.FirstRefusal.{earlier, first_refusal}
-use Rattle.abel_tree.specs.View.{view_section}
-use Rattle.abel_tree.proofs.FirstRefusals.{first_append}
-use Rattle.design_checks.specs.Refused.{lacking_controls, other_levels, target_controls}
-use Rattle.design_checks.specs.RefusedUses.{missing_uses}
-use Rattle.design_checks.specs.UsesRefused.{told, use_order}
-use Rattle.design_checks.specs.Written.{unwritten}
 use Rattle.design_checks.proofs.signals.no_control.Goals as goal
 
 pub returns : goal.returns

@@ -1,14 +1,6 @@
 -- Statements one after the other.
 use Rattle.std.proofs.Common.{true, None, Some, ◌+◌, map, take, sym, ap, ap₂, ◌∙◌, ◌++◌, append-nil}
-use Rattle.std.proofs.lemmas.Result.{IfOk-weaker}
-use Rattle.abel_tree.specs.FirstRefusal.{earlier, first_refusal}
-use Rattle.abel_tree.specs.View.{view_stmt}
-use Rattle.abel_tree.proofs.FirstRefusals.{first_append}
-use Rattle.set_expr.specs.Contexts.{context_for}
-use Rattle.set_expr.proofs.FoundMembers.{front_more}
-use Rattle.design_checks.specs.UsesRefused.{use_order}
-use Rattle.design_checks.specs.Fronts.{list_refused}
-use Rattle.design_checks.specs.Written.{statement_refused}
+use Rattle.design_checks.proofs.Common.{IfOk-weaker, earlier, first_refusal, view_stmt, first_append, context_for, front_more, use_order, list_refused, statement_refused}
 use Rattle.design_checks.proofs.JoinedFirsts.{one_more}
 use Rattle.design_checks.proofs.RefusedStatements.{list_push, refused_of_group, refused_of_when}
 use Rattle.design_checks.proofs.spelling.+statements.Goals as goal

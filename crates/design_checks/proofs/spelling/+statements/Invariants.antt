@@ -1,11 +1,6 @@
 -- Statements one after the other.
 use Rattle.std.proofs.Common.{◌≡◌, map, take}
-use Rattle.abel_tree.specs.FirstRefusal.{first_refusal}
-use Rattle.abel_tree.specs.View.{view_stmt}
-use Rattle.set_expr.specs.Contexts.{context_for}
-use Rattle.design_checks.specs.Learnt.{Knows}
-use Rattle.design_checks.specs.UsesRefused.{use_order}
-use Rattle.design_checks.specs.Fronts.{list_refused}
+use Rattle.design_checks.proofs.Common.{first_refusal, view_stmt, context_for, Knows, use_order, list_refused}
 use Rattle.design_checks.proofs.spelling.+statements.Given as goal
 
 abbrev pub invariant-refused_list-loop-stmt : goal.invariant-refused_list-loop-stmt

@@ -1,14 +1,6 @@
 -- Sections one after the other.
 use Rattle.std.proofs.Common.{sym, ap₂, subst, ◌∙◌}
-use Rattle.abel_tree.specs.declared.names.Names.{Names}
-use Rattle.abel_tree.specs.FirstRefusal.{earlier, first_refusal}
-use Rattle.abel_tree.specs.View.{view_section}
-use Rattle.abel_tree.proofs.FirstRefusals.{first_append}
-use Rattle.set_expr.specs.Contexts.{context_for}
-use Rattle.set_expr.proofs.FoundMembers.{whole_front}
-use Rattle.design_checks.specs.Learnt.{AreUsesOf}
-use Rattle.design_checks.specs.UsesRefused.{use_order}
-use Rattle.design_checks.specs.Written.{section_refused, sections_refused}
+use Rattle.design_checks.proofs.Common.{Names, earlier, first_refusal, view_section, first_append, context_for, whole_front, AreUsesOf, use_order, section_refused, sections_refused}
 use Rattle.design_checks.specs.declared.rule.UseRule.TheVariants as use_rule
 use Rattle.design_checks.proofs.JoinedFirsts.{joined_more}
 use Rattle.design_checks.proofs.LearntName.{is_context_for}

@@ -1,10 +1,6 @@
 -- Sections one after the other.
 use Rattle.std.proofs.Common.{◌≡◌, map, take}
-use Rattle.abel_tree.specs.FirstRefusal.{first_refusal}
-use Rattle.abel_tree.specs.View.{view_section}
-use Rattle.set_expr.specs.Contexts.{context_for}
-use Rattle.design_checks.specs.UsesRefused.{use_order}
-use Rattle.design_checks.specs.Written.{sections_refused}
+use Rattle.design_checks.proofs.Common.{first_refusal, view_section, context_for, use_order, sections_refused}
 use Rattle.design_checks.proofs.spelling.other_spelling.Given as goal
 
 abbrev pub invariant-loop-section : goal.invariant-loop-section

@@ -1,10 +1,6 @@
 -- One part more.
 use Rattle.std.proofs.Common.{ap₂, ◌∙◌}
-use Rattle.abel_tree.specs.FirstRefusal.{earlier}
-use Rattle.name_uses.specs.Viewed.{view_part}
-use Rattle.design_checks.specs.Learnt.{first_refused}
-use Rattle.design_checks.specs.PartUses.{part_uses}
-use Rattle.design_checks.specs.UsesRefused.{use_order}
+use Rattle.design_checks.proofs.Common.{earlier, view_part, first_refused, part_uses, use_order}
 use Rattle.design_checks.proofs.JoinedFirsts.{joined_more, uses_append}
 use Rattle.design_checks.proofs.uses.first_of_parts.Goals as goal
 

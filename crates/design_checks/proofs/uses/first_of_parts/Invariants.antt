@@ -1,10 +1,6 @@
 -- The parts so far.
 use Rattle.std.proofs.Common.{◌≡◌, map, take}
-use Rattle.std.specs.List.{flat_map}
-use Rattle.abel_meaning.specs.Designs.{Context}
-use Rattle.name_uses.specs.Viewed.{view_part}
-use Rattle.design_checks.specs.Learnt.{Knows, first_refused}
-use Rattle.design_checks.specs.PartUses.{part_uses}
+use Rattle.design_checks.proofs.Common.{flat_map, Context, view_part, Knows, first_refused, part_uses}
 use Rattle.design_checks.proofs.uses.first_of_parts.Given as goal
 
 abbrev pub invariant-loop-part : goal.invariant-loop-part

@@ -1,11 +1,6 @@
 -- One section more.
 use Rattle.std.proofs.Common.{map, ap, ap₂, ◌∙◌}
-use Rattle.std.specs.List.{flat_map}
-use Rattle.abel_tree.specs.FirstRefusal.{earlier}
-use Rattle.name_uses.specs.Viewed.{view_part, view_section_parts}
-use Rattle.design_checks.specs.Learnt.{first_refused}
-use Rattle.design_checks.specs.PartUses.{part_uses, parted_uses}
-use Rattle.design_checks.specs.UsesRefused.{use_order}
+use Rattle.design_checks.proofs.Common.{flat_map, earlier, view_part, view_section_parts, first_refused, part_uses, parted_uses, use_order}
 use Rattle.design_checks.proofs.JoinedFirsts.{joined_more, uses_append}
 use Rattle.design_checks.proofs.uses.first_of_sections.Goals as goal
 

@@ -1,10 +1,6 @@
 -- One name more.
 use Rattle.std.proofs.Common.{None, ap, ap₂, ◌∙◌}
-use Rattle.abel_tree.specs.FirstRefusal.{earlier}
-use Rattle.name_uses.specs.Viewed.{view_use}
-use Rattle.design_checks.specs.Learnt.{first_refused}
-use Rattle.design_checks.specs.PartUses.{reads_used, uses_used}
-use Rattle.design_checks.specs.UsesRefused.{use_at, use_order}
+use Rattle.design_checks.proofs.Common.{earlier, view_use, first_refused, reads_used, uses_used, use_at, use_order}
 use Rattle.design_checks.proofs.JoinedFirsts.{joined_more, uses_append, uses_placed}
 use Rattle.design_checks.proofs.uses.first_of_uses.Goals as goal
 

@@ -1,10 +1,6 @@
 -- The names that were looked up.
 use Rattle.std.proofs.Common.{◌≡◌, None, map, take}
-use Rattle.std.specs.List.{flat_map}
-use Rattle.abel_meaning.specs.Designs.{Context}
-use Rattle.name_uses.specs.Viewed.{view_use}
-use Rattle.design_checks.specs.Learnt.{Knows, first_refused}
-use Rattle.design_checks.specs.PartUses.{uses_used}
+use Rattle.design_checks.proofs.Common.{flat_map, Context, view_use, Knows, first_refused, uses_used}
 use Rattle.design_checks.proofs.uses.first_of_uses.Given as goal
 
 abbrev pub invariant-loop-used : goal.invariant-loop-used

@@ -1,10 +1,5 @@
 use Rattle.std.proofs.Common.{map, sym, ap, subst, ◌∙◌}
-use Rattle.std.proofs.lemmas.Result.{IfOk-weaker}
-use Rattle.abel_tree.specs.declared.names.Names.{Names}
-use Rattle.name_uses.specs.Viewed.{with_parts}
-use Rattle.set_expr.specs.Answer.{IsContextOf}
-use Rattle.set_expr.specs.Contexts.{context_for}
-use Rattle.design_checks.specs.Learnt.{AreUsesOf}
+use Rattle.design_checks.proofs.Common.{IfOk-weaker, Names, with_parts, IsContextOf, context_for, AreUsesOf}
 use Rattle.design_checks.proofs.PartedUses.{first_of_design}
 use Rattle.design_checks.proofs.uses.first_use.Goals as goal
 

@@ -1,11 +1,6 @@
 -- One signal more, and all signals.
 use Rattle.std.proofs.Common.{◌<◌, ◌≤◌, ◌+◌, length, take, ap, ap₂, ◌∙◌, arith}
-use Rattle.std.proofs.lemmas.List.{length-take-le, take_all, take_more}
-use Rattle.abel_tree.specs.FirstRefusal.{earlier, first_refusal}
-use Rattle.abel_tree.proofs.FirstRefusals.{first_append}
-use Rattle.set_expr.specs.Contexts.{context_for}
-use Rattle.design_checks.specs.UsesRefused.{use_order}
-use Rattle.design_checks.specs.Written.{aims_refused}
+use Rattle.design_checks.proofs.Common.{length-take-le, take_all, take_more, earlier, first_refusal, first_append, context_for, use_order, aims_refused}
 use Rattle.design_checks.proofs.JoinedFirsts.{one_more}
 use Rattle.design_checks.proofs.RefusedStatements.{aim_at, aim_same, aims_push}
 use Rattle.design_checks.proofs.written.refused_aims.Goals as goal

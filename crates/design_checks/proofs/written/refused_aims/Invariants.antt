@@ -1,10 +1,6 @@
 -- So many signals are gone through.
 use Rattle.std.proofs.Common.{◌≡◌, ◌≤◌, Bool, length, take}
-use Rattle.abel_tree.specs.FirstRefusal.{first_refusal}
-use Rattle.set_expr.specs.Contexts.{context_for}
-use Rattle.design_checks.specs.UsesRefused.{use_order}
-use Rattle.design_checks.specs.Fronts.{positions_by}
-use Rattle.design_checks.specs.Written.{Written, aims_refused}
+use Rattle.design_checks.proofs.Common.{first_refusal, context_for, use_order, positions_by, Written, aims_refused}
 use Rattle.design_checks.proofs.written.refused_aims.Given as goal
 
 abbrev pub invariant-loop-position : goal.invariant-loop-position

@@ -1,17 +1,8 @@
 -- Where nothing is compared, nothing is refused; a target that is too wide is refused before; any other has its signals.
 use Rattle.std.proofs.Common.{◌<◌, ◌≤◌, length, sym, ap, subst, ◌∙◌, arith}
-use Rattle.abel_tree.specs.declared.names.Names.{Names}
+use Rattle.design_checks.proofs.Common.{Names, entries_of, first_refusal, view, term_of, context_for, side_all, side_length, may_be_compared, use_order, aims_refused, narrow, written_if}
 use Rattle.abel_tree.specs.Assigned.{target_extension}
-use Rattle.abel_tree.specs.Entries.{entries_of}
-use Rattle.abel_tree.specs.FirstRefusal.{first_refusal}
-use Rattle.abel_tree.specs.View.{view}
-use Rattle.abel_meaning.specs.Terms.{term_of}
-use Rattle.set_expr.specs.Contexts.{context_for}
 use Rattle.section_targets.specs.TargetSignals.{left_side}
-use Rattle.section_targets.proofs.SignalLists.{side_all, side_length}
-use Rattle.design_checks.specs.Fronts.{may_be_compared}
-use Rattle.design_checks.specs.UsesRefused.{use_order}
-use Rattle.design_checks.specs.Written.{aims_refused, narrow, written_if}
 use Rattle.design_checks.proofs.RefusedStatements.{narrow_all, narrow_none, none_compared}
 use Rattle.design_checks.proofs.written.refused_assign.Goals as goal
 

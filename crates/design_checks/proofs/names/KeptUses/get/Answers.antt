@@ -1,8 +1,6 @@
 -- What isn't one of the names stands for no signal.
 use Rattle.std.proofs.Common.{◌≡◌, subst, ◌∙◌}
-use Rattle.abel_tree.specs.Entries.{entries_of}
-use Rattle.abel_meaning.specs.Terms.{term_named}
-use Rattle.design_checks.specs.Learnt.{uses_of}
+use Rattle.design_checks.proofs.Common.{entries_of, term_named, uses_of}
 use Rattle.design_checks.proofs.PlacedNames.{placed, value_in}
 use Rattle.design_checks.proofs.names.KeptUses.get.Goals as goal
 

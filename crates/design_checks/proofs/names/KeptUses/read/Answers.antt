@@ -1,6 +1,5 @@
 use Rattle.std.proofs.Common.{ap, ◌∙◌}
-use Rattle.abel_meaning.specs.Terms.{term_named}
-use Rattle.design_checks.specs.Learnt.{positions_of, read_of, use_under}
+use Rattle.design_checks.proofs.Common.{term_named, positions_of, read_of, use_under}
 use Rattle.design_checks.proofs.LearntName.{under_is}
 use Rattle.design_checks.proofs.names.KeptUses.read.Goals as goal
 
