@@ -1,8 +1,6 @@
 -- The first character that isn't simulated, vector by vector.
 use Rattle.std.proofs.Common.{◌≡◌, ℕ, ◌+◌, ◌<◌, None, Some, List, ◌∷◌, length, get_or, drop, refl, ap, sym, add-one, position, drop-cons}
-use Rattle.pld_base.specs.declared.point.Vector.{Vector}
-use Rattle.device_sim.specs.Simulated.{is_unsupported, first_unsupported}
-use Rattle.device_sim.specs.VectorSteps.{chars_at, all_chars_at}
+use Rattle.device_sim.proofs.Common.{Vector, is_unsupported, first_unsupported, chars_at, all_chars_at}
 
 module _ (pins : ℕ) (vectors : List Vector) (i : ℕ) (v : Vector) (within : i < length vectors) where
   -- the first of the vectors from i on

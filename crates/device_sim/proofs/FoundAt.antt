@@ -1,16 +1,7 @@
 -- What is found at a pin, by what a point shows.
 use Rattle.std.proofs.Common.{◌≡◌, ℕ, suc, ◌+◌, ◌<◌, Bool, true, false, ◌&&◌, ◌==◌, List, ◌∷◌, ◌++◌, length, get_or, drop, refl, ap, sym, ◌∙◌, arith, inl, inr, add-one, drop-cons, append_assoc}
-use Rattle.std.specs.List.{list_any, range_with_len}
-use Rattle.std.proofs.lemmas.Bool.{cases_Bool, eqb-true, eqb-false, true≢false}
-use Rattle.pld_base.specs.Bits.{is_on}
-use Rattle.pld_base.specs.Points.{Levels}
-use Rattle.pld_base.specs.Logic.{Logic}
+use Rattle.device_sim.proofs.Common.{list_any, range_with_len, cases_Bool, eqb-true, eqb-false, true≢false, is_on, Levels, Logic, Lookups, logic_of, HasPins, any_at, any_none, one_of, Mismatch, is_driven, found, found_at, mismatch_at, vector_mismatches}
 use Rattle.pld_machine.specs.Shows.{Shows}
-use Rattle.pld_machine.specs.Lookups.{Lookups, logic_of}
-use Rattle.pld_machine.specs.Order.{HasPins}
-use Rattle.device_logic.proofs.Runs.{any_at, any_none, one_of}
-use Rattle.device_sim.specs.declared.report.Mismatch.{Mismatch}
-use Rattle.device_sim.specs.VectorRun.{is_driven, found, found_at, mismatch_at, vector_mismatches}
 
 module _ (m : Lookups) (at : Levels) (driven level : List Bool) (pins : HasPins m) (shows : Shows (logic_of m) at driven level) (k : ℕ) (low : k < 32) where
   -- the cell is on the pin, and drives it

@@ -1,24 +1,10 @@
 -- The vectors' run on a device with its fuses, and why one isn't run.
 use Rattle.std.proofs.Common.{◌≡◌, ℕ, ◌≤◌, Bool, Option, None, List, sym, ◌∙◌, subst, arith}
-use Rattle.std.specs.List.{All}
-use Rattle.std.proofs.lemmas.List.{length-take}
-use Rattle.std.proofs.lemmas.List.Elements.{All-map}
-use Rattle.pld_base.specs.declared.point.Vector.{Vector}
+use Rattle.device_sim.proofs.Common.{All, length-take, All-map, Vector, device_logic, Table, all_chars, IsOrdered, RunsOnce, device_lookups, same_logic, Mismatch, first_unsupported, IsSimFault, IsVectorRun, chars_at, all_chars_at, mismatches_after}
 use Rattle.jedec_file.specs.FuseFile.{FuseFile}
-use Rattle.pld_device.specs.Macrocells.{device_logic}
-use Rattle.pld_device.specs.Table.{Table}
-use Rattle.jedec_file.specs.TestVectors.{all_chars}
-use Rattle.pld_machine.specs.Order.{IsOrdered}
-use Rattle.pld_machine.specs.Steps.{RunsOnce}
-use Rattle.device_logic.specs.DeviceLookups.{device_lookups}
 use Rattle.device_logic.specs.LoadFaults.{IsLoadFault}
 use Rattle.device_logic.specs.declared.fault.SimFault.{SimFault}
 use Rattle.device_logic.specs.declared.fault.SimFault.TheVariants.{UnsupportedCondition, DeviceLoop, DeviceResetReadsRegister, OutOfMemory}
-use Rattle.device_logic.proofs.CellsOrdered.{same_logic}
-use Rattle.device_sim.specs.declared.report.Mismatch.{Mismatch}
-use Rattle.device_sim.specs.Simulated.{first_unsupported, IsSimFault}
-use Rattle.device_sim.specs.VectorRun.{IsVectorRun}
-use Rattle.device_sim.specs.VectorSteps.{chars_at, all_chars_at, mismatches_after}
 use Rattle.device_sim.proofs.OneList.{IsNarrow, is_vector_run, one_list}
 
 -- the characters at the pins of a device are few

@@ -1,18 +1,6 @@
 -- The list of mismatches of a logic's run, and that a logic with one run has one list.
 use Rattle.std.proofs.Common.{◌≡◌, ◌≢◌, ℕ, ◌≤◌, Bool, None, Some, List, [], ◌∷◌, if◌then◌else◌, inl, inr, length, flat_map, refl, ap, sym, ◌∙◌}
-use Rattle.std.specs.List.{All}
-use Rattle.std.proofs.lemmas.Bool.{cases_Bool}
-use Rattle.std.proofs.lemmas.List.Elements.{All-nil, All-cons, All-append, All-head, All-tail}
-use Rattle.pld_base.specs.Points.{Levels}
-use Rattle.pld_base.specs.Logic.{Logic}
-use Rattle.pld_machine.specs.Lookups.{Lookups, logic_of}
-use Rattle.pld_machine.specs.Order.{IsOrdered}
-use Rattle.pld_machine.specs.Settling.{rest_of, step_of, steps_of}
-use Rattle.pld_machine.specs.Steps.{Run, power_up, IsWide, RunsOnce}
-use Rattle.pld_machine.proofs.OneRun.{runs_once}
-use Rattle.device_sim.specs.declared.report.Mismatch.{Mismatch}
-use Rattle.device_sim.specs.VectorRun.{at_pins, level_before, level_turned, has_clock, outsides_of, mismatches_of, IsVectorRun}
-use Rattle.device_sim.specs.VectorSteps.{point_after, points_after, mismatches_after}
+use Rattle.device_sim.proofs.Common.{All, cases_Bool, All-nil, All-cons, All-append, All-head, All-tail, Levels, Logic, Lookups, logic_of, IsOrdered, rest_of, step_of, steps_of, Run, power_up, IsWide, RunsOnce, runs_once, Mismatch, at_pins, level_before, level_turned, has_clock, outsides_of, mismatches_of, IsVectorRun, point_after, points_after, mismatches_after}
 use Rattle.device_sim.proofs.Outsides.{at_pins_wide}
 
 -- the characters of at most 31 pins

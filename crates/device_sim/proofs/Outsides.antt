@@ -1,9 +1,6 @@
 -- The outside levels of a vector, pin by pin.
 use Rattle.std.proofs.Common.{◌≡◌, ℕ, suc, ◌+◌, ◌-◌, ◌<◌, ◌≤◌, Bool, false, List, [], ◌∷◌, ◌++◌, length, map, take, set, get_or, replicate, refl, ap, sym, ◌∙◌, arith, add-one, length-append, append_assoc, length-take-le}
-use Rattle.std.proofs.lemmas.List.{take_more, map-append, set_at, length-map, length-replicate}
-use Rattle.pld_base.specs.Bits.{bits}
-use Rattle.pld_machine.specs.Steps.{IsWide}
-use Rattle.device_sim.specs.VectorRun.{at_pins}
+use Rattle.device_sim.proofs.Common.{take_more, map-append, set_at, length-map, length-replicate, bits, IsWide, at_pins}
 
 -- no pin has a level yet
 pub at_pins_none : (level : ℕ → Bool) → bits 32 0 ≡ at_pins level []

@@ -1,14 +1,7 @@
 -- The Qs of power-up as a number, and the point at rest from them.
 use Rattle.std.proofs.Common.{◌≡◌, ℕ, refl}
+use Rattle.device_sim.proofs.Common.{bits, levels_of, length-bits, Lookups, logic_of, IsOrdered, rest_of, power_up, IsTheRest, rests_once}
 use Rattle.pld_base.specs.declared.point.Point.{Point}
-use Rattle.pld_base.specs.Bits.{bits}
-use Rattle.pld_base.specs.Points.{levels_of}
-use Rattle.pld_base.proofs.BitLemmas.{length-bits}
-use Rattle.pld_machine.specs.Lookups.{Lookups, logic_of}
-use Rattle.pld_machine.specs.Order.{IsOrdered}
-use Rattle.pld_machine.specs.Settling.{rest_of}
-use Rattle.pld_machine.specs.Steps.{power_up, IsTheRest}
-use Rattle.pld_machine.proofs.OneRun.{rests_once}
 
 pub no_q : bits 32 0 ≡ power_up
 unfolding bits

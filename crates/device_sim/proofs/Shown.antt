@@ -1,19 +1,7 @@
 -- What is shown at each vector of a run.
 use Rattle.std.proofs.Common.{◌≡◌, ℕ, suc, ◌-◌, ◌<◌, ◌≤◌, Bool, Option, None, Some, List, [], ◌∷◌, ◌++◌, length, take, drop, slice_get, get_or, flat_map, ◌+◌, add-one, drop-cons, append_assoc, append-nil, refl, ap, sym, ◌∙◌, subst}
-use Rattle.std.proofs.lemmas.List.{drop_all, take-map}
-use Rattle.pld_base.specs.declared.point.Trace.{Trace}
-use Rattle.pld_base.specs.declared.point.Vector.{Vector}
-use Rattle.pld_base.specs.Points.{Levels}
-use Rattle.pld_device.specs.Macrocells.{device_logic}
-use Rattle.pld_device.specs.Table.{Table}
-use Rattle.jedec_file.specs.TestVectors.{all_chars}
-use Rattle.pld_machine.specs.Lookups.{Lookups, logic_of}
-use Rattle.pld_machine.specs.Order.{IsOrdered}
-use Rattle.device_logic.specs.DeviceLookups.{device_lookups}
-use Rattle.device_logic.proofs.CellsOrdered.{same_logic}
+use Rattle.device_sim.proofs.Common.{drop_all, take-map, Trace, Vector, Levels, device_logic, Table, all_chars, Lookups, logic_of, IsOrdered, device_lookups, same_logic, outsides_of, chars_at, all_chars_at, points_after, last_after, ShownAfter}
 use Rattle.device_sim.specs.Traced.{IsShown, AreShown, IsTraced}
-use Rattle.device_sim.specs.VectorRun.{outsides_of}
-use Rattle.device_sim.specs.VectorSteps.{chars_at, all_chars_at, points_after, last_after, ShownAfter}
 use Rattle.device_sim.proofs.Loaded.{narrow}
 use Rattle.device_sim.proofs.OneList.{vectors_run}
 use Rattle.device_sim.proofs.Vectors.{point_between, points_behind, some_outside}

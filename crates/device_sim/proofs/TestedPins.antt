@@ -1,10 +1,7 @@
 -- What H and L find, as levels of words: driven with 1, driven with 0.
 use Rattle.std.proofs.Common.{◌≡◌, ℕ, zero, suc, ◌-◌, ◌<◌, ◌^◌, ◌==◌, ◌&&◌, Bool, true, false, not, refl, arith}
-use Rattle.std.specs.Int.{bit_at, bit_not, w32}
+use Rattle.device_sim.proofs.Common.{bit_at, bit_not, w32, bits, is_on, is_on-bits, found, is_tested}
 use Rattle.std.proofs.lemmas.Nat.Bits.{bit_at-lt, bit_at_not}
-use Rattle.pld_base.specs.Bits.{bits, is_on}
-use Rattle.pld_base.proofs.BitLemmas.{is_on-bits}
-use Rattle.device_sim.specs.VectorRun.{found, is_tested}
 
 pub high_is : (driven level : Bool) → not (driven && level) ≡ (is_tested 72 && not (72 == found driven level))
 high_is true true = refl

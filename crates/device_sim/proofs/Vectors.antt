@@ -1,13 +1,7 @@
 -- The points of the vectors' run, one vector after another.
 use Rattle.std.proofs.Common.{◌≡◌, ℕ, suc, zero, ◌-◌, ◌<◌, ◌≤◌, Bool, if◌then◌else◌, Option, Some, List, [], ◌∷◌, ◌++◌, length, drop, slice_get, get_or, flat_map, ◌+◌, add-one, drop-cons, append_assoc, append-nil, refl, ap, sym, ◌∙◌, arith}
+use Rattle.device_sim.proofs.Common.{drop_all, Vector, Levels, Lookups, logic_of, Mismatch, at_pins, level_before, level_turned, has_clock, outsides_of, vector_mismatches, chars_at, all_chars_at, point_after, points_after, last_after, mismatches_after}
 use Rattle.std.proofs.Math.Seq.{drop-append_seam}
-use Rattle.std.proofs.lemmas.List.{drop_all}
-use Rattle.pld_base.specs.declared.point.Vector.{Vector}
-use Rattle.pld_base.specs.Points.{Levels}
-use Rattle.pld_machine.specs.Lookups.{Lookups, logic_of}
-use Rattle.device_sim.specs.declared.report.Mismatch.{Mismatch}
-use Rattle.device_sim.specs.VectorRun.{at_pins, level_before, level_turned, has_clock, outsides_of, vector_mismatches}
-use Rattle.device_sim.specs.VectorSteps.{chars_at, all_chars_at, point_after, points_after, last_after, mismatches_after}
 
 -- an entry of the first of two lists
 slice_get-append : {A : Type 0} (xs ys : List A) (k : ℕ) → k < length xs → slice_get (xs ++ ys) k ≡ slice_get xs k

@@ -1,16 +1,7 @@
 -- A logic that stores nothing: a step only comes to rest, and so does a vector.
 use Rattle.std.proofs.Common.{◌≡◌, ℕ, Bool, false, ◌==◌, nat_lt, List, Option, None, Some, refl, ap, sym, ◌∙◌, arith, inl, inr, le-ltb}
-use Rattle.std.specs.List.{list_any, range_with_len}
-use Rattle.std.proofs.lemmas.Bool.{and_left, and_right, cases_Bool, cases_lt, false_from_ne_true, true≢false}
-use Rattle.pld_base.specs.Points.{Levels}
-use Rattle.pld_base.specs.Logic.{is_register}
-use Rattle.pld_machine.specs.Lookups.{Lookups, logic_of}
+use Rattle.device_sim.proofs.Common.{list_any, range_with_len, and_left, and_right, cases_Bool, cases_lt, false_from_ne_true, true≢false, Levels, is_register, Lookups, logic_of, between_of, clocked_of, filled, rest_of, settled_of, step_of, power_up, at_pins, has_clock, level_before, level_turned, outsides_of, last_after, point_after, any_at}
 use Rattle.pld_machine.specs.Rest.{q_at_rest}
-use Rattle.pld_machine.specs.Settling.{between_of, clocked_of, filled, rest_of, settled_of, step_of}
-use Rattle.pld_machine.specs.Steps.{power_up}
-use Rattle.device_sim.specs.VectorRun.{at_pins, has_clock, level_before, level_turned, outsides_of}
-use Rattle.device_sim.specs.VectorSteps.{last_after, point_after}
-use Rattle.device_logic.proofs.Runs.{any_at}
 
 module _ (m : Lookups) (none : list_any m.stores (range_with_len 0 m.cells) ≡ false) where
   no_register : (c : ℕ) → is_register (logic_of m) c ≡ false

@@ -1,7 +1,6 @@
 -- What test vectors find in a device and in the source that it does the same as (this project's rule).
 use Rattle.std.specs.Prelude.{ℕ, ◌≤◌, Bool, List, length}
-use Rattle.std.specs.List.{All}
-use Rattle.pld_base.specs.Logic.{Logic}
+use Rattle.device_sim.specs.Prelude.{All, Logic}
 use Rattle.pld_machine.specs.Comparison.{DoesTheSame, HasNoDontCare, NodeValues}
 use Rattle.device_sim.specs.declared.report.Mismatch.{Mismatch}
 use Rattle.device_sim.specs.VectorRun.{IsVectorRun}

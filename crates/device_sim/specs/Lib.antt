@@ -1,4 +1,5 @@
 pub mod Compared
+pub mod Prelude
 pub mod Simulated
 pub mod Traced
 pub mod VectorRun

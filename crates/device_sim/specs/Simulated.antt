@@ -1,9 +1,8 @@
 -- What simulating a fuse file gives, and why one isn't simulated (this project's rule).
 use Rattle.std.specs.Prelude.{◌≡◌, ℕ, suc, Bool, List, [], ◌∷◌, length, Option, None, Some, position, option_map, codes, ⊤}
+use Rattle.device_sim.specs.Prelude.{is_among, device_logic}
 use Rattle.std.specs.Option.{option_or}
-use Rattle.jedec_file.specs.Fields.{is_among}
 use Rattle.jedec_file.specs.FuseFile.{FuseFile}
-use Rattle.pld_device.specs.Macrocells.{device_logic}
 use Rattle.pld_device.specs.Table.{Table}
 use Rattle.pld_order.specs.Graphs.{HasNoLoop}
 use Rattle.device_logic.specs.CellReads.{cell_reads}

@@ -1,11 +1,7 @@
 -- What the pins show at each vector of a run (this project's rule).
 use Rattle.std.specs.Prelude.{◌≡◌, ◌≢◌, ℕ, ◌-◌, Bool, List, [], ◌∷◌, length, drop, flat_map, slice_get, Option, Some, None}
-use Rattle.pld_base.specs.declared.point.Trace.{Trace}
-use Rattle.pld_base.specs.Bits.{bits}
-use Rattle.pld_base.specs.Logic.{Logic}
-use Rattle.pld_base.specs.Points.{Levels}
+use Rattle.device_sim.specs.Prelude.{Trace, bits, Logic, Levels, Run}
 use Rattle.pld_machine.specs.Shows.{Shows}
-use Rattle.pld_machine.specs.Steps.{Run}
 use Rattle.device_sim.specs.VectorRun.{outsides_of}
 
 -- the logic shows this at a point that there is

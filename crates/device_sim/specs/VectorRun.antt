@@ -1,12 +1,7 @@
 -- The run that test vectors drive, and where it disagrees with them (JESD3-C, test vector field; that a vector with a
 -- clock takes two further steps is this project's reading).
 use Rattle.std.specs.Prelude.{◌≡◌, ◌≢◌, ℕ, suc, ◌-◌, ◌==◌, ◌&&◌, not, Bool, true, false, if◌then◌else◌, List, [], ◌∷◌, ◌++◌, length, map, drop, replicate, flat_map, slice_get, Option, Some, None, codes}
-use Rattle.std.specs.List.{list_any, range_with_len}
-use Rattle.pld_base.specs.Bits.{is_on}
-use Rattle.pld_base.specs.Points.{Levels}
-use Rattle.pld_base.specs.Logic.{Logic}
-use Rattle.jedec_file.specs.Fields.{is_among}
-use Rattle.pld_machine.specs.Steps.{Run}
+use Rattle.device_sim.specs.Prelude.{list_any, range_with_len, is_on, Levels, Logic, is_among, Run}
 use Rattle.device_sim.specs.declared.report.Mismatch.{Mismatch}
 
 -- ---- outside levels

@@ -1,12 +1,9 @@
 -- How the vectors' run is computed, one vector after another. These are private helpers: no public clause cites
 -- them.
 use Rattle.std.specs.Prelude.{◌≡◌, ℕ, Bool, if◌then◌else◌, Option, None, Some, List, [], ◌∷◌, map, take, flat_map}
-use Rattle.pld_base.specs.declared.point.Trace.{Trace}
+use Rattle.device_sim.specs.Prelude.{Trace, Levels, Lookups, logic_of, power_up}
 use Rattle.pld_base.specs.declared.point.Vector.{Vector}
-use Rattle.pld_base.specs.Points.{Levels}
-use Rattle.pld_machine.specs.Lookups.{Lookups, logic_of}
 use Rattle.pld_machine.specs.Settling.{rest_of, step_of}
-use Rattle.pld_machine.specs.Steps.{power_up}
 use Rattle.device_sim.specs.declared.report.Mismatch.{Mismatch}
 use Rattle.device_sim.specs.Traced.{IsShown}
 use Rattle.device_sim.specs.VectorRun.{level_before, level_turned, outsides_of, mismatches_of}

@@ -1,8 +1,7 @@
 //! The characters of test vectors (JESD3-C, test vector field).
 
 ghost use Rattle.std.specs.Prelude.{◌≡◌, ◌<◌, ◌≤◌, ◌^◌, codes, length, position};
-ghost use Rattle.std.specs.List.{list_any};
-ghost use Rattle.jedec_file.specs.Fields.{is_among};
+ghost use Rattle.device_sim.specs.Prelude.{list_any, is_among};
 ghost use Rattle.device_sim.specs.Simulated.{first_unsupported, is_unsupported};
 ghost use Rattle.device_sim.specs.VectorRun.{has_clock};
 ghost use Rattle.device_sim.specs.VectorSteps.{all_chars_at, chars_at, level_for};

@@ -1,7 +1,7 @@
 //! The outside levels of a vector.
 
 ghost use Rattle.std.specs.Prelude.{◌≡◌, ◌<◌, ◌≤◌, false, length, slice_set, true};
-ghost use Rattle.pld_base.specs.Bits.{bits};
+ghost use Rattle.device_sim.specs.Prelude.{bits};
 ghost use Rattle.device_sim.specs.VectorRun.{at_pins};
 ghost use Rattle.device_sim.specs.VectorSteps.{level_for};
 

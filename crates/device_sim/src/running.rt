@@ -1,10 +1,7 @@
 //! The run that test vectors drive, over any logic.
 
 ghost use Rattle.std.specs.Prelude.{◌≡◌, ◌<◌, ◌≤◌, ◌^◌, length, IfOk, Some, None, option_map};
-ghost use Rattle.std.specs.List.{list_any, range_with_len};
-ghost use Rattle.pld_base.specs.Bits.{bits};
-ghost use Rattle.pld_base.specs.Points.{levels_of};
-ghost use Rattle.pld_machine.specs.Order.{IsOrdered};
+ghost use Rattle.device_sim.specs.Prelude.{list_any, range_with_len, bits, levels_of, IsOrdered};
 ghost use Rattle.device_sim.specs.VectorRun.{outsides_of};
 ghost use Rattle.device_sim.specs.VectorSteps.{all_chars_at, last_after};
 ghost use Rattle.device_sim.specs.VectorSteps.{mismatches_after, point_after};

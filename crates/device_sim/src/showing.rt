@@ -1,9 +1,7 @@
 //! What the pins show at each vector of a run.
 
 ghost use Rattle.std.specs.Prelude.{◌≡◌, ◌<◌, ◌≤◌, ◌^◌, IfOk, None, length, take};
-ghost use Rattle.jedec_reader.specs.Contents.{contents};
-ghost use Rattle.pld_device.specs.Macrocells.{device_logic};
-ghost use Rattle.pld_machine.specs.Order.{IsOrdered};
+ghost use Rattle.device_sim.specs.Prelude.{contents, device_logic, IsOrdered};
 ghost use Rattle.device_sim.specs.Traced.{IsTraced};
 ghost use Rattle.device_sim.specs.VectorSteps.{ShownAfter, all_chars_at};
 

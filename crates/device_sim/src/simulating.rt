@@ -1,7 +1,7 @@
 //! The run of a fuse file's vectors.
 
 ghost use Rattle.std.specs.Prelude.{◌≡◌, ◌<◌, ◌^◌, length, IfOk, IfErr};
-ghost use Rattle.jedec_reader.specs.Contents.{contents};
+ghost use Rattle.device_sim.specs.Prelude.{contents};
 ghost use Rattle.device_sim.specs.Simulated.{IsSimulated, IsSimFault, IsTheOnlyList};
 
 use crate::chars::first_unsupported;

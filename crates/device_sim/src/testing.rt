@@ -1,10 +1,7 @@
 //! What is found at the pins of a point, against a vector's characters.
 
 ghost use Rattle.std.specs.Prelude.{ℕ, ◌≡◌, ◌==◌, ◌&&◌, ◌+◌, ◌++◌, ◌<◌, ◌≤◌, length, not, IfOk};
-ghost use Rattle.pld_base.specs.Bits.{bits, is_on};
-ghost use Rattle.pld_base.specs.Points.{levels_of};
-ghost use Rattle.pld_machine.specs.Lookups.{logic_of};
-ghost use Rattle.pld_machine.specs.Order.{HasPins};
+ghost use Rattle.device_sim.specs.Prelude.{bits, is_on, levels_of, logic_of, HasPins};
 ghost use Rattle.device_sim.specs.VectorRun.{found, if_mismatch, is_tested, vector_mismatches};
 
 use crate::report::Mismatch;

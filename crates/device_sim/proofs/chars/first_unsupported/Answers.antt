@@ -1,6 +1,5 @@
 use Rattle.std.proofs.Common.{◌+◌, sym, ◌∙◌, ap}
-use Rattle.std.specs.List.{position}
-use Rattle.device_sim.specs.Simulated.{is_unsupported}
+use Rattle.device_sim.proofs.Common.{position, is_unsupported}
 use Rattle.device_sim.proofs.FirstUnsupported.{found_first, found_later}
 use Rattle.device_sim.proofs.chars.first_unsupported.Goals as goal
 

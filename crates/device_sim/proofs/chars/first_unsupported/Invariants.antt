@@ -1,6 +1,5 @@
 use Rattle.std.proofs.Common.{◌≡◌, ◌+◌, drop}
-use Rattle.device_sim.specs.Simulated.{first_unsupported}
-use Rattle.device_sim.specs.VectorSteps.{all_chars_at}
+use Rattle.device_sim.proofs.Common.{first_unsupported, all_chars_at}
 use Rattle.device_sim.proofs.chars.first_unsupported.Given as goal
 
 abbrev pub invariant-loop-index : goal.invariant-loop-index

@@ -1,6 +1,5 @@
 use Rattle.std.proofs.Common.{◌<◌, length, inl, inr, sym, ◌∙◌, arith}
-use Rattle.std.proofs.lemmas.Bool.{cases_Bool}
-use Rattle.device_sim.specs.VectorSteps.{level_for}
+use Rattle.device_sim.proofs.Common.{cases_Bool, level_for}
 use Rattle.device_sim.proofs.Outsides.{at_pins_none, at_pins_more, at_pins_off}
 use Rattle.device_sim.proofs.outside.outside_of.Goals as goal
 

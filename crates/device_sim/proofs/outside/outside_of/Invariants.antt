@@ -1,7 +1,5 @@
 use Rattle.std.proofs.Common.{◌≡◌, take}
-use Rattle.pld_base.specs.Bits.{bits}
-use Rattle.device_sim.specs.VectorRun.{at_pins}
-use Rattle.device_sim.specs.VectorSteps.{level_for}
+use Rattle.device_sim.proofs.Common.{bits, at_pins, level_for}
 use Rattle.device_sim.proofs.outside.outside_of.Given as goal
 
 abbrev pub invariant-loop-index : goal.invariant-loop-index

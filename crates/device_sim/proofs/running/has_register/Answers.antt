@@ -1,5 +1,5 @@
 use Rattle.std.proofs.Common.{sym, ◌∙◌, arith}
-use Rattle.device_logic.proofs.Runs.{any_at, any_none}
+use Rattle.device_sim.proofs.Common.{any_at, any_none}
 use Rattle.device_sim.proofs.running.has_register.Goals as goal
 
 pub returns-then-stores : goal.returns-then-stores

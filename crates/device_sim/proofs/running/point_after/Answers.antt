@@ -1,8 +1,4 @@
-use Rattle.pld_base.specs.Bits.{bits}
-use Rattle.pld_base.specs.Points.{levels_of}
-use Rattle.pld_base.proofs.BitLemmas.{length-bits}
-use Rattle.pld_machine.proofs.OneRun.{steps_once}
-use Rattle.device_sim.specs.VectorSteps.{point_after}
+use Rattle.device_sim.proofs.Common.{bits, levels_of, length-bits, steps_once, point_after}
 use Rattle.device_sim.proofs.PowerUp.{comes_to_rest}
 use Rattle.device_sim.proofs.running.point_after.Goals as goal
 

@@ -1,5 +1,5 @@
 use Rattle.std.proofs.Common.{refl}
-use Rattle.device_sim.specs.VectorRun.{outsides_of}
+use Rattle.device_sim.proofs.Common.{outsides_of}
 use Rattle.device_sim.proofs.running.point_in_steps.Goals as goal
 
 pub returns-then-has_clock : goal.returns-then-has_clock

@@ -1,5 +1,5 @@
 use Rattle.std.proofs.Common.{Some, option_map, sym, ap, ◌∙◌}
-use Rattle.pld_base.specs.Points.{Levels, levels_of}
+use Rattle.device_sim.proofs.Common.{Levels, levels_of}
 use Rattle.device_sim.proofs.PowerUp.{comes_to_rest}
 use Rattle.device_sim.proofs.WithoutRegisters.{vector_is_rest}
 use Rattle.device_sim.proofs.running.point_of.Goals as goal

@@ -1,5 +1,5 @@
 use Rattle.std.proofs.Common.{option_map, arith}
-use Rattle.pld_base.specs.Points.{levels_of}
+use Rattle.device_sim.proofs.Common.{levels_of}
 use Rattle.device_sim.proofs.Vectors.{more_vectors, after_all}
 use Rattle.device_sim.proofs.running.run_vectors.Goals as goal
 

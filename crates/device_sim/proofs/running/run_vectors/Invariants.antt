@@ -1,6 +1,5 @@
 use Rattle.std.proofs.Common.{◌≡◌, ◌+◌, ◌++◌, None, option_map, drop}
-use Rattle.pld_base.specs.Points.{levels_of}
-use Rattle.device_sim.specs.VectorSteps.{all_chars_at, mismatches_after}
+use Rattle.device_sim.proofs.Common.{levels_of, all_chars_at, mismatches_after}
 use Rattle.device_sim.proofs.running.run_vectors.Given as goal
 
 abbrev pub invariant-loop-index : goal.invariant-loop-index

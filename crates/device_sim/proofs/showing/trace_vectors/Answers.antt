@@ -1,6 +1,6 @@
 -- Each vector adds what it shows.
 use Rattle.std.proofs.Common.{option_map}
-use Rattle.pld_base.specs.Points.{levels_of}
+use Rattle.device_sim.proofs.Common.{levels_of}
 use Rattle.device_sim.proofs.Shown.{more_shown, all_shown}
 use Rattle.device_sim.proofs.showing.trace_vectors.Goals as goal
 

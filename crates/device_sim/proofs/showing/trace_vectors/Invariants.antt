@@ -1,8 +1,6 @@
 -- What is shown of the vectors from here on makes what is shown of all.
 use Rattle.std.proofs.Common.{List, ◌++◌, None, option_map, drop}
-use Rattle.pld_base.specs.declared.point.Trace.{Trace}
-use Rattle.pld_base.specs.Points.{levels_of}
-use Rattle.device_sim.specs.VectorSteps.{all_chars_at, ShownAfter}
+use Rattle.device_sim.proofs.Common.{Trace, levels_of, all_chars_at, ShownAfter}
 use Rattle.device_sim.proofs.showing.trace_vectors.Given as goal
 
 abbrev pub invariant-loop-vector : goal.invariant-loop-vector

@@ -1,6 +1,6 @@
 -- The traces of a loaded device are those of the device.
 use Rattle.std.proofs.Common.{List, take, ap, ◌∙◌}
-use Rattle.pld_base.specs.declared.point.Vector.{Vector}
+use Rattle.device_sim.proofs.Common.{Vector}
 use Rattle.device_sim.proofs.Shown.{is_device_trace}
 use Rattle.device_sim.proofs.showing.traces.Goals as goal
 

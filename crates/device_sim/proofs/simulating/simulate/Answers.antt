@@ -1,7 +1,6 @@
 use Rattle.std.proofs.Common.{length, sym, ◌∙◌, ap}
-use Rattle.std.proofs.lemmas.List.{length-map}
+use Rattle.device_sim.proofs.Common.{length-map, chars_of}
 use Rattle.std.proofs.lemmas.Result.{err_from_is_err_and}
-use Rattle.jedec_file.specs.TestVectors.{chars_of}
 use Rattle.jedec_reader.specs.Contents.{contents}
 use Rattle.device_sim.proofs.Loaded.{is_device_run, only_device_run, none_unsupported, load_fault}
 use Rattle.device_sim.proofs.simulating.simulate.Goals as goal

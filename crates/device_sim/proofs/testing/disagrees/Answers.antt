@@ -1,5 +1,4 @@
-use Rattle.pld_base.specs.Bits.{bits, is_on}
-use Rattle.pld_base.proofs.BitLemmas.{is_on-and}
+use Rattle.device_sim.proofs.Common.{bits, is_on, is_on-and}
 use Rattle.device_sim.proofs.TestedPins.{high_is, low_is}
 use Rattle.device_sim.proofs.testing.disagrees.Goals as goal
 

@@ -1,8 +1,5 @@
 use Rattle.std.proofs.Common.{◌≡◌, ◌+◌, ◌<◌, ◌++◌, length, get_or, ◌∙◌, arith}
-use Rattle.pld_base.specs.Bits.{bits, is_on}
-use Rattle.pld_base.specs.Points.{levels_of}
-use Rattle.pld_machine.specs.Lookups.{logic_of}
-use Rattle.device_sim.specs.VectorRun.{found, found_at, mismatch_at, vector_mismatches}
+use Rattle.device_sim.proofs.Common.{bits, is_on, levels_of, logic_of, found, found_at, mismatch_at, vector_mismatches}
 use Rattle.device_sim.proofs.FoundAt.{found_is, more_pins}
 use Rattle.device_sim.proofs.testing.test_pins.Goals as goal
 

@@ -1,7 +1,5 @@
 use Rattle.std.proofs.Common.{◌≡◌, ◌+◌, ◌++◌, drop}
-use Rattle.pld_base.specs.Points.{levels_of}
-use Rattle.pld_machine.specs.Lookups.{logic_of}
-use Rattle.device_sim.specs.VectorRun.{vector_mismatches}
+use Rattle.device_sim.proofs.Common.{levels_of, logic_of, vector_mismatches}
 use Rattle.device_sim.proofs.testing.test_pins.Given as goal
 
 abbrev pub invariant-loop-index : goal.invariant-loop-index

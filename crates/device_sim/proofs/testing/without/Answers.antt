@@ -1,6 +1,5 @@
 use Rattle.std.proofs.Common.{refl}
-use Rattle.std.specs.Int.{bit_not, w32}
-use Rattle.pld_base.proofs.BitLemmas.{is_on-and}
+use Rattle.device_sim.proofs.Common.{bit_not, w32, is_on-and}
 use Rattle.device_sim.proofs.TestedPins.{is_on-not}
 use Rattle.device_sim.proofs.testing.without.Goals as goal
 
