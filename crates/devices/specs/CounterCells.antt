@@ -1,9 +1,6 @@
 -- A small design on the PAL16 devices with registers, and what its cells show (this project's example).
 use Rattle.std.specs.Prelude.{ℕ, Bool, true, false, List, [], ◌∷◌}
-use Rattle.pld_base.specs.Points.{Levels}
-use Rattle.pld_device.specs.DrawnFuses.{Drawn, drawn_array}
-use Rattle.pld_device.specs.ShownCells.{ShownRow, shown, point_with}
-use Rattle.pld_device.specs.Table.{Table}
+use Rattle.devices.specs.Prelude.{Levels, Drawn, drawn_array, ShownRow, shown, point_with, Table}
 
 -- a row of opened fuses and one of pin 2; a counter of two bits in the rows of pins 17 and 16: !Q0, then !Q0 & !Q1 and
 -- Q0 & Q1

@@ -1,7 +1,5 @@
 -- The laws of the devices' tables by their names.
-use Rattle.pld_base.specs.declared.device_name.DeviceName.{DeviceName}
-use Rattle.pld_base.specs.declared.device_name.DeviceName.TheVariants.{P16L8, P16R4, P16R6, P16R8, GAL22V10, GAL16V8C, GAL16V8R4, GAL16V8R6, GAL16V8R8}
-use Rattle.pld_device.specs.Laws.{IsDevice}
+use Rattle.devices.specs.Prelude.{DeviceName, P16L8, P16R4, P16R6, P16R8, GAL22V10, GAL16V8C, GAL16V8R4, GAL16V8R6, GAL16V8R8, IsDevice}
 use Rattle.devices.specs.Pal16L8Laws.{pal16l8_sound}
 use Rattle.devices.specs.Pal16RLaws.{pal16r4_sound, pal16r6_sound, pal16r8_sound}
 use Rattle.devices.specs.Gal22V10Laws.{gal22v10_sound}

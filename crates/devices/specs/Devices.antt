@@ -1,7 +1,5 @@
 -- The tables of the devices by their names (the devices' datasheets).
-use Rattle.pld_base.specs.declared.device_name.DeviceName.{DeviceName}
-use Rattle.pld_base.specs.declared.device_name.DeviceName.TheVariants.{P16L8, P16R4, P16R6, P16R8, GAL22V10, GAL16V8C, GAL16V8R4, GAL16V8R6, GAL16V8R8}
-use Rattle.pld_device.specs.Table.{Table}
+use Rattle.devices.specs.Prelude.{DeviceName, P16L8, P16R4, P16R6, P16R8, GAL22V10, GAL16V8C, GAL16V8R4, GAL16V8R6, GAL16V8R8, Table}
 use Rattle.devices.specs.Pal16L8Table.{pal16l8}
 use Rattle.devices.specs.Pal16RTables.{pal16r4, pal16r6, pal16r8}
 use Rattle.devices.specs.Gal22V10Table.{gal22v10}

@@ -1,7 +1,6 @@
 -- The laws of the GAL16V8's tables, each by one computation.
 use Rattle.std.proofs.Common.{refl}
-use Rattle.pld_device.specs.Laws.{IsDevice}
-use Rattle.pld_device.specs.LawTests.{device_by_computation}
+use Rattle.devices.specs.Prelude.{IsDevice, device_by_computation}
 use Rattle.devices.specs.Gal16V8Tables.{gal16v8c, gal16v8r4, gal16v8r6, gal16v8r8}
 
 pub gal16v8c_sound : IsDevice gal16v8c

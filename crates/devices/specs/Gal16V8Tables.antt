@@ -1,15 +1,8 @@
 -- The tables of the GAL16V8 in complex mode, and in registered mode with the registers of the PAL16R devices (GAL16V8 datasheet,
 -- logic diagrams and pinout; which of its control fuses means what is this project's table).
 use Rattle.std.specs.Prelude.{ℕ, suc, Bool, true, false, not, Option, None, Some, List, [], ◌∷◌, ◌++◌, map}
-use Rattle.std.specs.List.{range_with_len}
-use Rattle.pld_base.specs.declared.device_name.DeviceName.{DeviceName}
-use Rattle.pld_base.specs.declared.device_name.DeviceName.TheVariants.{GAL16V8C, GAL16V8R4, GAL16V8R6, GAL16V8R8}
-use Rattle.pld_device.specs.declared.carry.Carry.{Carry}
-use Rattle.pld_device.specs.declared.cell.Cell.{Cell}
-use Rattle.pld_device.specs.declared.flip.Flip.TheVariants.{BeforeRegister}
-use Rattle.pld_device.specs.declared.fuse_bit.FuseBit.{FuseBit}
+use Rattle.devices.specs.Prelude.{range_with_len, DeviceName, GAL16V8C, GAL16V8R4, GAL16V8R6, GAL16V8R8, Carry, Cell, BeforeRegister, FuseBit, Table}
 use Rattle.pld_device.specs.Registers.{stores_by}
-use Rattle.pld_device.specs.Table.{Table}
 use Rattle.devices.specs.Pal16L8Table.{pal16l8_cells, pal16l8_pairs}
 use Rattle.devices.specs.Pal16RTables.{pal16r4_cells, pal16r6_cells, pal16r8_cells, registered_pairs}
 

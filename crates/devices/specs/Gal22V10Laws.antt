@@ -1,7 +1,6 @@
 -- The GAL22V10's table keeps the laws of devices, by computation (this project's rule).
 use Rattle.std.proofs.Common.{refl}
-use Rattle.pld_device.specs.Laws.{IsDevice}
-use Rattle.pld_device.specs.LawTests.{device_by_computation}
+use Rattle.devices.specs.Prelude.{IsDevice, device_by_computation}
 use Rattle.devices.specs.Gal22V10Table.{gal22v10}
 
 -- its laws

@@ -1,14 +1,7 @@
 -- The table of the GAL22V10 (GAL22V10 datasheet, logic diagram, macrocell diagram and pinout).
 use Rattle.std.specs.Prelude.{ℕ, ◌+◌, false, Option, Some, List, [], ◌∷◌}
-use Rattle.pld_base.specs.declared.device_name.DeviceName.TheVariants.{GAL22V10}
-use Rattle.pld_device.specs.declared.carry.Carry.{Carry}
+use Rattle.devices.specs.Prelude.{GAL22V10, Carry, Cell, Row, AfterRegister, FuseBit, Either, Table}
 use Rattle.pld_device.specs.declared.carry.Carry.TheVariants as carry
-use Rattle.pld_device.specs.declared.cell.Cell.{Cell}
-use Rattle.pld_device.specs.declared.enable.Enable.TheVariants.{Row}
-use Rattle.pld_device.specs.declared.flip.Flip.TheVariants.{AfterRegister}
-use Rattle.pld_device.specs.declared.fuse_bit.FuseBit.{FuseBit}
-use Rattle.pld_device.specs.declared.kinds.Kinds.TheVariants.{Either}
-use Rattle.pld_device.specs.Table.{Table}
 
 -- a cell on a pin: a row enables it, and behind that one stand its data rows, as many as it has room
 abbrev pub either_cell : (pin enable room : ℕ) → Cell

@@ -11,4 +11,5 @@ pub mod Pal16L8Laws
 pub mod Pal16L8Table
 pub mod Pal16RLaws
 pub mod Pal16RTables
+pub mod Prelude
 pub mod SmallCells

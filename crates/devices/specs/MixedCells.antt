@@ -1,11 +1,6 @@
 -- A small design on the GAL16V8 in each mode, and what its cells show (this project's example).
 use Rattle.std.specs.Prelude.{ℕ, ◌==◌, Bool, true, false, List, [], ◌∷◌, ◌++◌, map, replicate, take, drop}
-use Rattle.std.specs.List.{list_any, range_with_len}
-use Rattle.pld_base.specs.Points.{Levels}
-use Rattle.pld_device.specs.declared.fuse_bit.FuseBit.{FuseBit}
-use Rattle.pld_device.specs.DrawnFuses.{Drawn, drawn_array}
-use Rattle.pld_device.specs.ShownCells.{ShownRow, shown, point_with}
-use Rattle.pld_device.specs.Table.{Table}
+use Rattle.devices.specs.Prelude.{list_any, range_with_len, Levels, FuseBit, Drawn, drawn_array, ShownRow, shown, point_with, Table}
 
 -- so many levels, of which those at these places are 1
 abbrev pub levels_at : (count : ℕ) → List ℕ → List Bool

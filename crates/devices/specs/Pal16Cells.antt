@@ -1,12 +1,6 @@
 -- The cells of the PAL16 devices, and what all their tables share (the devices' datasheets, logic diagrams).
 use Rattle.std.specs.Prelude.{ℕ, ◌+◌, List, [], None}
-use Rattle.pld_base.specs.declared.device_name.DeviceName.{DeviceName}
-use Rattle.pld_device.specs.declared.carry.Carry.{Carry}
-use Rattle.pld_device.specs.declared.cell.Cell.{Cell}
-use Rattle.pld_device.specs.declared.enable.Enable.TheVariants.{Row, PinLow}
-use Rattle.pld_device.specs.declared.flip.Flip.TheVariants.{Always}
-use Rattle.pld_device.specs.declared.kinds.Kinds.TheVariants.{Combinational, Registered}
-use Rattle.pld_device.specs.Table.{Table}
+use Rattle.devices.specs.Prelude.{DeviceName, Carry, Cell, Row, PinLow, Always, Combinational, Registered, Table}
 
 -- a cell on a pin: its first row enables it, the seven rows after that are its data
 abbrev pub combinational_cell : (pin row : ℕ) → Cell

@@ -1,7 +1,6 @@
 -- The PAL16L8's table keeps the laws of devices, by computation (this project's rule).
 use Rattle.std.proofs.Common.{refl}
-use Rattle.pld_device.specs.Laws.{IsDevice}
-use Rattle.pld_device.specs.LawTests.{device_by_computation}
+use Rattle.devices.specs.Prelude.{IsDevice, device_by_computation}
 use Rattle.devices.specs.Pal16L8Table.{pal16l8}
 
 -- its laws

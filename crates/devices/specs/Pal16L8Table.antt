@@ -1,10 +1,7 @@
 -- The table of the PAL16L8 (PAL16L8 datasheet, logic diagram and pinout).
 use Rattle.std.specs.Prelude.{List, [], ◌∷◌}
-use Rattle.pld_base.specs.declared.device_name.DeviceName.TheVariants.{P16L8}
-use Rattle.pld_device.specs.declared.carry.Carry.{Carry}
+use Rattle.devices.specs.Prelude.{P16L8, Carry, Cell, Table}
 use Rattle.pld_device.specs.declared.carry.Carry.TheVariants as carry
-use Rattle.pld_device.specs.declared.cell.Cell.{Cell}
-use Rattle.pld_device.specs.Table.{Table}
 pub use Rattle.devices.specs.Pal16Cells.{combinational_cell}
 use Rattle.devices.specs.Pal16Cells.{pal16}
 

@@ -1,7 +1,6 @@
 -- The tables of the PAL16R devices keep the laws of devices, by computation (this project's rule).
 use Rattle.std.proofs.Common.{refl}
-use Rattle.pld_device.specs.Laws.{IsDevice}
-use Rattle.pld_device.specs.LawTests.{device_by_computation}
+use Rattle.devices.specs.Prelude.{IsDevice, device_by_computation}
 use Rattle.devices.specs.Pal16RTables.{pal16r4, pal16r6, pal16r8}
 
 -- the laws of the PAL16R4

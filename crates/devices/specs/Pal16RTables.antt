@@ -1,10 +1,7 @@
 -- The tables of the PAL16R4, PAL16R6 and PAL16R8 (their datasheets, logic diagrams and pinouts).
 use Rattle.std.specs.Prelude.{List, [], ◌∷◌}
-use Rattle.pld_base.specs.declared.device_name.DeviceName.TheVariants.{P16R4, P16R6, P16R8}
-use Rattle.pld_device.specs.declared.carry.Carry.{Carry}
+use Rattle.devices.specs.Prelude.{P16R4, P16R6, P16R8, Carry, Cell, Table}
 use Rattle.pld_device.specs.declared.carry.Carry.TheVariants as carry
-use Rattle.pld_device.specs.declared.cell.Cell.{Cell}
-use Rattle.pld_device.specs.Table.{Table}
 use Rattle.devices.specs.Pal16Cells.{combinational_cell, registered_cell, pal16}
 
 -- what the columns carry, two pairs a line: columns 0 to 3, 4 to 7, and so on. Each cell is carried by a pair;

@@ -1,10 +1,7 @@
 -- Small designs on the GAL22V10, and what its cells show (this project's examples).
 use Rattle.std.specs.Prelude.{ℕ, ◌==◌, Bool, true, false, List, [], ◌∷◌, ◌++◌, map, replicate, codes}
-use Rattle.std.specs.List.{list_any}
-use Rattle.pld_base.specs.Points.{Levels}
-use Rattle.pld_device.specs.DrawnFuses.{Drawn, drawn_array}
+use Rattle.devices.specs.Prelude.{list_any, Levels, Drawn, drawn_array, ShownRow, shown, point_with}
 use Rattle.pld_device.specs.Macrocells.{row_if_any}
-use Rattle.pld_device.specs.ShownCells.{ShownRow, shown, point_with}
 use Rattle.devices.specs.Gal22V10Table.{gal22v10}
 
 -- the control fuses S0 and S1 of the cells from pin 23 on, written as levels, and the signature

@@ -1,8 +1,7 @@
 //! Laws of the devices by their names, as contracts.
 
 ghost use Rattle.std.specs.Prelude.{◌≡◌};
-ghost use Rattle.pld_base.specs.declared.device_name.DeviceName.{DeviceName};
-ghost use Rattle.pld_device.specs.Laws.{IsDevice};
+ghost use Rattle.devices.specs.Prelude.{DeviceName, IsDevice};
 ghost use Rattle.devices.specs.Devices.{table_of};
 
 use crate::on_device;

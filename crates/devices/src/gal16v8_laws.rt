@@ -1,6 +1,6 @@
 //! Laws of the GAL16V8, as the contracts of a call that does nothing.
 
-ghost use Rattle.pld_device.specs.ShownCells.{ShowsEach};
+ghost use Rattle.devices.specs.Prelude.{ShowsEach};
 ghost use Rattle.devices.specs.Gal16V8Tables.{gal16v8c, gal16v8r4, gal16v8r6, gal16v8r8};
 ghost use Rattle.devices.specs.MixedCells.{c_shows, mixed, r4_shows, r6_shows, r8_shows};
 

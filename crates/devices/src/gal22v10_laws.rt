@@ -1,8 +1,8 @@
 //! Laws of the GAL22V10, as the contracts of calls that do nothing.
 
 ghost use Rattle.std.specs.Prelude.{◌≡◌, Bool, true, false, List, [], ◌∷◌, map};
+ghost use Rattle.devices.specs.Prelude.{ShowsEach};
 ghost use Rattle.pld_device.specs.OpenedFuses.{opened_of};
-ghost use Rattle.pld_device.specs.ShownCells.{ShowsEach};
 ghost use Rattle.devices.specs.Gal22V10Table.{gal22v10};
 ghost use Rattle.devices.specs.SmallCells.{counter, counter_shows, mixed, mixed_shows};
 ghost use Rattle.devices.specs.SmallCells.{all_low, is_preset, is_reset, pins_2_3_22, pins_2_4};

@@ -1,8 +1,7 @@
 //! Laws of the PAL16 devices, as the contracts of calls that do nothing.
 
 ghost use Rattle.std.specs.Prelude.{◌≡◌, ◌<◌, ◌*◌, ◌-◌, ℕ};
-ghost use Rattle.pld_device.specs.ShownCells.{ShowsEach};
-ghost use Rattle.pld_device.specs.Table.{cell_at};
+ghost use Rattle.devices.specs.Prelude.{ShowsEach, cell_at};
 ghost use Rattle.devices.specs.CounterCells.{counter, r4_shows, r6_shows, r8_shows};
 ghost use Rattle.devices.specs.Pal16Cells.{combinational_cell};
 ghost use Rattle.devices.specs.Pal16L8Table.{pal16l8};
