@@ -1,48 +1,20 @@
 -- The parts of units that statements make.
 use Rattle.std.proofs.Common.{◌≡◌, ℕ, zero, suc, ◌+◌, ◌<◌, ◌≤◌, Bool, true, false, Option, None, Some, List, [], ◌∷◌, All, Result, Err, length, reverse, get_or, refl, sym, ap, ◌∙◌, subst, subst₂, arith}
-use Rattle.std.proofs.lemmas.List.{length-map, length-replicate}
+use Rattle.equations.proofs.Common.{length-map, length-replicate, Place, Table, ExprId, Node, arena, formula_at, Made, Formula, Const, Names, entries_of, first_refusal, Tree, term_nodes, choice_nodes, condition_of, guard_else, Context, formulas, resized, met_by, met_word, term_of, Contribution, Contributions, SectionFault, expression_found, section_order, IsContextOf, IsShaped, Keeps, refusal_of, bits_at, positions, context_for, NoMemory, StopsWith, IsBuilt, Builds, IsBit, AreBits, CountedUnit, part, builds_stop, stops_on, kept_inside, kept_formula, one_unit, two_parts, leaves_nodes, limit_here, at_unit}
 use Rattle.std.proofs.lemmas.Option.{slice_get-get_or, slice_get_within}
 use Rattle.std.proofs.lemmas.List.Sorted.{IsPermutation-reverse, All-permutation}
-use Rattle.pld_base.specs.declared.place.Place.{Place}
-use Rattle.pld_device.specs.Table.{Table}
-use Rattle.bit_expr.specs.declared.node.ExprId.{ExprId}
-use Rattle.bit_expr.specs.declared.node.Node.{Node}
 use Rattle.bit_expr.specs.declared.fault.ExprFault.{ExprFault}
 use Rattle.bit_expr.specs.declared.fault.ExprFault.TheVariants as made
-use Rattle.bit_expr.specs.Arena.{arena, formula_at}
-use Rattle.bit_expr.specs.Folding.{Made}
-use Rattle.bit_expr.specs.Formulas.{Formula, Const}
-use Rattle.abel_tree.specs.declared.names.Names.{Names}
-use Rattle.abel_tree.specs.Entries.{entries_of}
-use Rattle.abel_tree.specs.FirstRefusal.{first_refusal}
-use Rattle.abel_tree.specs.Tree.{Tree}
 use Rattle.abel_meaning.specs.Contributions as meant
-use Rattle.abel_meaning.specs.CountedNodes.{term_nodes, choice_nodes, condition_of, guard_else}
-use Rattle.abel_meaning.specs.Designs.{Context}
 use Rattle.abel_meaning.specs.BitWords.{Word}
-use Rattle.abel_meaning.specs.FormulaBits.{formulas, resized, met_by, met_word}
-use Rattle.abel_meaning.specs.Terms.{term_of}
 use Rattle.abel_meaning.specs.Numbers.{Value, Single, digits_low_first}
 use Rattle.abel_meaning.proofs.DigitLaws.{length_digits}
 use Rattle.abel_meaning.proofs.RelationWords.{map_reverse}
-use Rattle.set_expr.specs.declared.contributions.Contribution.{Contribution}
-use Rattle.set_expr.specs.declared.contributions.Contributions.{Contributions}
-use Rattle.set_expr.specs.declared.fault.SectionFault.{SectionFault}
 use Rattle.set_expr.specs.declared.shaped.Shape.{Shape}
 use Rattle.set_expr.specs.declared.shaped.Shape.TheVariants as shape
 use Rattle.set_expr.specs.declared.shaped.Shaped.{Shaped}
-use Rattle.set_expr.specs.FoundNames.{expression_found}
-use Rattle.set_expr.specs.SectionOrder.{section_order}
 use Rattle.set_expr.specs.Shapes.{HasShape}
-use Rattle.set_expr.specs.Answer.{IsContextOf, IsShaped, Keeps, refusal_of, bits_at, positions}
-use Rattle.set_expr.specs.Contexts.{context_for}
 use Rattle.expr_bits.specs.ExpressionBits.{MakesBits}
-use Rattle.section_targets.specs.Building.{NoMemory, StopsWith, IsBuilt, Builds, IsBit, AreBits}
-use Rattle.section_targets.specs.Units.{CountedUnit, part}
-use Rattle.section_targets.proofs.Built.{builds_stop, stops_on, kept_inside, kept_formula}
-use Rattle.section_targets.proofs.OneUnit.{one_unit, two_parts}
-use Rattle.section_targets.proofs.Parts.{leaves_nodes, limit_here}
-use Rattle.equations.specs.Builds.{at_unit}
 
 pub is_context : (t : Table) (n : Names) → IsContextOf t n (context_for t n)
 is_context t n = record { device = refl; names = refl; known = refl }

@@ -1,43 +1,9 @@
 -- Units of statements that were built one after another.
 use Rattle.std.proofs.Common.{◌≡◌, ◌+◌, Bool, Option, Some, List, [], ◌∷◌, ◌++◌, Result, length, map, refl, sym, ap, ◌∙◌, subst, arith}
-use Rattle.std.proofs.lemmas.List.{length-map}
-use Rattle.pld_base.specs.declared.place.Place.{Place}
-use Rattle.bit_expr.specs.declared.node.ExprId.{ExprId}
-use Rattle.bit_expr.specs.declared.node.Node.{Node}
-use Rattle.bit_expr.specs.Arena.{arena, formula_at}
-use Rattle.bit_expr.specs.Formulas.{Formula}
-use Rattle.abel_tree.specs.declared.words.Extension.{Extension}
-use Rattle.abel_tree.specs.declared.words.Sign.{Sign}
-use Rattle.abel_tree.specs.Assigned.{is_clocked}
-use Rattle.abel_tree.specs.Tree.{Tree}
+use Rattle.equations.proofs.Common.{length-map, Place, ExprId, Node, arena, formula_at, Formula, Extension, Sign, is_clocked, Tree, guarded, guard_nodes, term_nodes, value_nodes, Context, formulas, given_each, targets_of, term_of, Contribution, Contributions, Guard, SectionFault, view_guard, view_gives, Aim, Manner, Found, IsBuilt, Builds, AreBits, places_of, aims_refused, TargetFound, value_width, part, units_nodes, left_empty, right_empty, builds_then, AreParts, one_unit, positions_of, assign_refused, assigned_aims, taken_refused, unless_any}
 use Rattle.abel_meaning.specs.Contributions as meant
-use Rattle.abel_meaning.specs.Contributions.{guarded}
-use Rattle.abel_meaning.specs.CountedNodes.{guard_nodes, term_nodes, value_nodes}
-use Rattle.abel_meaning.specs.Designs.{Context}
-use Rattle.abel_meaning.specs.FormulaBits.{formulas}
-use Rattle.abel_meaning.specs.Statements.{given_each}
-use Rattle.abel_meaning.specs.Targets.{targets_of}
-use Rattle.abel_meaning.specs.Terms.{term_of}
-use Rattle.set_expr.specs.declared.contributions.Contribution.{Contribution}
-use Rattle.set_expr.specs.declared.contributions.Contributions.{Contributions}
-use Rattle.set_expr.specs.declared.contributions.Guard.{Guard}
-use Rattle.set_expr.specs.declared.fault.SectionFault.{SectionFault}
-use Rattle.set_expr.specs.Given.{view_guard, view_gives}
-use Rattle.section_targets.specs.declared.aim.Aim.{Aim}
 use Rattle.section_targets.specs.declared.giving.Giving.{Giving}
-use Rattle.section_targets.specs.declared.manner.Manner.{Manner}
-use Rattle.set_expr.specs.Refusals.{Found}
-use Rattle.section_targets.specs.Building.{IsBuilt, Builds, AreBits}
 use Rattle.section_targets.specs.GivenUnits.{one_given, each_given, each_part, guard_bit}
-use Rattle.section_targets.specs.Given.{places_of}
-use Rattle.section_targets.specs.Manners.{aims_refused}
-use Rattle.section_targets.specs.TargetSignals.{TargetFound}
-use Rattle.section_targets.specs.ValueWidths.{value_width}
-use Rattle.section_targets.specs.Units.{part, units_nodes}
-use Rattle.section_targets.proofs.Built.{left_empty, right_empty, builds_then}
-use Rattle.section_targets.proofs.OneUnit.{AreParts, one_unit}
-use Rattle.section_targets.proofs.SideTerms.{positions_of}
-use Rattle.equations.specs.StatementUnits.{assign_refused, assigned_aims, taken_refused, unless_any}
 
 -- an arena and a list of contributions over it
 abbrev pub at : List Node → List Contribution → Contributions

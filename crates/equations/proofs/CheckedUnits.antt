@@ -1,36 +1,11 @@
 -- The first refusal of units of statements, part by part.
 use Rattle.std.proofs.Common.{◌≡◌, Bool, Option, None, Some, List, [], ◌∷◌, ◌++◌, length, refl, sym, ap, ap₂, ◌∙◌, subst, append-nil, rules}
 use Rattle.std.specs.Prelude.{option_map}
-use Rattle.pld_base.specs.declared.place.Place.{Place}
-use Rattle.pld_device.specs.Table.{Table}
-use Rattle.abel_tree.specs.declared.names.Names.{Names}
+use Rattle.equations.proofs.Common.{Place, Table, Names, Stmt, the_lemmas, Extension, Sign, is_clocked, earlier, first_refusal, first_append, AGroup, AWhen, NoElse, AnElse, otherwise_of, view, view_stmt, Context, known_of, SectionFault, IsContextOf, SumsUp, Found, section_order, Aim, Manner, aims_refused, TargetFound, CountedUnit, units_refused, value_refused, view_assign, view_list, view_when, assign_refused, assigned_aims, assigned_manners, taken_refused, unless_any}
 use Rattle.abel_tree.specs.declared.statements.Assign.{Assign}
-use Rattle.abel_tree.specs.declared.statements.Stmt.{Stmt, the_lemmas}
 use Rattle.abel_tree.specs.declared.statements.Stmt.TheVariants as stmt
 use Rattle.abel_tree.specs.declared.statements.When.{When}
-use Rattle.abel_tree.specs.declared.words.Extension.{Extension}
-use Rattle.abel_tree.specs.declared.words.Sign.{Sign}
-use Rattle.abel_tree.specs.Assigned.{is_clocked}
-use Rattle.abel_tree.specs.FirstRefusal.{earlier, first_refusal}
-use Rattle.abel_tree.proofs.FirstRefusals.{first_append}
-use Rattle.abel_tree.specs.Tree.{AGroup, AWhen, NoElse, AnElse, otherwise_of}
-use Rattle.abel_tree.specs.View.{view, view_stmt}
-use Rattle.abel_meaning.specs.Designs.{Context}
-use Rattle.abel_meaning.specs.Terms.{known_of}
 use Rattle.set_expr.specs.declared.checked.Checked.{Checked}
-use Rattle.set_expr.specs.declared.fault.SectionFault.{SectionFault}
-use Rattle.set_expr.specs.Answer.{IsContextOf}
-use Rattle.set_expr.specs.KnownNames.{SumsUp}
-use Rattle.set_expr.specs.Refusals.{Found}
-use Rattle.set_expr.specs.SectionOrder.{section_order}
-use Rattle.section_targets.specs.declared.aim.Aim.{Aim}
-use Rattle.section_targets.specs.declared.manner.Manner.{Manner}
-use Rattle.section_targets.specs.Manners.{aims_refused}
-use Rattle.section_targets.specs.TargetSignals.{TargetFound}
-use Rattle.section_targets.specs.Units.{CountedUnit, units_refused}
-use Rattle.section_targets.specs.ValueWidths.{value_refused}
-use Rattle.equations.specs.Checks.{view_assign, view_list, view_when}
-use Rattle.equations.specs.StatementUnits.{assign_refused, assigned_aims, assigned_manners, taken_refused, unless_any}
 
 abbrev first : List SectionFault → Option SectionFault
 first rs = first_refusal section_order rs

@@ -1,13 +1,9 @@
 -- What is refused of statements, by computation; the columns are counted by hand.
 use Rattle.std.specs.Prelude.{◌≡◌, true, None, Some, List, [], ◌∷◌, map}
 use Rattle.std.proofs.Common.{refl}
-use Rattle.bit_expr.specs.Formulas.{Const}
+use Rattle.equations.proofs.Common.{Const, Statement, statements_of, SectionFault, units_refused, units_of_statements}
 use Rattle.abel_tree.specs.declared.words.Extension.TheVariants as extension
-use Rattle.abel_tree.specs.Tree.{Statement, statements_of}
-use Rattle.set_expr.specs.declared.fault.SectionFault.{SectionFault}
 use Rattle.set_expr.specs.declared.fault.SectionFault.TheVariants.{MisplacedSpecial, BadWidth, NotAnOutput, MixedAssignment}
-use Rattle.section_targets.specs.Units.{units_refused}
-use Rattle.equations.specs.StatementUnits.{units_of_statements}
 use Rattle.equations.proofs.Written.{at, number, unknown, name, dotted, set, paren, inverse, both, assign, not_assign, clocked, when_then, when_else, design}
 
 -- a source and its refusals

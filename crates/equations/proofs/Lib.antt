@@ -1,6 +1,7 @@
 pub mod BuiltParts
 pub mod BuiltUnits
 pub mod CheckedUnits
+pub mod Common
 mod ExampleRefusals
 pub mod WalkedStatements
 pub mod WalkedUnits

@@ -1,24 +1,7 @@
 -- Walks over statements, part by part.
 use Rattle.std.proofs.Common.{◌≡◌, Option, None, Some, List, [], ◌∷◌, ◌++◌, refl, sym, ap, ap₂, ◌∙◌, subst, append-nil}
-use Rattle.pld_base.specs.declared.place.Place.{Place}
-use Rattle.bit_expr.specs.Formulas.{Formula}
-use Rattle.abel_tree.specs.Tree.{Tree, Statement, AnAssign, AWhen, AGroup, ADontCare, Otherwise, NoElse, AnElse, Statements, NoStatement, MoreStatements, statements_of}
+use Rattle.equations.proofs.Common.{Place, Formula, Tree, Statement, AnAssign, AWhen, AGroup, ADontCare, Otherwise, NoElse, AnElse, Statements, NoStatement, MoreStatements, statements_of, guarded, choice_nodes, condition_of, guard_then, guard_else, has_else, Context, formulas, statement_gives, else_gives, statements_give, SectionFault, Manner, Walked, AreFirsts, units_refused, Walks, refused_append, walks_then, walks_alike, walks_none, condition_unit, condition_refused, units_of_statement, units_of_else, units_of_statements, statement_manners, else_manners, statements_manners, statement_places, else_places, statements_places}
 use Rattle.abel_meaning.specs.Contributions as meant
-use Rattle.abel_meaning.specs.Contributions.{guarded}
-use Rattle.abel_meaning.specs.CountedNodes.{choice_nodes, condition_of, guard_then, guard_else, has_else}
-use Rattle.abel_meaning.specs.Designs.{Context}
-use Rattle.abel_meaning.specs.FormulaBits.{formulas}
-use Rattle.abel_meaning.specs.Statements.{statement_gives, else_gives, statements_give}
-use Rattle.set_expr.specs.declared.fault.SectionFault.{SectionFault}
-use Rattle.section_targets.specs.declared.manner.Manner.{Manner}
-use Rattle.section_targets.specs.declared.walked.Walked.{Walked}
-use Rattle.section_targets.specs.Manners.{AreFirsts}
-use Rattle.section_targets.specs.Units.{units_refused}
-use Rattle.section_targets.specs.Walking.{Walks}
-use Rattle.section_targets.proofs.Built.{refused_append}
-use Rattle.section_targets.proofs.WalksBehind.{walks_then, walks_alike, walks_none}
-use Rattle.equations.specs.Builds.{condition_unit}
-use Rattle.equations.specs.StatementUnits.{condition_refused, units_of_statement, units_of_else, units_of_statements, statement_manners, else_manners, statements_manners, statement_places, else_places, statements_places}
 
 -- what a walk over a statement under a guard of formulas leaves
 abbrev pub Under : Context → List Manner → meant.Guard Formula → Statement → (old new : Walked) → Type 0

@@ -1,20 +1,7 @@
 -- The walk over one unit.
 use Rattle.std.proofs.Common.{◌≡◌, ℕ, false, true, Option, None, Some, List, [], ◌∷◌, ◌++◌, Result, Err, refl, sym, ap, ◌∙◌, subst, subst₂, append-nil}
-use Rattle.std.specs.Option.{is_some}
-use Rattle.pld_base.specs.declared.place.Place.{Place}
-use Rattle.bit_expr.specs.Formulas.{Formula}
-use Rattle.abel_tree.specs.FirstRefusal.{earlier, first_refusal}
-use Rattle.abel_tree.proofs.FirstRefusals.{none_refused}
+use Rattle.equations.proofs.Common.{is_some, Place, Formula, earlier, first_refusal, none_refused, SectionFault, section_order, Manner, Walked, Builds, AreFirsts, CountedUnit, part, AfterMaking, Walks, standing, both_clear, walks_made, walks_refused}
 use Rattle.abel_meaning.specs.Contributions as meant
-use Rattle.set_expr.specs.declared.fault.SectionFault.{SectionFault}
-use Rattle.set_expr.specs.SectionOrder.{section_order}
-use Rattle.section_targets.specs.declared.manner.Manner.{Manner}
-use Rattle.section_targets.specs.declared.walked.Walked.{Walked}
-use Rattle.section_targets.specs.Building.{Builds}
-use Rattle.section_targets.specs.Manners.{AreFirsts}
-use Rattle.section_targets.specs.Units.{CountedUnit, part}
-use Rattle.section_targets.specs.Walking.{AfterMaking, Walks, standing}
-use Rattle.section_targets.proofs.WalksBehind.{both_clear, walks_made, walks_refused}
 use Rattle.equations.proofs.BuiltParts.{accepted_whole, whole}
 
 -- one that is refused, or stands behind what is; how it assigns signals was noted

@@ -1,22 +1,17 @@
 -- Sources of one line written as trees, each token at its column.
+use Rattle.equations.proofs.Common.{Place, Table, Extension, Kind, APin, ANode, AConstant, Words, Entry, Tree, ANumber, ASpecial, AName, ASet, AParen, AUnary, ABinary, SetMember, OneMember, members_of, Statement, AnAssign, AWhen, NoElse, AnElse, Context, context_of}
 use Prim.Native.String.{String}
 use Rattle.std.specs.Prelude.{ℕ, Bool, true, false, None, Some, List, [], ◌∷◌, codes}
 use Rattle.pld_base.specs.declared.device_name.DeviceName.TheVariants.{P16L8}
-use Rattle.pld_base.specs.declared.place.Place.{Place}
 use Rattle.pld_device.specs.declared.cell.Cell.{Cell}
 use Rattle.pld_device.specs.declared.enable.Enable.TheVariants.{Row}
 use Rattle.pld_device.specs.declared.flip.Flip.TheVariants.{Always}
 use Rattle.pld_device.specs.declared.kinds.Kinds.TheVariants.{Combinational}
-use Rattle.pld_device.specs.Table.{Table}
 use Rattle.abel_tree.specs.declared.words.Binary.TheVariants as binary
-use Rattle.abel_tree.specs.declared.words.Extension.{Extension}
 use Rattle.abel_tree.specs.declared.words.Extension.TheVariants as extension
 use Rattle.abel_tree.specs.declared.words.Sign.TheVariants as sign
 use Rattle.abel_tree.specs.declared.words.Unary.TheVariants as unary
 use Rattle.abel_tree.specs.declared.words.Word.{Word}
-use Rattle.abel_tree.specs.Entries.{Kind, APin, ANode, AConstant, Words, Entry}
-use Rattle.abel_tree.specs.Tree.{Tree, ANumber, ASpecial, AName, ASet, AParen, AUnary, ABinary, SetMember, OneMember, members_of, Statement, AnAssign, AWhen, NoElse, AnElse}
-use Rattle.abel_meaning.specs.Designs.{Context, context_of}
 
 -- a column of the one line
 abbrev pub at : ℕ → Place

@@ -1,32 +1,9 @@
 -- Conditions and assignments as units of which nothing is refused (ABEL-HDL Reference Manual, equations).
 use Rattle.std.specs.Prelude.{◌≡◌, ℕ, None, [], ◌∷◌, length, Result}
-use Rattle.pld_base.specs.declared.place.Place.{Place}
-use Rattle.pld_device.specs.Table.{Table}
+use Rattle.equations.specs.Prelude.{Place, Table, arena, formula_at, Names, Assign, entries_of, Tree, view, value_nodes, Context, formulas, statement_gives, targets_of, known_of, term_of, Guard, SectionFault, refusal_of, view_guard, Walked, Builds, context_for, left_side, CountedUnit, part, standing}
 use Rattle.bit_expr.specs.declared.fault.ExprFault.{ExprFault}
 use Rattle.bit_expr.specs.declared.fault.ExprFault.TheVariants as made
-use Rattle.bit_expr.specs.Arena.{arena, formula_at}
-use Rattle.abel_tree.specs.declared.names.Names.{Names}
-use Rattle.abel_tree.specs.declared.statements.Assign.{Assign}
-use Rattle.abel_tree.specs.Entries.{entries_of}
-use Rattle.abel_tree.specs.Tree.{Tree}
-use Rattle.abel_tree.specs.View.{view}
-use Rattle.abel_meaning.specs.CountedNodes.{value_nodes}
-use Rattle.abel_meaning.specs.Designs.{Context}
-use Rattle.abel_meaning.specs.FormulaBits.{formulas}
-use Rattle.abel_meaning.specs.Statements.{statement_gives}
-use Rattle.abel_meaning.specs.Targets.{targets_of}
-use Rattle.abel_meaning.specs.Terms.{known_of, term_of}
-use Rattle.set_expr.specs.declared.contributions.Guard.{Guard}
-use Rattle.set_expr.specs.declared.fault.SectionFault.{SectionFault}
 use Rattle.set_expr.specs.declared.fault.SectionFault.TheVariants as fault
-use Rattle.set_expr.specs.Answer.{refusal_of}
-use Rattle.set_expr.specs.Given.{view_guard}
-use Rattle.section_targets.specs.declared.walked.Walked.{Walked}
-use Rattle.section_targets.specs.Building.{Builds}
-use Rattle.set_expr.specs.Contexts.{context_for}
-use Rattle.section_targets.specs.TargetSignals.{left_side}
-use Rattle.section_targets.specs.Units.{CountedUnit, part}
-use Rattle.section_targets.specs.Walking.{standing}
 use Rattle.equations.specs.Checks.{view_assign}
 use Rattle.equations.specs.StatementUnits.{condition_refused, statement_places}
 

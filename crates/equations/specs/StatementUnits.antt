@@ -1,25 +1,12 @@
 -- The units of statements in order of their first tokens, with what is refused of each and the nodes that it makes
 -- (ABEL-HDL Reference Manual, equations and WHEN-THEN-ELSE; units are this project's rule).
 use Rattle.std.specs.Prelude.{ℕ, Bool, Option, List, [], ◌∷◌, ◌++◌, length, map}
-use Rattle.pld_base.specs.declared.place.Place.{Place}
+use Rattle.equations.specs.Prelude.{Place, Tree, Statement, AnAssign, AWhen, AGroup, ADontCare, Otherwise, NoElse, AnElse, Statements, NoStatement, MoreStatements, Context, targets_of, term_of, value_nodes, choice_nodes, condition_of, guard_then, guard_else, has_else, SectionFault, expression_found, Found, Manner, manner_of, aims_refused, CountedUnit, value_refused, TargetFound, left_side}
 use Rattle.bit_expr.specs.Formulas.{Formula}
 use Rattle.abel_tree.specs.Assigned.{target_extension, is_clocked}
 use Rattle.abel_tree.specs.declared.words.Sign.{Sign}
-use Rattle.abel_tree.specs.Tree.{Tree, Statement, AnAssign, AWhen, AGroup, ADontCare, Otherwise, NoElse, AnElse, Statements, NoStatement, MoreStatements}
-use Rattle.abel_meaning.specs.Designs.{Context}
-use Rattle.abel_meaning.specs.Targets.{targets_of}
-use Rattle.abel_meaning.specs.Terms.{term_of}
 use Rattle.abel_tree.specs.declared.words.Extension.{Extension}
-use Rattle.abel_meaning.specs.CountedNodes.{value_nodes, choice_nodes, condition_of, guard_then, guard_else, has_else}
-use Rattle.set_expr.specs.declared.fault.SectionFault.{SectionFault}
-use Rattle.set_expr.specs.FoundNames.{expression_found}
-use Rattle.set_expr.specs.Refusals.{Found}
-use Rattle.section_targets.specs.declared.manner.Manner.{Manner}
 use Rattle.section_targets.specs.declared.aim.Aim.{Aim}
-use Rattle.section_targets.specs.Manners.{manner_of, aims_refused}
-use Rattle.section_targets.specs.Units.{CountedUnit}
-use Rattle.section_targets.specs.ValueWidths.{value_refused}
-use Rattle.section_targets.specs.TargetSignals.{TargetFound, left_side}
 
 -- ---- conditions and assignments
 

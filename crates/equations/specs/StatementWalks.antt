@@ -1,21 +1,7 @@
 -- What a walk over statements under a guard leaves (ABEL-HDL Reference Manual, equations and WHEN-THEN-ELSE).
 use Rattle.std.specs.Prelude.{◌≡◌, ◌<◌, Bool, true, None, List, [], ◌∷◌, length}
-use Rattle.pld_base.specs.declared.place.Place.{Place}
-use Rattle.pld_device.specs.Table.{Table}
+use Rattle.equations.specs.Prelude.{Place, Table, arena, formula_at, Names, Tree, Statement, Statements, condition_of, choice_nodes, guard_then, guard_else, formulas, statement_gives, statements_give, Guard, view_guard, Manner, Walked, context_for, AreFirsts, Walks}
 use Rattle.bit_expr.specs.declared.node.ExprId.{ExprId}
-use Rattle.bit_expr.specs.Arena.{arena, formula_at}
-use Rattle.abel_tree.specs.declared.names.Names.{Names}
-use Rattle.abel_tree.specs.Tree.{Tree, Statement, Statements}
-use Rattle.abel_meaning.specs.CountedNodes.{condition_of, choice_nodes, guard_then, guard_else}
-use Rattle.abel_meaning.specs.FormulaBits.{formulas}
-use Rattle.abel_meaning.specs.Statements.{statement_gives, statements_give}
-use Rattle.set_expr.specs.declared.contributions.Guard.{Guard}
-use Rattle.set_expr.specs.Given.{view_guard}
-use Rattle.section_targets.specs.declared.manner.Manner.{Manner}
-use Rattle.section_targets.specs.declared.walked.Walked.{Walked}
-use Rattle.set_expr.specs.Contexts.{context_for}
-use Rattle.section_targets.specs.Manners.{AreFirsts}
-use Rattle.section_targets.specs.Walking.{Walks}
 use Rattle.equations.specs.declared.choices.BothGuards.{BothGuards}
 use Rattle.equations.specs.Builds.{condition_unit}
 use Rattle.equations.specs.StatementUnits.{units_of_statement, units_of_statements, statement_manners, statements_manners, statement_places, statements_places}

@@ -2,17 +2,8 @@
 
 ghost use Rattle.std.specs.Prelude.{◌≡◌, List, ◌++◌, IfOk, OnOk};
 ghost use Rattle.abel_tree.specs.Assigned as assigned;
-ghost use Rattle.abel_tree.specs.Entries.{entries_of};
-ghost use Rattle.abel_tree.specs.FirstRefusal.{first_refusal};
-ghost use Rattle.abel_tree.specs.View.{view};
-ghost use Rattle.set_expr.specs.SectionOrder.{section_order};
-ghost use Rattle.section_targets.specs.declared.manner.Manner.{Manner};
-ghost use Rattle.section_targets.specs.Manners.{AreFirsts};
-ghost use Rattle.set_expr.specs.Contexts.{context_for};
-ghost use Rattle.section_targets.specs.TargetSignals.{left_side};
-ghost use Rattle.set_expr.specs.FoundNames.{expression_found};
-ghost use Rattle.equations.specs.Checks.{view_assign};
-ghost use Rattle.equations.specs.StatementUnits.{assign_refused, statement_manners};
+ghost use Rattle.equations.specs.Prelude.{entries_of, first_refusal, view, section_order, Manner, AreFirsts, context_for, left_side, expression_found};
+ghost use Rattle.equations.specs.{view_assign, assign_refused, statement_manners};
 
 use crate::conditions::{is_clocked, refuse_value};
 use abel_tree::{Assign, earlier};

@@ -1,15 +1,9 @@
 //! Conditions, and the guards of what stands under them.
 
 ghost use Rattle.std.specs.Prelude.{◌≡◌, ◌<◌, None, true, false, [], ◌∷◌, length, IfOk};
-ghost use Rattle.bit_expr.specs.Arena.{arena, formula_at};
-ghost use Rattle.abel_tree.specs.View.{view};
+ghost use Rattle.equations.specs.Prelude.{arena, formula_at, view, condition_of, choice_nodes, Keeps, refusal_of, BuildsNodes, IsBit, context_for, part};
 ghost use Rattle.abel_meaning.specs.CountedNodes as counted;
-ghost use Rattle.abel_meaning.specs.CountedNodes.{condition_of, choice_nodes};
-ghost use Rattle.set_expr.specs.Answer.{Keeps, refusal_of};
-ghost use Rattle.section_targets.specs.Building.{BuildsNodes, IsBit};
-ghost use Rattle.set_expr.specs.Contexts.{context_for};
-ghost use Rattle.section_targets.specs.Units.{part};
-ghost use Rattle.equations.specs.StatementWalks.{WalksCondition, AreBothGuards};
+ghost use Rattle.equations.specs.{WalksCondition, AreBothGuards};
 
 use crate::conditions::check_condition;
 use crate::values::{Meets, value_bits};

@@ -2,18 +2,11 @@
 
 ghost use Rattle.std.specs.Prelude.{◌≡◌, Option, IfOk};
 ghost use Rattle.abel_tree.specs.Assigned as assigned;
-ghost use Rattle.abel_tree.specs.Entries.{entries_of};
-ghost use Rattle.abel_tree.specs.FirstRefusal.{first_refusal};
-ghost use Rattle.abel_tree.specs.View.{view};
-ghost use Rattle.abel_meaning.specs.Designs.{Context};
+ghost use Rattle.equations.specs.Prelude.{entries_of, first_refusal, view, Context, view_gives, Found, section_order, value_width, value_refused};
 ghost use Rattle.abel_meaning.specs.Numbers.{Value};
 ghost use Rattle.abel_meaning.specs.Statements as given;
-ghost use Rattle.set_expr.specs.Given.{view_gives};
 ghost use Rattle.set_expr.specs.KnownNames.{HasShapeIf, SumsUp};
-ghost use Rattle.set_expr.specs.Refusals.{Found};
-ghost use Rattle.set_expr.specs.SectionOrder.{section_order};
-ghost use Rattle.section_targets.specs.ValueWidths.{value_width, value_refused};
-ghost use Rattle.equations.specs.StatementUnits.{condition_refused};
+ghost use Rattle.equations.specs.{condition_refused};
 
 use abel_tree::{Expr, Sign, earlier};
 use pld_base::{OutOfMemory, Place};

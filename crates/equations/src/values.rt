@@ -1,17 +1,9 @@
 //! The bits of values, as nodes of a unit.
 
 ghost use Rattle.std.specs.Prelude.{◌≡◌, None, [], ◌∷◌, length, IfOk};
-ghost use Rattle.bit_expr.specs.Arena.{arena};
-ghost use Rattle.abel_tree.specs.View.{view};
-ghost use Rattle.abel_meaning.specs.CountedNodes.{term_nodes};
-ghost use Rattle.abel_meaning.specs.FormulaBits.{formulas, bits_of};
-ghost use Rattle.abel_meaning.specs.Terms.{term_of};
+ghost use Rattle.equations.specs.Prelude.{arena, view, term_nodes, formulas, bits_of, term_of, IsShaped, Keeps, refusal_of, context_for, BuildsNodes, AreBits, part};
 ghost use Rattle.abel_meaning.specs.Values.{constant_of};
-ghost use Rattle.set_expr.specs.Answer.{IsShaped, Keeps, refusal_of};
-ghost use Rattle.set_expr.specs.Contexts.{context_for};
-ghost use Rattle.section_targets.specs.Building.{BuildsNodes, AreBits};
-ghost use Rattle.section_targets.specs.Units.{part};
-ghost use Rattle.equations.specs.Builds.{at_unit};
+ghost use Rattle.equations.specs.{at_unit};
 
 use abel_tree::Expr;
 use bit_expr::{ExprFault, ExprId, Exprs};

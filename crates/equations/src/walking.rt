@@ -1,11 +1,8 @@
 //! The walk over statements: each unit is checked, and made where nothing is refused so far.
 
 ghost use Rattle.std.specs.Prelude.{◌≡◌, ◌<◌, length, OnOk};
-ghost use Rattle.bit_expr.specs.Arena.{arena};
-ghost use Rattle.abel_tree.specs.View.{view_stmt};
-ghost use Rattle.equations.specs.Builds.{GivesAssign, IsAcceptedAssign};
-ghost use Rattle.equations.specs.Checks.{view_assign, view_when, view_list};
-ghost use Rattle.equations.specs.StatementWalks.{WalksStatement, WalksStatements};
+ghost use Rattle.equations.specs.Prelude.{arena, view_stmt};
+ghost use Rattle.equations.specs.{GivesAssign, IsAcceptedAssign, view_assign, view_when, view_list, WalksStatement, WalksStatements};
 
 use crate::assigning::check_assign;
 use crate::choices::{Condition, walk_condition};

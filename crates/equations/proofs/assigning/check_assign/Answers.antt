@@ -1,21 +1,7 @@
 -- An assignment whose target is refused, and one whose target isn't.
 use Rattle.std.proofs.Common.{◌++◌, List, Some, ap, ap₂, map, sym, ◌∙◌, subst, length}
-use Rattle.abel_tree.specs.declared.names.Names.{Names}
+use Rattle.equations.proofs.Common.{Names, entries_of, earlier, first_refusal, first_append, view, section_order, expression_found, SumsUp, context_for, Aim, AreNamed, AreFirsts, aims_refused, manner_of, left_side, value_refused, side_whole}
 use Rattle.abel_tree.specs.Assigned as assigned
-use Rattle.abel_tree.specs.Entries.{entries_of}
-use Rattle.abel_tree.specs.FirstRefusal.{earlier, first_refusal}
-use Rattle.abel_tree.proofs.FirstRefusals.{first_append}
-use Rattle.abel_tree.specs.View.{view}
-use Rattle.set_expr.specs.SectionOrder.{section_order}
-use Rattle.set_expr.specs.FoundNames.{expression_found}
-use Rattle.set_expr.specs.KnownNames.{SumsUp}
-use Rattle.set_expr.specs.Contexts.{context_for}
-use Rattle.section_targets.specs.declared.aim.Aim.{Aim}
-use Rattle.section_targets.specs.Given.{AreNamed}
-use Rattle.section_targets.specs.Manners.{AreFirsts, aims_refused, manner_of}
-use Rattle.section_targets.specs.TargetSignals.{left_side}
-use Rattle.section_targets.specs.ValueWidths.{value_refused}
-use Rattle.section_targets.proofs.SmallTargets.{side_whole}
 use Rattle.equations.proofs.BuiltParts.{is_context, same_context}
 use Rattle.equations.proofs.CheckedUnits.{known_by_names, behind_refused, accepted_refused, accepted_manners}
 use Rattle.equations.proofs.assigning.check_assign.Goals as goal

@@ -1,14 +1,7 @@
 -- The guard of ELSE as a part of the condition's unit.
 use Rattle.std.proofs.Common.{[], ◌∷◌, Ok, Err, sym, ap₂, ◌∙◌, subst}
-use Rattle.std.proofs.lemmas.Result.{err_from_is_err_and}
-use Rattle.bit_expr.specs.Arena.{arena, formula_at}
-use Rattle.abel_tree.specs.View.{view}
+use Rattle.equations.proofs.Common.{err_from_is_err_and, arena, formula_at, view, choice_nodes, IsBuilt, context_for, part, kept_formula, kept_inside}
 use Rattle.abel_meaning.specs.CountedNodes as counted
-use Rattle.abel_meaning.specs.CountedNodes.{choice_nodes}
-use Rattle.section_targets.specs.Building.{IsBuilt}
-use Rattle.set_expr.specs.Contexts.{context_for}
-use Rattle.section_targets.specs.Units.{part}
-use Rattle.section_targets.proofs.Built.{kept_formula, kept_inside}
 use Rattle.equations.proofs.BuiltParts.{kept_bit, choice_else, choice_stops}
 use Rattle.equations.proofs.choices.both_guards.Goals as goal
 

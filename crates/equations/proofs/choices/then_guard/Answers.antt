@@ -1,10 +1,6 @@
 -- The guard as a part of the condition's unit.
 use Rattle.std.proofs.Common.{[], Ok, Err, ap₂, ◌∙◌}
-use Rattle.std.proofs.lemmas.Result.{err_from_is_err_and}
-use Rattle.bit_expr.specs.Folding.{make_and}
-use Rattle.section_targets.proofs.Built.{kept_formula, kept_inside, keeps_on}
-use Rattle.abel_tree.specs.View.{view}
-use Rattle.set_expr.specs.Contexts.{context_for}
+use Rattle.equations.proofs.Common.{err_from_is_err_and, make_and, kept_formula, kept_inside, keeps_on, view, context_for}
 use Rattle.equations.proofs.BuiltParts.{condition_made, kept_bit, stops_longer, guard_behind}
 use Rattle.equations.proofs.choices.then_guard.Goals as goal
 

@@ -1,19 +1,6 @@
 -- A condition that is refused or stands behind what is, and one whose guards are made.
 use Rattle.std.proofs.Common.{[], ◌∷◌, ◌++◌, Ok, Err, refl, sym, ap, ◌∙◌, subst}
-use Rattle.bit_expr.specs.Arena.{arena, formula_at}
-use Rattle.abel_tree.specs.Entries.{entries_of}
-use Rattle.abel_tree.specs.View.{view}
-use Rattle.abel_meaning.specs.CountedNodes.{choice_nodes}
-use Rattle.set_expr.specs.FoundNames.{expression_found}
-use Rattle.section_targets.specs.declared.walked.Walked.{Walked}
-use Rattle.section_targets.specs.Building.{Builds}
-use Rattle.set_expr.specs.Contexts.{context_for}
-use Rattle.section_targets.specs.Units.{part}
-use Rattle.section_targets.specs.ValueWidths.{value_width}
-use Rattle.section_targets.specs.Walking.{standing}
-use Rattle.section_targets.proofs.Built.{kept_inside, left_empty}
-use Rattle.equations.specs.Builds.{condition_unit}
-use Rattle.equations.specs.StatementUnits.{condition_refused}
+use Rattle.equations.proofs.Common.{arena, formula_at, entries_of, view, choice_nodes, expression_found, Walked, Builds, context_for, part, value_width, standing, kept_inside, left_empty, condition_unit, condition_refused}
 use Rattle.equations.proofs.BuiltParts.{value_accepted}
 use Rattle.equations.proofs.WalkedUnits.{limit_kept, unit_clear, unit_made, unit_refused}
 use Rattle.equations.proofs.choices.walk_condition.Goals as goal

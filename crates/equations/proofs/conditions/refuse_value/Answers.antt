@@ -1,8 +1,5 @@
 use Rattle.std.proofs.Common.{◌++◌, ap₂, sym, ◌∙◌}
-use Rattle.abel_tree.specs.FirstRefusal.{earlier}
-use Rattle.abel_tree.proofs.FirstRefusals.{first_append}
-use Rattle.set_expr.specs.SectionOrder.{section_order}
-use Rattle.section_targets.specs.ValueWidths.{value_width}
+use Rattle.equations.proofs.Common.{earlier, first_append, section_order, value_width}
 use Rattle.equations.proofs.conditions.refuse_value.Goals as goal
 
 pub returns : goal.returns

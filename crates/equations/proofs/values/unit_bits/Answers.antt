@@ -1,7 +1,5 @@
 -- The answer of `bits`, as a part of a unit.
-use Rattle.abel_tree.specs.View.{view}
-use Rattle.set_expr.specs.Contexts.{context_for}
-use Rattle.section_targets.proofs.Parts.{built_nodes}
+use Rattle.equations.proofs.Common.{view, context_for, built_nodes}
 use Rattle.equations.proofs.BuiltParts.{bits_keep, bits_stop}
 use Rattle.equations.proofs.values.unit_bits.Goals as goal
 

@@ -1,12 +1,5 @@
 use Rattle.std.proofs.Common.{List, length, ap, sym, ◌∙◌, subst}
-use Rattle.std.proofs.lemmas.List.{length-reverse}
-use Rattle.bit_expr.specs.Arena.{arena}
-use Rattle.bit_expr.specs.declared.node.ExprId.{ExprId}
-use Rattle.abel_tree.specs.View.{view}
-use Rattle.abel_meaning.specs.FormulaBits.{formulas}
-use Rattle.abel_meaning.specs.Terms.{term_of}
-use Rattle.set_expr.specs.Contexts.{context_for}
-use Rattle.section_targets.specs.Building.{AreBits}
+use Rattle.equations.proofs.Common.{length-reverse, arena, ExprId, view, formulas, term_of, context_for, AreBits}
 use Rattle.equations.proofs.BuiltParts.{bits_reversed, bits_length, met_length}
 use Rattle.equations.proofs.values.value_bits.Goals as goal
 

@@ -1,28 +1,8 @@
 -- Statements by their kinds, WHEN, and one statement more.
 use Rattle.std.proofs.Common.{◌+◌, [], ◌∷◌, ◌++◌, map, drop, refl, ap, sym, ◌∙◌, subst, append-nil, rules}
-use Rattle.std.specs.Option.{is_some}
+use Rattle.equations.proofs.Common.{is_some, on_ok_weaker, drop_all, arena, Stmt, the_lemmas, Statement, NoElse, AnElse, view, view_stmt, guarded, choice_nodes, condition_of, formulas, Guard, view_guard, context_for, AreFirsts, Walks, keeps_on, kept_formula, kept_inside, clear_before, walks_none, condition_unit, view_list, statement_manners, WalksStatement}
 use Rattle.std.specs.Prelude.{OnOk}
-use Rattle.std.proofs.lemmas.Result.{on_ok_weaker}
-use Rattle.std.proofs.lemmas.List.{drop_all}
-use Rattle.bit_expr.specs.Arena.{arena}
-use Rattle.abel_tree.specs.declared.statements.Stmt.{Stmt, the_lemmas}
-use Rattle.abel_tree.specs.Tree.{Statement, NoElse, AnElse}
-use Rattle.abel_tree.specs.View.{view, view_stmt}
-use Rattle.abel_meaning.specs.Contributions.{guarded}
-use Rattle.abel_meaning.specs.CountedNodes.{choice_nodes, condition_of}
-use Rattle.abel_meaning.specs.FormulaBits.{formulas}
-use Rattle.set_expr.specs.declared.contributions.Guard.{Guard}
-use Rattle.set_expr.specs.Given.{view_guard}
-use Rattle.set_expr.specs.Contexts.{context_for}
-use Rattle.section_targets.specs.Manners.{AreFirsts}
-use Rattle.section_targets.specs.Walking.{Walks}
-use Rattle.section_targets.proofs.Built.{keeps_on, kept_formula, kept_inside}
 use Rattle.section_targets.proofs.Looks.{next_of}
-use Rattle.section_targets.proofs.WalksBehind.{clear_before, walks_none}
-use Rattle.equations.specs.Builds.{condition_unit}
-use Rattle.equations.specs.Checks.{view_list}
-use Rattle.equations.specs.StatementUnits.{statement_manners}
-use Rattle.equations.specs.StatementWalks.{WalksStatement}
 use Rattle.equations.proofs.BuiltUnits.{guard_view, guard_kept}
 use Rattle.equations.proofs.CheckedUnits.{view_alone, view_both, view_assigned, view_whened, view_grouped}
 use Rattle.equations.proofs.WalkedStatements.{Under, under_guard, when_walks, all_behind, next_behind, none_behind}

@@ -1,12 +1,6 @@
 -- So many statements were walked, what was there stands, and the guard lies in the arena.
 use Rattle.std.proofs.Common.{List, ◌<◌, drop, length}
-use Rattle.bit_expr.specs.Arena.{arena}
-use Rattle.set_expr.specs.Answer.{Keeps}
-use Rattle.set_expr.specs.Contexts.{context_for}
-use Rattle.set_expr.specs.Given.{view_guard}
-use Rattle.section_targets.specs.declared.manner.Manner.{Manner}
-use Rattle.section_targets.specs.Manners.{AreFirsts}
-use Rattle.equations.specs.Checks.{view_list}
+use Rattle.equations.proofs.Common.{arena, Keeps, context_for, view_guard, Manner, AreFirsts, view_list}
 use Rattle.equations.proofs.WalkedStatements.{LeftBehind}
 use Rattle.equations.proofs.walking.+walks.Given as goal
 

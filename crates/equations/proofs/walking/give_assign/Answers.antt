@@ -1,27 +1,9 @@
 -- The signals of an assignment are given its value.
 use Rattle.std.proofs.Common.{◌<◌, List, [], All, refl, sym, ap, ◌∙◌, subst, length}
-use Rattle.std.proofs.lemmas.Result.{err_from_is_err_and}
-use Rattle.bit_expr.specs.declared.node.ExprId.{ExprId}
-use Rattle.bit_expr.specs.Arena.{arena, formula_at}
-use Rattle.abel_tree.specs.declared.names.Names.{Names}
-use Rattle.abel_tree.specs.Entries.{entries_of}
-use Rattle.abel_tree.specs.View.{view}
-use Rattle.abel_meaning.specs.CountedNodes.{guard_nodes, term_nodes}
-use Rattle.abel_meaning.specs.FormulaBits.{formulas}
-use Rattle.abel_meaning.specs.Targets.{targets_of}
-use Rattle.abel_meaning.specs.Terms.{term_of}
+use Rattle.equations.proofs.Common.{err_from_is_err_and, ExprId, arena, formula_at, Names, entries_of, view, guard_nodes, term_nodes, formulas, targets_of, term_of, Aim, NoMemory, AreBits, context_for, AreNamed, left_side, kept_formula, kept_inside, leaves_nodes, side_positions, side_few}
 use Rattle.set_expr.specs.declared.fault.SectionFault.TheVariants as fault
-use Rattle.section_targets.specs.declared.aim.Aim.{Aim}
-use Rattle.section_targets.specs.Building.{NoMemory, AreBits}
-use Rattle.set_expr.specs.Contexts.{context_for}
-use Rattle.section_targets.specs.Given.{AreNamed}
-use Rattle.section_targets.specs.TargetSignals.{left_side}
-use Rattle.section_targets.proofs.Built.{kept_formula, kept_inside}
 use Rattle.section_targets.proofs.Gives.{stops_nodes}
-use Rattle.section_targets.proofs.Parts.{leaves_nodes}
 use Rattle.section_targets.proofs.SignalLists.{side_all}
-use Rattle.section_targets.proofs.SideTerms.{side_positions}
-use Rattle.section_targets.proofs.SmallTargets.{side_few}
 use Rattle.equations.proofs.BuiltParts.{is_context, stops_longer}
 use Rattle.equations.proofs.BuiltUnits.{assign_built}
 use Rattle.equations.proofs.CheckedUnits.{known_by_names}

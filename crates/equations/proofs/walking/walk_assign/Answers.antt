@@ -1,14 +1,6 @@
 -- An assignment that is refused or stands behind what is, and one that is made.
 use Rattle.std.proofs.Common.{refl, sym, ap, ◌∙◌, subst}
-use Rattle.std.proofs.lemmas.Result.{on_ok_weaker}
-use Rattle.abel_tree.specs.Assigned.{target_extension}
-use Rattle.abel_tree.specs.View.{view}
-use Rattle.set_expr.specs.Contexts.{context_for}
-use Rattle.set_expr.specs.FoundNames.{expression_found}
-use Rattle.section_targets.specs.declared.walked.Walked.{Walked}
-use Rattle.section_targets.specs.TargetSignals.{left_side}
-use Rattle.equations.specs.Builds.{GivesAssign}
-use Rattle.equations.specs.StatementUnits.{assign_refused}
+use Rattle.equations.proofs.Common.{on_ok_weaker, target_extension, view, context_for, expression_found, Walked, left_side, GivesAssign, assign_refused}
 use Rattle.equations.proofs.BuiltParts.{value_accepted}
 use Rattle.equations.proofs.BuiltUnits.{accepted_assign}
 use Rattle.equations.proofs.WalkedUnits.{noted_clear, noted_made, noted_refused}
