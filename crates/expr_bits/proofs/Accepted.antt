@@ -1,30 +1,9 @@
 -- What an accepted expression comes to.
 use Rattle.std.proofs.Common.{◌≡◌, ℕ, ◌<◌, ◌≤◌, Option, None, Some, List, length, Ok, refl, sym, subst, arith}
-use Rattle.bit_expr.specs.declared.node.Node.{Node}
-use Rattle.bit_expr.specs.Arena.{arena}
-use Rattle.abel_tree.specs.declared.names.Names.{Names}
-use Rattle.abel_tree.specs.Entries.{entries_of}
+use Rattle.expr_bits.proofs.Common.{Node, arena, Names, entries_of, Tree, Context, bits_of, Value, width_of, Term, known_of, term_of, constant_of, MakesBits, IsMade, IsShaped, refusal_of, SectionFault, Shaped, expression_found, Bits, Form, IsPart, HasForm, IsBits, IsBlank, term_part}
 use Rattle.abel_tree.proofs.FirstRefusals.{none_refused}
-use Rattle.abel_tree.specs.Tree.{Tree}
-use Rattle.abel_meaning.specs.Designs.{Context}
-use Rattle.abel_meaning.specs.FormulaBits.{bits_of}
-use Rattle.abel_meaning.specs.Numbers.{Value, width_of}
-use Rattle.abel_meaning.specs.Terms.{Term, known_of, term_of}
-use Rattle.abel_meaning.specs.Values.{constant_of}
-use Rattle.expr_bits.specs.ExpressionBits.{MakesBits}
-use Rattle.expr_bits.specs.Making.{IsMade}
-use Rattle.set_expr.specs.Answer.{IsShaped, refusal_of}
-use Rattle.set_expr.specs.declared.fault.SectionFault.{SectionFault}
-use Rattle.set_expr.specs.declared.shaped.Shaped.{Shaped}
-use Rattle.set_expr.specs.FoundNames.{expression_found}
 use Rattle.set_expr.specs.SectionOrder.{section_order}
-use Rattle.expr_bits.specs.declared.forms.Bits.{Bits}
-use Rattle.expr_bits.specs.declared.forms.Form.{Form}
 use Rattle.expr_bits.specs.declared.forms.Form.TheVariants as form
-use Rattle.expr_bits.specs.Parts.{IsPart}
-use Rattle.expr_bits.specs.Showing.{HasForm, IsBits}
-use Rattle.expr_bits.specs.Shaping.{IsBlank}
-use Rattle.expr_bits.specs.Steps.{term_part}
 use Rattle.expr_bits.proofs.Blank.{blank}
 use Rattle.expr_bits.proofs.Linked.{IsLinkedIf, expression_linked}
 use Rattle.expr_bits.proofs.Links.{Sound}

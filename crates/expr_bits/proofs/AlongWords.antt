@@ -1,16 +1,8 @@
 -- The operators of the language are those that go along two words.
 use Rattle.std.proofs.Common.{◌≡◌, suc, ◌<◌, Bool, None, Some, List, [], ◌∷◌, length, map, true, false, refl, sym, ap, ◌∙◌, arith}
-use Rattle.bit_expr.specs.Arena.{arena, formula_at}
-use Rattle.bit_expr.specs.Folding.{Made, free, ◌>>=◌, make_not, make_and, make_or, make_xor}
-use Rattle.bit_expr.specs.Formulas.{Formula, Const}
-use Rattle.bit_expr.specs.declared.node.Node.{Node}
-use Rattle.bit_expr.proofs.ArenaLists.{arena_count, low_formula}
-use Rattle.abel_tree.specs.declared.words.Binary.{Binary}
+use Rattle.expr_bits.proofs.Common.{arena, formula_at, Made, free, ◌>>=◌, make_not, make_and, make_or, make_xor, Formula, Const, Node, arena_count, low_formula, Binary, Word, word_by_position, each_not, sum_bit, next_carry, sum_bits, relation_bit, operator_bits, Step, step_by, step_of, along}
 use Rattle.abel_tree.specs.declared.words.Binary.TheVariants as binary
-use Rattle.abel_meaning.specs.BitWords.{Word, word_by_position, each_not, sum_bit, next_carry, sum_bits, relation_bit, operator_bits}
-use Rattle.expr_bits.specs.declared.steps.Step.{Step}
 use Rattle.expr_bits.specs.declared.steps.Step.TheVariants as step
-use Rattle.expr_bits.specs.Along.{step_by, step_of, along}
 use Rattle.expr_bits.proofs.Making.{made_is}
 
 abbrev carried : Formula → Formula → Made (Formula × Formula)

@@ -1,18 +1,9 @@
 -- What is X in an accepted expression has the bit 0.
 use Rattle.std.proofs.Common.{◌≡◌, ℕ, zero, suc, Bool, true, false, List, [], ◌∷◌, ◌++◌, length, replicate, refl, sym, ap, ◌∙◌, arith, length-append}
-use Rattle.std.proofs.lemmas.List.{length-map, length-replicate}
-use Rattle.bit_expr.specs.Formulas.{Formula, formula_value}
-use Rattle.abel_tree.specs.declared.words.Binary.{Binary}
-use Rattle.abel_meaning.specs.BitWords.{Word}
-use Rattle.abel_meaning.specs.Designs.{Context}
-use Rattle.abel_meaning.specs.FormulaBits.{bits_of, bits_of_all, met_by, resized}
-use Rattle.abel_meaning.specs.Numbers.{Shape, Number, Single, Set, Value, width_of, member_width, meeting, met_unknown_by}
-use Rattle.abel_meaning.specs.Terms.{Term, Terms}
+use Rattle.expr_bits.proofs.Common.{length-map, length-replicate, Formula, formula_value, Binary, Word, Context, bits_of, bits_of_all, met_by, resized, Shape, Number, Single, Set, Value, width_of, member_width, meeting, met_unknown_by, Term, Terms, constant_of, set_value, nowhere, is_relation, binary_by, IsBlank}
 use Rattle.abel_meaning.specs.Terms as term
-use Rattle.abel_meaning.specs.Values.{constant_of, set_value, nowhere, is_relation, binary_by}
 use Rattle.abel_meaning.proofs.DigitLaws.{length_digits}
 use Rattle.abel_meaning.proofs.FormulasFollow.{term_agrees}
-use Rattle.expr_bits.specs.Shaping.{IsBlank}
 use Rattle.expr_bits.proofs.OperatedBits.{member_flags}
 use Rattle.expr_bits.proofs.Links.{AllKnown, known_spread, known_binary, Sound, AllSound}
 

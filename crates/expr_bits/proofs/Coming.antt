@@ -1,19 +1,9 @@
 -- Work comes to terms: one more member, and work to be done first.
 use Rattle.std.proofs.Common.{◌≡◌, ℕ, true, false, Bool, Option, None, Some, List, [], ◌∷◌, ◌++◌, if◌then◌else◌, bytes_eq, codes, refl, sym, ap, ap₂, ◌∙◌, subst}
-use Rattle.bit_expr.specs.Folding.{Made, ◌>>=◌}
-use Rattle.abel_tree.specs.declared.words.Binary.{Binary}
-use Rattle.abel_tree.specs.declared.words.Extension.{Extension}
-use Rattle.abel_tree.specs.declared.words.Unary.{Unary}
-use Rattle.abel_tree.specs.Entries.{Entry}
-use Rattle.abel_meaning.specs.Designs.{Context}
-use Rattle.abel_meaning.specs.Terms.{Term, Terms, Known, extended_if, member_before, named_before, special_term, term_named, terms_of}
+use Rattle.expr_bits.proofs.Common.{Made, ◌>>=◌, Binary, Extension, Unary, Entry, Context, Term, Terms, Known, extended_if, member_before, named_before, special_term, term_named, terms_of, Part, Work, ComesTo, Precedes, task_of, tasks_of, Push, Do, term_part, pushed, after_task, after_all}
 use Rattle.abel_meaning.specs.Terms as term
-use Rattle.expr_bits.specs.Parts.{Part}
 use Rattle.expr_bits.specs.declared.step.Step.TheVariants as step
-use Rattle.expr_bits.specs.declared.work.Work.{Work}
 use Rattle.expr_bits.specs.declared.work.Work.TheVariants as work
-use Rattle.expr_bits.specs.Stacks.{ComesTo, Precedes, task_of, tasks_of}
-use Rattle.expr_bits.specs.Steps.{Push, Do, term_part, pushed, after_task, after_all}
 use Rattle.expr_bits.proofs.Extensions.{both_extended, under_extended}
 use Rattle.expr_bits.proofs.StepLaws.{unary_steps, binary_steps, set_more}
 use Rattle.expr_bits.proofs.Turns.{tasks_last}

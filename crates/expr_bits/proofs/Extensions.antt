@@ -1,14 +1,7 @@
 -- An inner extension wins over an outer one; an extension of a set is that of each member.
 use Rattle.std.proofs.Common.{◌≡◌, ℕ, Option, None, Some, List, [], ◌∷◌, ◌++◌, refl, sym, ap, ap₂, ◌∙◌, append_assoc}
-use Rattle.abel_tree.specs.declared.words.Binary.{Binary}
-use Rattle.abel_tree.specs.declared.words.Extension.{Extension}
-use Rattle.abel_tree.specs.declared.words.Unary.{Unary}
-use Rattle.abel_tree.specs.Extensions.{innermost}
-use Rattle.abel_tree.specs.Tree.{SetMember, OneMember, SpanMember, members_of}
-use Rattle.abel_tree.specs.Ranges.{range_names}
-use Rattle.abel_meaning.specs.Terms.{Term, Terms, NoTerm, Before, Known, extended, extended_each, extended_if, term_named, terms_of, member_before, named_before}
+use Rattle.expr_bits.proofs.Common.{Binary, Extension, Unary, innermost, SetMember, OneMember, SpanMember, members_of, range_names, Term, Terms, NoTerm, Before, Known, extended, extended_each, extended_if, term_named, terms_of, member_before, named_before, list_of, each_extended}
 use Rattle.abel_meaning.specs.Terms as term
-use Rattle.expr_bits.specs.Members.{list_of, each_extended}
 
 mutual
   twice : (e f : Extension) (t : Term) → extended e t ≡ extended f (extended e t)

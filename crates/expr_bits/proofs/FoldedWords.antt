@@ -1,17 +1,9 @@
 -- Two words gone through position by position, where what was found goes on.
 use Rattle.std.proofs.Common.{◌≡◌, ℕ, ◌+◌, ◌<◌, ◌≤◌, List, [], ◌∷◌, length, get_or, drop, Result, Ok, Err, refl, sym, subst, ap, ap₂, ◌∙◌, arith}
-use Rattle.bit_expr.specs.Arena.{arena, formula_at}
-use Rattle.bit_expr.specs.Folding.{Made, free, ◌>>=◌}
-use Rattle.bit_expr.specs.Formulas.{Formula}
-use Rattle.bit_expr.specs.declared.fault.ExprFault.{ExprFault}
-use Rattle.bit_expr.specs.declared.node.ExprId.{ExprId}
-use Rattle.bit_expr.specs.declared.node.Node.{Node}
-use Rattle.abel_meaning.specs.BitWords.{Word}
-use Rattle.expr_bits.specs.Making.{Makes, ShowsOne, AllIn, word_at}
+use Rattle.expr_bits.proofs.Common.{arena, formula_at, Made, free, ◌>>=◌, Formula, ExprFault, ExprId, Node, Word, Makes, ShowsOne, AllIn, word_at, relation_step, relation_steps, start_id, start_of}
 use Rattle.expr_bits.proofs.Making.{Going, going_done, going_on, going_stop, in_at, made_is, word_drop, word_past, kept}
 use Rattle.expr_bits.specs.declared.pieces.Relation.{Relation}
 use Rattle.expr_bits.specs.declared.pieces.Relation.TheVariants as relation
-use Rattle.expr_bits.specs.Pieces.{relation_step, relation_steps, start_id, start_of}
 use Rattle.expr_bits.proofs.AlongWords.{zero_there, one_there, zero_is, one_is}
 
 here : List Node → List ExprId → ℕ → Formula

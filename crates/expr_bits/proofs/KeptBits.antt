@@ -1,16 +1,6 @@
 -- Bits that are kept: built alone, and put on a stack.
 use Rattle.std.proofs.Common.{◌≡◌, List, [], ◌∷◌, length, Ok, refl, sym, ◌∙◌, ap₂, subst, arith}
-use Rattle.bit_expr.specs.declared.node.ExprId.{ExprId}
-use Rattle.bit_expr.specs.declared.node.Node.{Node}
-use Rattle.bit_expr.specs.Arena.{arena}
-use Rattle.bit_expr.proofs.ArenaLists.{arena_count, low_formula}
-use Rattle.abel_meaning.specs.Designs.{Context}
-use Rattle.abel_meaning.specs.Terms.{Term}
-use Rattle.expr_bits.specs.Making.{AllIn, word_at, Makes}
-use Rattle.expr_bits.specs.declared.forms.Bits.{Bits}
-use Rattle.expr_bits.specs.Parts.{Part, IsPart}
-use Rattle.expr_bits.specs.Steps.{term_part}
-use Rattle.expr_bits.specs.Still.{IsKept}
+use Rattle.expr_bits.proofs.Common.{ExprId, Node, arena, arena_count, low_formula, Context, Term, AllIn, word_at, Makes, Bits, Part, IsPart, term_part, IsKept}
 
 -- ---- bits of an arena without nodes
 

@@ -2,6 +2,7 @@ pub mod Accepted
 pub mod AlongWords
 pub mod Blank
 pub mod Coming
+pub mod Common
 pub mod Contexts
 pub mod Extensions
 pub mod FoldedWords

@@ -1,21 +1,8 @@
 -- What is found of expressions over names, and their terms.
-use Rattle.std.proofs.lemmas.Bool.Decides.{nat_tests}
+use Rattle.expr_bits.proofs.Common.{nat_tests, Place, Binary, Extension, Unary, Entry, Kind, APin, ANode, AConstant, ADeviceName, range_names, Tree, ANumber, ASpecial, AName, ASet, AParen, AUnary, ABinary, SetMember, OneMember, SpanMember, Members, NoMember, MoreMembers, Context, Shape, Number, Single, Set, Value, width_of, member_width, meeting, Term, Terms, Known, term_named, term_of, terms_of, member_before, named_before, term_meant, known_after, known_of, extended_if, constant_of, set_value, nowhere, plain_value, unary_value, binary_value, binary_by, is_relation, SectionFault, NameFound, found_value, found_use, refused_there, at_name, name_found, named, nothing_found, one_position, range_found, found_of, all_found, found_before, found_constant, found_kind, found_entry, found_after, names_found, expression_found, is_pulse_kind}
 use Rattle.std.proofs.Common.{◌≡◌, ℕ, suc, ◌+◌, ◌≤◌, nat_lt, arith, Bool, true, false, Option, None, Some, List, [], ◌∷◌, ◌++◌, if◌then◌else◌, unwrap_or, bytes_eq, codes, refl, sym, ap, ap₂, subst}
-use Rattle.pld_base.specs.declared.place.Place.{Place}
-use Rattle.abel_tree.specs.declared.words.Binary.{Binary}
-use Rattle.abel_tree.specs.declared.words.Extension.{Extension}
-use Rattle.abel_tree.specs.declared.words.Unary.{Unary}
-use Rattle.abel_tree.specs.Entries.{Entry, Kind, APin, ANode, AConstant, ADeviceName}
-use Rattle.abel_tree.specs.Ranges.{range_names}
-use Rattle.abel_tree.specs.Tree.{Tree, ANumber, ASpecial, AName, ASet, AParen, AUnary, ABinary, SetMember, OneMember, SpanMember, Members, NoMember, MoreMembers}
-use Rattle.abel_meaning.specs.Designs.{Context}
-use Rattle.abel_meaning.specs.Numbers.{Shape, Number, Single, Set, Value, width_of, member_width, meeting}
-use Rattle.abel_meaning.specs.Terms.{Term, Terms, Known, term_named, term_of, terms_of, member_before, named_before, term_meant, known_after, known_of, extended_if}
 use Rattle.abel_meaning.specs.Terms as term
-use Rattle.abel_meaning.specs.Values.{constant_of, set_value, nowhere, plain_value, unary_value, binary_value, binary_by, is_relation}
-use Rattle.set_expr.specs.declared.fault.SectionFault.{SectionFault}
 use Rattle.set_expr.specs.declared.fault.SectionFault.TheVariants.{MisplacedSpecial, BadWidth}
-use Rattle.set_expr.specs.FoundNames.{NameFound, found_value, found_use, refused_there, at_name, name_found, named, nothing_found, one_position, range_found, found_of, all_found, found_before, found_constant, found_kind, found_entry, found_after, names_found, expression_found, is_pulse_kind}
 use Rattle.set_expr.specs.Refusals.{Found, unless_refused, found_both, found_under, found_set, members_refused, members_specials, members_value, members_width, too_wide, value_of_both, value_or_none, large_member, width_with}
 use Rattle.set_expr.proofs.SummedUp.{left_empty, right_empty}
 use Rattle.expr_bits.proofs.Links.{SameKind, same_kind, kind_then, unary_kind, binary_kind, AllKnown, known_append, known_met, known_binary, Sound, AllSound, extended_alike}

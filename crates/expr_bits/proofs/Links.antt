@@ -1,13 +1,7 @@
 -- What is found of an expression and what its term comes to: the same shape, and X only where nothing is made of it.
 use Rattle.std.proofs.Common.{◌≡◌, ℕ, zero, suc, ◌+◌, Bool, true, false, None, Some, List, [], ◌∷◌, ◌++◌, replicate, refl, sym, ap, ap₂, ◌∙◌, subst}
-use Rattle.abel_tree.specs.declared.words.Binary.{Binary}
-use Rattle.abel_tree.specs.declared.words.Extension.{Extension}
-use Rattle.abel_tree.specs.declared.words.Unary.{Unary}
-use Rattle.abel_meaning.specs.Designs.{Context}
-use Rattle.abel_meaning.specs.Numbers.{Shape, Number, Single, Set, Value, width_of, member_width, meeting, met_number, met_unknown_by}
-use Rattle.abel_meaning.specs.Terms.{Term, Terms, extended, extended_each}
+use Rattle.expr_bits.proofs.Common.{Binary, Extension, Unary, Context, Shape, Number, Single, Set, Value, width_of, member_width, meeting, met_number, met_unknown_by, Term, Terms, extended, extended_each, constant_of, set_value, nowhere, is_relation, binary_by, binary_value, unary_value, operator_number, unary_number}
 use Rattle.abel_meaning.specs.Terms as term
-use Rattle.abel_meaning.specs.Values.{constant_of, set_value, nowhere, is_relation, binary_by, binary_value, unary_value, operator_number, unary_number}
 
 -- ---- values of one kind
 

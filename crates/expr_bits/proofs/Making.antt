@@ -1,16 +1,7 @@
 -- Making one thing after another.
 use Rattle.std.proofs.Common.{◌≡◌, ◌⊎◌, inl, inr, ℕ, zero, suc, ◌+◌, ◌<◌, ◌≤◌, false, List, [], ◌∷◌, length, get_or, drop, reverse, ◌++◌, Result, Ok, Err, refl, sym, ap, ap₂, ◌∙◌, subst, arith}
-use Rattle.std.proofs.lemmas.List.{reverse-append}
-use Rattle.std.proofs.lemmas.Option.{slice_get_within, slice_get-get_or, get_or_from_slice_get}
-use Rattle.bit_expr.specs.Arena.{MOST, arena, formula_at, Grew, Adds, PassesLimit}
-use Rattle.bit_expr.specs.Folding.{Made, free, ◌>>=◌}
-use Rattle.bit_expr.specs.Formulas.{Formula, Const}
-use Rattle.bit_expr.specs.declared.fault.ExprFault.{ExprFault}
+use Rattle.expr_bits.proofs.Common.{reverse-append, slice_get_within, slice_get-get_or, get_or_from_slice_get, MOST, arena, formula_at, Grew, Adds, PassesLimit, Made, free, ◌>>=◌, Formula, Const, ExprFault, ExprId, Node, or_and_of, IsPast, ShowsOne, AllIn, word_at, Makes}
 use Rattle.bit_expr.specs.declared.fault.ExprFault.TheVariants as fault
-use Rattle.bit_expr.specs.declared.node.ExprId.{ExprId}
-use Rattle.bit_expr.specs.declared.node.Node.{Node}
-use Rattle.expr_bits.specs.Pieces.{or_and_of}
-use Rattle.expr_bits.specs.Making.{IsPast, ShowsOne, AllIn, word_at, Makes}
 
 cases_zero : (n : ℕ) → (n ≡ 0) ⊎ (0 < n)
 cases_zero zero = inl refl

@@ -1,21 +1,9 @@
 -- Values in so many positions.
 use Rattle.std.proofs.Common.{◌≡◌, ℕ, zero, suc, ◌+◌, ◌/◌, ◌<◌, ◌≤◌, max, Bool, false, ◌||◌, List, [], ◌∷◌, ◌++◌, length, get_or, take, replicate, refl, sym, ap, ap₂, ◌∙◌, subst, arith, add-one}
-use Rattle.std.proofs.lemmas.List.{take_all, take_more}
-use Rattle.std.proofs.Math.Bool.{or-false}
-use Rattle.bit_expr.specs.declared.node.ExprId.{ExprId}
-use Rattle.bit_expr.specs.declared.node.Node.{Node}
-use Rattle.bit_expr.specs.Arena.{arena}
-use Rattle.bit_expr.specs.Formulas.{Formula}
-use Rattle.abel_meaning.specs.BitWords.{Word}
-use Rattle.abel_meaning.specs.FormulaBits.{met_by, met_word}
-use Rattle.abel_meaning.specs.Numbers.{Value, either_unknown}
+use Rattle.expr_bits.proofs.Common.{take_all, take_more, or-false, ExprId, Node, arena, Formula, Word, met_by, met_word, Value, either_unknown, AllIn, word_at, ShowsAll, digit_ids, resized_ids, Bits, HasForm, IsBits}
 use Rattle.abel_meaning.specs.Numbers as number
-use Rattle.expr_bits.specs.Making.{AllIn, word_at, ShowsAll}
-use Rattle.expr_bits.specs.Positions.{digit_ids, resized_ids}
 use Rattle.expr_bits.proofs.PositionWords.{digits_in, digits_at, resized_in, resized_at, spread_in, spread_at}
-use Rattle.expr_bits.specs.declared.forms.Bits.{Bits}
 use Rattle.expr_bits.specs.declared.forms.Form.TheVariants as form
-use Rattle.expr_bits.specs.Showing.{HasForm, IsBits}
 
 -- ---- widths
 

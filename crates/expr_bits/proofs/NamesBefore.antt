@@ -1,16 +1,9 @@
 -- What a name stands for among the first names, by its place.
 use Rattle.std.proofs.Common.{◌≡◌, ℕ, zero, suc, ◌+◌, ◌<◌, ◌≤◌, Bool, true, false, Option, None, Some, List, [], ◌∷◌, ◌++◌, if◌then◌else◌, length, map, take, get_or, slice_get, option_map, cond, bytes_eq, ltb, refl, sym, ap, ◌∙◌, arith}
-use Rattle.std.specs.List.{position_from, position_or_len}
-use Rattle.std.proofs.lemmas.Bool.{ltb-true}
+use Rattle.expr_bits.proofs.Common.{position_from, position_or_len, ltb-true, length-map, slice_get-get_or, slice_get-map, take-length, Names, Entry, entries_of, find, view_declared, Term, Known, term_named, term_meant, known_after, known_of, here_term}
 use Rattle.std.proofs.lemmas.Iterator.Adapters.{position_from-zero}
-use Rattle.std.proofs.lemmas.List.{length-map}
-use Rattle.std.proofs.lemmas.Option.{slice_get-get_or, slice_get-map}
-use Rattle.std.proofs.Math.Seq.{take-length}
 use Rattle.abel_tree.specs.declared.names.Declared.{Declared}
-use Rattle.abel_tree.specs.declared.names.Names.{Names}
-use Rattle.abel_tree.specs.Entries.{Entry, entries_of, find, view_declared}
-use Rattle.abel_meaning.specs.Terms.{Term, Number, Known, term_named, term_meant, known_after, known_of}
-use Rattle.expr_bits.specs.Stacks.{here_term}
+use Rattle.abel_meaning.specs.Terms.{Number}
 
 -- what a name stands for among the first n of these entries, behind those that are known
 abbrev among : (known : List Known) (s n : ℕ) → List Entry → List ℕ → Term

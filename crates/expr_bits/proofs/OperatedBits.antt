@@ -1,25 +1,8 @@
 -- What operators and sets make of bits are the bits of values.
 use Rattle.std.proofs.Common.{◌≡◌, ℕ, ◌+◌, Bool, List, [], ◌∷◌, ◌++◌, length, Result, refl, sym, ap, ap₂, ◌∙◌, subst, arith, length-append}
-use Rattle.std.proofs.lemmas.List.{length-map, map-append}
-use Rattle.std.specs.Global.{Vec}
-use Rattle.bit_expr.specs.declared.fault.ExprFault.{ExprFault}
-use Rattle.bit_expr.specs.declared.node.ExprId.{ExprId}
-use Rattle.bit_expr.specs.declared.node.Node.{Node}
-use Rattle.bit_expr.specs.Arena.{arena, formula_at}
-use Rattle.bit_expr.specs.Formulas.{Formula}
-use Rattle.abel_tree.specs.declared.words.Binary.{Binary}
-use Rattle.abel_tree.specs.declared.words.Unary.{Unary}
-use Rattle.abel_meaning.specs.BitWords.{Word, unary_word, relation_bit}
-use Rattle.abel_meaning.specs.FormulaBits.{kept_bits}
-use Rattle.abel_meaning.specs.Numbers.{Shape, Value, member_width, width_of, met_unknown, met_unknown_by, either_unknown}
+use Rattle.expr_bits.proofs.Common.{length-map, map-append, Vec, ExprFault, ExprId, Node, arena, formula_at, Formula, Binary, Unary, Word, unary_word, relation_bit, kept_bits, Shape, Value, member_width, width_of, met_unknown, met_unknown_by, either_unknown, unary_value, word_at, ShowsAll, ShowsItems, ShowsOne, IsMade, Makes, Bits, Form, Part, IsPart, under_part, width_of_two, word_in, relation_of, joined_part, HasForm, HasUnknown}
 use Rattle.abel_meaning.specs.Numbers as number
-use Rattle.abel_meaning.specs.Values.{unary_value}
-use Rattle.expr_bits.specs.Making.{word_at, ShowsAll, ShowsItems, ShowsOne, IsMade, Makes}
-use Rattle.expr_bits.specs.declared.forms.Bits.{Bits}
-use Rattle.expr_bits.specs.declared.forms.Form.{Form}
 use Rattle.expr_bits.specs.declared.forms.Form.TheVariants as form
-use Rattle.expr_bits.specs.Parts.{Part, IsPart, under_part, width_of_two, word_in, relation_of, joined_part}
-use Rattle.expr_bits.specs.Showing.{HasForm, HasUnknown}
 use Rattle.expr_bits.proofs.Making.{in_append}
 use Rattle.expr_bits.proofs.WordLengths.{unary_length}
 

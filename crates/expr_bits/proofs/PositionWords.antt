@@ -1,16 +1,7 @@
 -- Words of the positions of others: their loops, and the formulas of their ids.
 use Rattle.std.proofs.Common.{◌≡◌, ℕ, zero, suc, ◌+◌, ◌/◌, ◌%◌, ◌<◌, ◌≤◌, ◌==◌, Bool, true, false, List, [], ◌∷◌, ◌++◌, min, length, map, get_or, take, replicate, Ok, refl, sym, ap, ap₂, ◌∙◌, subst, arith, append-nil, add-one}
-use Rattle.bit_expr.specs.declared.node.ExprId.{ExprId}
-use Rattle.bit_expr.specs.declared.node.Node.{Node}
-use Rattle.bit_expr.specs.Arena.{arena, formula_at}
-use Rattle.bit_expr.specs.Formulas.{Formula, Const}
-use Rattle.abel_meaning.specs.FormulaBits.{resized, kept_bits}
-use Rattle.abel_meaning.specs.Numbers.{digits_low_first}
-use Rattle.std.specs.Global.{Vec}
-use Rattle.bit_expr.specs.Folding.{free}
-use Rattle.expr_bits.specs.Making.{AllIn, word_at, ShowsAll, ShowsItems, Makes}
+use Rattle.expr_bits.proofs.Common.{ExprId, Node, arena, formula_at, Formula, Const, resized, kept_bits, digits_low_first, Vec, free, AllIn, word_at, ShowsAll, ShowsItems, Makes, bit_id, digit_ids, resized_ids, kept_ids}
 use Rattle.expr_bits.proofs.Making.{nothing_made}
-use Rattle.expr_bits.specs.Positions.{bit_id, digit_ids, resized_ids, kept_ids}
 use Rattle.expr_bits.proofs.AlongWords.{zero_there, one_there, zero_is, one_is}
 
 -- ---- loops: what is there of the first positions

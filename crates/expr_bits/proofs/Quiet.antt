@@ -1,19 +1,7 @@
 -- A term is the same under each extension with which it reads no leaf.
 use Rattle.std.proofs.Common.{◌≡◌, ℕ, ◌||◌, Bool, true, false, Option, None, Some, [], ◌∷◌, refl, sym, ap, ap₂, ◌∙◌, subst}
-use Rattle.bit_expr.specs.Arena.{arena}
-use Rattle.bit_expr.specs.Folding.{Made, free, ◌>>=◌}
-use Rattle.abel_tree.specs.declared.words.Extension.{Extension}
-use Rattle.abel_meaning.specs.Designs.{Context}
-use Rattle.abel_meaning.specs.FormulaBits.{bits_of_all, make_source}
-use Rattle.abel_meaning.specs.Sources.{Source, Zero, Held, source_of, source_value}
-use Rattle.abel_meaning.specs.Terms.{Term, Terms, NoTerm, Before, extended, extended_each, extended_if}
+use Rattle.expr_bits.proofs.Common.{arena, Made, free, ◌>>=◌, Extension, Context, bits_of_all, make_source, Source, Zero, Held, source_of, source_value, Term, Terms, NoTerm, Before, extended, extended_each, extended_if, bit_value, nowhere, set_value, Bits, IsPart, Part, with_value, under_part, both_part, joined_part, any_reads_leaf, is_leaf, reads_leaf, term_part, IsKept}
 use Rattle.abel_meaning.specs.Terms as term
-use Rattle.abel_meaning.specs.Values.{bit_value, nowhere, set_value}
-use Rattle.expr_bits.specs.declared.forms.Bits.{Bits}
-use Rattle.expr_bits.specs.Parts.{IsPart, Part, with_value, under_part, both_part, joined_part}
-use Rattle.expr_bits.specs.Reads.{any_reads_leaf, is_leaf, reads_leaf}
-use Rattle.expr_bits.specs.Steps.{term_part}
-use Rattle.expr_bits.specs.Still.{IsKept}
 use Rattle.expr_bits.proofs.Extensions.{all_extended, both_extended, first_extended, set_extended, under_extended}
 
 neither : (a b : Bool) → (a || b) ≡ false → (a ≡ false) × (b ≡ false)

@@ -1,19 +1,10 @@
 -- What terms read: with extensions, and by the names of an expression.
 use Rattle.std.proofs.Common.{◌≡◌, ℕ, ◌||◌, Bool, true, false, Option, None, Some, List, [], ◌∷◌, ◌++◌, if◌then◌else◌, bytes_eq, codes, refl, sym, ap, ap₂, ◌∙◌}
-use Rattle.std.specs.List.{list_any}
+use Rattle.expr_bits.proofs.Common.{list_any, or_assoc, or-false, Extension, innermost, range_names, Tree, ANumber, ASpecial, AName, ASet, AParen, AUnary, ABinary, SetMember, OneMember, SpanMember, Members, NoMember, MoreMembers, Context, Term, Terms, NoTerm, Before, Known, extended, extended_each, extended_if, member_before, named_before, term_named, term_of, terms_of, Reads, Finds, IsReads, leaf_under, names_to, no_reads, reads_leaf, reads_signal, some_of_read, some_read, used_leaf, used_signal}
 use Rattle.std.proofs.lemmas.List.Folds.{list_any-append}
-use Rattle.std.proofs.Math.Bool.{or_assoc, or-false}
-use Rattle.abel_tree.specs.declared.words.Extension.{Extension}
 use Rattle.abel_tree.specs.declared.words.Extension.TheVariants as extension
-use Rattle.abel_tree.specs.Extensions.{innermost}
-use Rattle.abel_tree.specs.Ranges.{range_names}
-use Rattle.abel_tree.specs.Tree.{Tree, ANumber, ASpecial, AName, ASet, AParen, AUnary, ABinary, SetMember, OneMember, SpanMember, Members, NoMember, MoreMembers}
-use Rattle.abel_meaning.specs.Designs.{Context}
-use Rattle.abel_meaning.specs.Terms.{Term, Terms, NoTerm, Before, Known, extended, extended_each, extended_if, member_before, named_before, term_named, term_of, terms_of}
 use Rattle.abel_meaning.specs.Terms as term
 use Rattle.name_uses.specs.NamesUsed.{UsedName, names_used, members_used, member_used}
-use Rattle.expr_bits.specs.declared.reads.Reads.{Reads}
-use Rattle.expr_bits.specs.Reads.{Finds, IsReads, leaf_under, names_to, no_reads, reads_leaf, reads_signal, some_of_read, some_read, used_leaf, used_signal}
 
 -- ---- as the code has it
 

@@ -1,17 +1,7 @@
 -- Rows, by the places of their names.
 use Rattle.std.proofs.Common.{◌≡◌, ℕ, zero, suc, ◌+◌, ◌<◌, Option, None, Some, List, [], ◌∷◌, ◌++◌, get_or, length, slice_get, take, refl, sym, ap, ◌∙◌, subst, arith}
-use Rattle.std.proofs.lemmas.Option.{slice_get_within, slice_get-get_or}
-use Rattle.pld_device.specs.Table.{Table}
-use Rattle.abel_tree.specs.declared.names.Names.{Names}
-use Rattle.abel_tree.specs.Entries.{Entry, entries_of, find}
-use Rattle.abel_meaning.specs.Designs.{Context, name_at, no_name}
-use Rattle.abel_meaning.specs.Terms.{Read, known_of, term_meant, term_named}
-use Rattle.set_expr.specs.Contexts.{context_for}
-use Rattle.expr_bits.specs.declared.reads.Reads.{Reads}
+use Rattle.expr_bits.proofs.Common.{slice_get_within, slice_get-get_or, Table, Names, Entry, entries_of, find, Context, name_at, no_name, Read, known_of, term_meant, term_named, context_for, Reads, IsReads, here_term, AreRows, IsRow, reads_at, reads_of_row}
 use Rattle.expr_bits.specs.declared.rows.Row.{Row}
-use Rattle.expr_bits.specs.Reads.{IsReads}
-use Rattle.expr_bits.specs.Stacks.{here_term}
-use Rattle.expr_bits.specs.Still.{AreRows, IsRow, reads_at, reads_of_row}
 use Rattle.expr_bits.proofs.NamesBefore.{here_is, named_past, none_past}
 use Rattle.expr_bits.proofs.ReadLaws.{nothing_found}
 

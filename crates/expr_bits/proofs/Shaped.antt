@@ -1,20 +1,9 @@
 -- The positions of bits are those of a value.
 use Rattle.std.proofs.Common.{◌≡◌, ℕ, zero, suc, ◌+◌, ◌<◌, Bool, true, false, Option, None, Some, List, [], ◌∷◌, ◌++◌, length, get_or, take, refl, sym, ap, ap₂, ◌∙◌, subst, arith, add-one}
-use Rattle.bit_expr.specs.declared.node.ExprId.{ExprId}
-use Rattle.bit_expr.specs.Arena.{formula_at}
-use Rattle.bit_expr.specs.Formulas.{Formula}
-use Rattle.abel_meaning.specs.BitWords.{Word}
-use Rattle.abel_meaning.specs.Numbers.{Value}
-use Rattle.expr_bits.specs.Making.{AllIn, word_at}
-use Rattle.set_expr.specs.Answer.{IsShaped, AreIn, bits_at, unknown_at, positions}
+use Rattle.expr_bits.proofs.Common.{ExprId, formula_at, Formula, Word, Value, AllIn, word_at, IsShaped, AreIn, bits_at, unknown_at, positions, Shaped, Bits, Form, HasForm, HasUnknown, IsBits, IsBlank, place_of, places_of, shape_of}
 use Rattle.set_expr.specs.Answer as answer
 use Rattle.set_expr.specs.Shapes.{HasShape}
-use Rattle.set_expr.specs.declared.shaped.Shaped.{Shaped}
-use Rattle.expr_bits.specs.declared.forms.Bits.{Bits}
-use Rattle.expr_bits.specs.declared.forms.Form.{Form}
 use Rattle.expr_bits.specs.declared.forms.Form.TheVariants as form
-use Rattle.expr_bits.specs.Showing.{HasForm, HasUnknown, IsBits}
-use Rattle.expr_bits.specs.Shaping.{IsBlank, place_of, places_of, shape_of}
 
 -- ---- the loop: what is there of the first positions
 

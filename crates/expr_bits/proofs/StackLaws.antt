@@ -1,24 +1,8 @@
 -- A stack of values in the arena: one more, one taken, and all of them while the arena grows.
 use Rattle.std.proofs.Common.{◌≡◌, ℕ, ◌-◌, List, [], ◌∷◌, ◌++◌, length, reverse, refl, sym, ap, ◌∙◌, subst, take, append-nil, arith}
-use Rattle.std.proofs.lemmas.List.{reverse-append}
-use Rattle.std.specs.Global.{Vec}
-use Rattle.bit_expr.specs.declared.node.Node.{Node}
-use Rattle.bit_expr.specs.Arena.{arena, Grew}
-use Rattle.bit_expr.specs.Folding.{Made}
-use Rattle.bit_expr.specs.Formulas.{Formula}
-use Rattle.abel_meaning.specs.Designs.{Context}
-use Rattle.abel_meaning.specs.Numbers.{Set}
-use Rattle.abel_meaning.specs.Terms.{Term}
-use Rattle.expr_bits.specs.Making.{IsMade}
+use Rattle.expr_bits.proofs.Common.{reverse-append, Vec, Node, arena, Grew, Made, Formula, Context, Set, Term, IsMade, Bits, Form, Part, IsPart, no_part, HasForm, AreParts, AreStacked, ShowsStack, as_set, pushed, set_by, term_part, IsKept}
 use Rattle.expr_bits.proofs.Making.{in_kept, word_kept}
-use Rattle.expr_bits.specs.declared.forms.Bits.{Bits}
-use Rattle.expr_bits.specs.declared.forms.Form.{Form}
 use Rattle.expr_bits.specs.declared.forms.Form.TheVariants as form
-use Rattle.expr_bits.specs.Parts.{Part, IsPart, no_part}
-use Rattle.expr_bits.specs.Showing.{HasForm}
-use Rattle.expr_bits.specs.Stacks.{AreParts, AreStacked, ShowsStack}
-use Rattle.expr_bits.specs.Steps.{as_set, pushed, set_by, term_part}
-use Rattle.expr_bits.specs.Still.{IsKept}
 
 pub part_kept : (old new : List Formula) (n : ℕ) (b : Bits) (p : Part) → Grew old new n → IsPart old b p → IsPart new b p
 part_kept old new n b p g is =

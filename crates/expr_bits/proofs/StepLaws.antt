@@ -1,15 +1,9 @@
 -- Steps come to what their terms come to.
 use Rattle.std.proofs.Common.{◌≡◌, Option, None, Some, List, ◌∷◌, refl, arith}
-use Rattle.abel_tree.specs.declared.words.Binary.{Binary}
-use Rattle.abel_tree.specs.declared.words.Extension.{Extension}
-use Rattle.abel_tree.specs.declared.words.Unary.{Unary}
-use Rattle.abel_meaning.specs.Designs.{Context}
-use Rattle.abel_meaning.specs.Terms.{Term, Terms, extended, extended_each, extended_if}
+use Rattle.expr_bits.proofs.Common.{Binary, Extension, Unary, Context, Term, Terms, extended, extended_each, extended_if, Part, Task, Push, Do, after_task, after_all}
 use Rattle.abel_meaning.specs.Terms as term
 use Rattle.expr_bits.proofs.Making.{made_is}
-use Rattle.expr_bits.specs.Parts.{Part}
 use Rattle.expr_bits.specs.declared.step.Step.TheVariants as step
-use Rattle.expr_bits.specs.Steps.{Task, Push, Do, after_task, after_all}
 
 -- ---- operators
 

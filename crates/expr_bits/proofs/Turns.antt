@@ -1,24 +1,9 @@
 -- The walk, turn by turn: what was built, and what is left comes to the whole.
 use Rattle.std.proofs.Common.{◌≡◌, ◌+◌, List, [], ◌∷◌, ◌++◌, map, Ok, Err, refl, sym, ap, ◌∙◌, subst, arith}
-use Rattle.std.proofs.lemmas.List.{reverse-append}
-use Rattle.std.specs.Global.{Vec}
-use Rattle.bit_expr.specs.declared.fault.ExprFault.{ExprFault}
+use Rattle.expr_bits.proofs.Common.{reverse-append, Vec, ExprFault, Node, arena, Made, free, Formula, Entry, Context, Term, IsMade, Makes, Bits, Part, IsPart, Work, AreStacked, ShowsStack, Standing, task_of, tasks_of, Task, Push, Do, made_by, term_part, top, pushed, after_task, after_all}
 use Rattle.bit_expr.specs.declared.fault.ExprFault.TheVariants as fault
-use Rattle.bit_expr.specs.declared.node.Node.{Node}
-use Rattle.bit_expr.specs.Arena.{arena}
-use Rattle.bit_expr.specs.Folding.{Made, free}
-use Rattle.bit_expr.specs.Formulas.{Formula}
-use Rattle.abel_tree.specs.Entries.{Entry}
-use Rattle.abel_meaning.specs.Designs.{Context}
-use Rattle.abel_meaning.specs.Terms.{Term}
-use Rattle.expr_bits.specs.Making.{IsMade, Makes}
 use Rattle.expr_bits.proofs.Making.{Going, going_start, going_on, going_stop, going_done}
-use Rattle.expr_bits.specs.declared.forms.Bits.{Bits}
-use Rattle.expr_bits.specs.Parts.{Part, IsPart}
 use Rattle.expr_bits.specs.declared.step.Step.{Step}
-use Rattle.expr_bits.specs.declared.work.Work.{Work}
-use Rattle.expr_bits.specs.Stacks.{AreStacked, ShowsStack, Standing, task_of, tasks_of}
-use Rattle.expr_bits.specs.Steps.{Task, Push, Do, made_by, term_part, top, pushed, after_task, after_all}
 
 pub tasks_last : (es : List Entry) (ws : List Work) (w : Work) → tasks_of es (ws ++ w ∷ []) ≡ task_of es w ∷ tasks_of es ws
 tasks_last es ws w = ap (map (task_of es)) (reverse-append ws (w ∷ []))

@@ -1,26 +1,9 @@
 -- Operators on two values make the bits of values.
 use Rattle.std.proofs.Common.{◌≡◌, ℕ, ◌+◌, Bool, false, List, [], ◌∷◌, length, replicate, Err, refl, sym, ap, ◌∙◌, subst, arith}
-use Rattle.std.proofs.lemmas.List.{length-replicate}
-use Rattle.std.specs.Global.{Vec}
-use Rattle.bit_expr.specs.declared.fault.ExprFault.{ExprFault}
-use Rattle.bit_expr.specs.declared.node.ExprId.{ExprId}
-use Rattle.bit_expr.specs.declared.node.Node.{Node}
-use Rattle.bit_expr.specs.Arena.{arena, Grew}
-use Rattle.bit_expr.specs.Folding.{Made, free, ◌>>=◌}
-use Rattle.bit_expr.specs.Formulas.{Formula}
-use Rattle.abel_tree.specs.declared.words.Binary.{Binary}
-use Rattle.abel_meaning.specs.BitWords.{Word, operator_bits}
-use Rattle.abel_meaning.specs.FormulaBits.{operator_word}
-use Rattle.abel_meaning.specs.Numbers.{Shape, Value, meeting, width_of}
+use Rattle.expr_bits.proofs.Common.{length-replicate, Vec, ExprFault, ExprId, Node, arena, Grew, Made, free, ◌>>=◌, Formula, Binary, Word, operator_bits, operator_word, Shape, Value, meeting, width_of, ShowsAll, ShowsItems, ShowsOne, IsMade, Makes, Bits, Form, MeetsAs, computed_part, positions_of, Part, IsPart, with_value, number_part, width_of_two, word_in, computed_value, HasForm, HasUnknown, IsBits}
 use Rattle.abel_meaning.specs.Numbers as number
-use Rattle.expr_bits.specs.Making.{ShowsAll, ShowsItems, ShowsOne, IsMade, Makes}
 use Rattle.expr_bits.proofs.Making.{grew_none, stopped}
-use Rattle.expr_bits.specs.declared.forms.Bits.{Bits}
-use Rattle.expr_bits.specs.declared.forms.Form.{Form}
 use Rattle.expr_bits.specs.declared.forms.Form.TheVariants as form
-use Rattle.expr_bits.specs.Operators.{MeetsAs, computed_part, positions_of}
-use Rattle.expr_bits.specs.Parts.{Part, IsPart, with_value, number_part, width_of_two, word_in, computed_value}
-use Rattle.expr_bits.specs.Showing.{HasForm, HasUnknown, IsBits}
 use Rattle.expr_bits.proofs.OperatedBits.{shown_length}
 use Rattle.expr_bits.proofs.WordLengths.{operator_length}
 

@@ -1,18 +1,13 @@
 -- Trees of the code at each variant.
 use Rattle.std.proofs.Common.{◌≡◌, List, map, rules}
 use Rattle.std.specs.Prelude.{ℕ, Option}
-use Rattle.pld_base.specs.declared.place.Place.{Place}
+use Rattle.expr_bits.proofs.Common.{Place, Binary, Extension, Unary, ANumber, ASpecial, AName, ASet, AParen, AUnary, ABinary, OneMember, SpanMember, members_of, view, view_member}
 use Rattle.abel_tree.specs.declared.expressions.Expr.{Expr, the_lemmas}
 use Rattle.abel_tree.specs.declared.expressions.Expr as expr
 use Rattle.abel_tree.specs.declared.expressions.Member.{Member}
 use Rattle.abel_tree.specs.declared.expressions.Member as member
-use Rattle.abel_tree.specs.declared.words.Binary.{Binary}
-use Rattle.abel_tree.specs.declared.words.Extension.{Extension}
 use Rattle.abel_tree.specs.declared.words.Number.{Number}
-use Rattle.abel_tree.specs.declared.words.Unary.{Unary}
 use Rattle.abel_tree.specs.declared.words.Word.{Word}
-use Rattle.abel_tree.specs.Tree.{ANumber, ASpecial, AName, ASet, AParen, AUnary, ABinary, OneMember, SpanMember, members_of}
-use Rattle.abel_tree.specs.View.{view, view_member}
 
 pub view_number : (n : Number) → view (expr.Number n) ≡ ANumber n
 view_number n = search (rules, the_lemmas)

@@ -1,13 +1,8 @@
 -- How long the words are that operators make.
 use Rattle.std.proofs.Common.{◌≡◌, suc, [], ◌∷◌, false, true, length, map, refl, sym, ap, ◌∙◌, arith}
-use Rattle.std.proofs.lemmas.List.{length-map}
-use Rattle.bit_expr.specs.Folding.{Made, ◌>>=◌, make_not, make_and, make_or, make_xor}
-use Rattle.bit_expr.specs.Formulas.{Formula, Const}
-use Rattle.abel_tree.specs.declared.words.Binary.{Binary}
+use Rattle.expr_bits.proofs.Common.{length-map, Made, ◌>>=◌, make_not, make_and, make_or, make_xor, Formula, Const, Binary, Unary, Word, word_by_position, each_not, next_carry, sum_bits, difference_bits, operator_bits, unary_word}
 use Rattle.abel_tree.specs.declared.words.Binary.TheVariants as binary
-use Rattle.abel_tree.specs.declared.words.Unary.{Unary}
 use Rattle.abel_tree.specs.declared.words.Unary.TheVariants as unary
-use Rattle.abel_meaning.specs.BitWords.{Word, word_by_position, each_not, next_carry, sum_bits, difference_bits, operator_bits, unary_word}
 use Rattle.expr_bits.proofs.AlongWords.{length_not}
 
 position_length : (f : Formula → Formula → Made Formula) (xs ys : Word) → length xs ≡ length ys → length (word_by_position f xs ys).what ≡ length xs

@@ -1,19 +1,7 @@
 -- The loop over positions.
 use Rattle.std.proofs.Common.{◌≡◌, ℕ, ◌+◌, ◌<◌, ◌≤◌, nat_eq, Bool, true, false, List, [], ◌∷◌, ◌++◌, length, get_or, drop, Result, Ok, Err, refl, sym, ap, ap₂, ◌∙◌, subst, arith, append_assoc, append-nil, length-drop, ◌-◌, ◌≢◌}
-use Rattle.std.proofs.lemmas.Bool.Decides.{nat_tests}
-use Rattle.std.proofs.lemmas.List.{length-map, map-append}
-use Rattle.std.specs.Global.{Vec}
-use Rattle.bit_expr.specs.Arena.{arena, formula_at}
-use Rattle.bit_expr.specs.Folding.{Made, free, ◌>>=◌}
-use Rattle.bit_expr.specs.Formulas.{Formula}
-use Rattle.bit_expr.specs.declared.fault.ExprFault.{ExprFault}
+use Rattle.expr_bits.proofs.Common.{nat_tests, length-map, map-append, Vec, arena, formula_at, Made, free, ◌>>=◌, Formula, ExprFault, ExprId, Node, Word, Step, along, step_by, is_last, ShowsOne, ShowsTwo, ShowsItems, AllIn, word_at, Makes}
 use Rattle.bit_expr.specs.declared.fault.ExprFault.TheVariants as fault
-use Rattle.bit_expr.specs.declared.node.ExprId.{ExprId}
-use Rattle.bit_expr.specs.declared.node.Node.{Node}
-use Rattle.abel_meaning.specs.BitWords.{Word}
-use Rattle.expr_bits.specs.declared.steps.Step.{Step}
-use Rattle.expr_bits.specs.Along.{along, step_by, is_last}
-use Rattle.expr_bits.specs.Making.{ShowsOne, ShowsTwo, ShowsItems, AllIn, word_at, Makes}
 use Rattle.expr_bits.proofs.Making.{Going, going_start, going_on, going_stop, going_done, in_append, in_at, in_kept, word_kept, word_drop, word_past, kept}
 
 -- the bits so far, and the carry

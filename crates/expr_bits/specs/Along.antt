@@ -1,10 +1,7 @@
 -- Private: operators that go along two words, in one form (this project's rule).
 use Rattle.std.specs.Prelude.{Bool, true, false, Option, None, Some, [], ◌∷◌}
-use Rattle.bit_expr.specs.Folding.{Made, free, ◌>>=◌, make_not, make_and, make_or, make_xor}
-use Rattle.bit_expr.specs.Formulas.{Formula}
-use Rattle.abel_tree.specs.declared.words.Binary.{Binary}
+use Rattle.expr_bits.specs.Prelude.{Made, free, ◌>>=◌, make_not, make_and, make_or, make_xor, Formula, Binary, Word, sum_bit, next_carry}
 use Rattle.abel_tree.specs.declared.words.Binary.TheVariants as binary
-use Rattle.abel_meaning.specs.BitWords.{Word, sum_bit, next_carry}
 use Rattle.expr_bits.specs.declared.steps.Step.{Step}
 use Rattle.expr_bits.specs.declared.steps.Step.TheVariants as step
 use Rattle.expr_bits.specs.Pieces.{same_of}

@@ -1,14 +1,7 @@
 -- The bits of an expression of which nothing is refused (ABEL-HDL Reference Manual, sets and operators; the limit is this
 -- project's rule).
 use Rattle.std.specs.Prelude.{List, Result}
-use Rattle.bit_expr.specs.declared.fault.ExprFault.{ExprFault}
-use Rattle.bit_expr.specs.declared.node.Node.{Node}
-use Rattle.abel_tree.specs.Tree.{Tree}
-use Rattle.abel_meaning.specs.Designs.{Context}
-use Rattle.abel_meaning.specs.FormulaBits.{bits_of}
-use Rattle.abel_meaning.specs.Terms.{term_of}
-use Rattle.abel_meaning.specs.Values.{constant_of}
-use Rattle.set_expr.specs.Answer.{IsShaped}
+use Rattle.expr_bits.specs.Prelude.{ExprFault, Node, Tree, Context, bits_of, term_of, constant_of, IsShaped}
 use Rattle.set_expr.specs.declared.shaped.Shaped.{Shaped}
 use Rattle.expr_bits.specs.Making.{Makes}
 

@@ -1,7 +1,6 @@
 -- Private: what is read, as the code has it (this project's rule).
 use Rattle.std.specs.Prelude.{Option, None, Some}
-use Rattle.bit_expr.specs.Arena.{IsLeaf}
-use Rattle.abel_meaning.specs.Sources.{Source, Zero, Held}
+use Rattle.expr_bits.specs.Prelude.{IsLeaf, Source, Zero, Held}
 use Rattle.expr_bits.specs.declared.sources.Reading.{Reading}
 
 abbrev pub view_reading : Option Reading → Source

@@ -1,15 +1,7 @@
 -- What making bits in the arena leaves (this project's rule).
 use Rattle.std.specs.Prelude.{◌≡◌, ℕ, ◌<◌, List, [], ◌∷◌, length, map, Result, Ok, Err}
-use Rattle.std.specs.Global.{Vec}
-use Rattle.bit_expr.specs.Arena.{arena, formula_at, MOST, Grew, PassesLimit}
-use Rattle.bit_expr.specs.Folding.{Made}
-use Rattle.bit_expr.specs.Formulas.{Formula}
-use Rattle.bit_expr.specs.declared.fault.ExprFault.{ExprFault}
+use Rattle.expr_bits.specs.Prelude.{Vec, arena, formula_at, MOST, Grew, PassesLimit, Made, Formula, ExprFault, ExprId, Node, Word, Keeps}
 use Rattle.bit_expr.specs.declared.fault.ExprFault.TheVariants as fault
-use Rattle.bit_expr.specs.declared.node.ExprId.{ExprId}
-use Rattle.bit_expr.specs.declared.node.Node.{Node}
-use Rattle.abel_meaning.specs.BitWords.{Word}
-use Rattle.set_expr.specs.Answer.{Keeps}
 
 -- making so many nodes in an arena of these formulas passes the limit
 abbrev pub IsPast : List Formula → ℕ → Type 0

@@ -1,7 +1,6 @@
 -- Private: terms of sets as lists (this project's rule).
 use Rattle.std.specs.Prelude.{Option, List, [], ◌∷◌}
-use Rattle.abel_tree.specs.declared.words.Extension.{Extension}
-use Rattle.abel_meaning.specs.Terms.{Term, Terms, NoTerm, Before, extended_if}
+use Rattle.expr_bits.specs.Prelude.{Extension, Term, Terms, NoTerm, Before, extended_if}
 
 abbrev pub list_of : Terms → List Term
 list_of NoTerm = []

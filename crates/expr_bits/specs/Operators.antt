@@ -1,10 +1,6 @@
 -- Private: operators on two values by kind (this project's rule).
 use Rattle.std.specs.Prelude.{ℕ, false, true}
-use Rattle.bit_expr.specs.Folding.{Made}
-use Rattle.abel_tree.specs.declared.words.Binary.{Binary}
-use Rattle.abel_meaning.specs.FormulaBits.{binary_word}
-use Rattle.abel_meaning.specs.Numbers.{Shape, Number, Single, Set, Value, meeting}
-use Rattle.abel_meaning.specs.Values.{binary_by}
+use Rattle.expr_bits.specs.Prelude.{Made, Binary, binary_word, Shape, Number, Single, Set, Value, meeting, binary_by}
 use Rattle.expr_bits.specs.declared.forms.Form.{Form}
 use Rattle.expr_bits.specs.Parts.{Part, with_value}
 use Rattle.expr_bits.specs.Showing.{HasForm}

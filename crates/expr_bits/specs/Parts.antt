@@ -1,14 +1,8 @@
 -- Values with their words of formulas, and what operators and sets make of them (ABEL-HDL Reference Manual, operators
 -- and sets; this project's rule how they are counted).
 use Rattle.std.specs.Prelude.{ℕ, Bool, List, [], ◌++◌}
-use Rattle.bit_expr.specs.Folding.{Made}
-use Rattle.bit_expr.specs.Formulas.{Formula}
-use Rattle.abel_tree.specs.declared.words.Binary.{Binary}
+use Rattle.expr_bits.specs.Prelude.{Made, Formula, Binary, Word, unary_word, relation_bit, binary_word, kept_bits, met_word, Value, meeting, member_width, width_of, met_unknown, either_unknown, is_relation, plain_value, binary_value, unary_value, operator_value, joined_value, no_position}
 use Rattle.abel_tree.specs.declared.words.Unary.{Unary}
-use Rattle.abel_meaning.specs.BitWords.{Word, unary_word, relation_bit}
-use Rattle.abel_meaning.specs.FormulaBits.{binary_word, kept_bits, met_word}
-use Rattle.abel_meaning.specs.Numbers.{Value, meeting, member_width, width_of, met_unknown, either_unknown}
-use Rattle.abel_meaning.specs.Values.{is_relation, plain_value, binary_value, unary_value, operator_value, joined_value, no_position}
 use Rattle.expr_bits.specs.declared.forms.Bits.{Bits}
 use Rattle.expr_bits.specs.Showing.{IsBits}
 

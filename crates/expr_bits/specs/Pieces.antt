@@ -1,8 +1,5 @@
 -- Private: parts of the formulas of sums and relations, as the code makes them one after another (this project's rule).
-use Rattle.bit_expr.specs.Folding.{Made, ◌>>=◌, make_not, make_and, make_or, make_xor}
-use Rattle.bit_expr.specs.Formulas.{Formula, Const}
-use Rattle.bit_expr.specs.declared.node.ExprId.{ExprId}
-use Rattle.abel_meaning.specs.BitWords.{Word, less_bit, less_bits, equal_bits}
+use Rattle.expr_bits.specs.Prelude.{Made, ◌>>=◌, make_not, make_and, make_or, make_xor, Formula, Const, ExprId, Word, less_bit, less_bits, equal_bits}
 use Rattle.expr_bits.specs.declared.pieces.Relation.{Relation}
 use Rattle.expr_bits.specs.declared.pieces.Relation.TheVariants as relation
 use Rattle.std.specs.Prelude.{false, true}

@@ -1,6 +1,6 @@
 -- Private: ids of words made of others, as abel_meaning makes their formulas (this project's rule).
 use Rattle.std.specs.Prelude.{ℕ, zero, suc, ◌/◌, ◌%◌, ◌==◌, Bool, true, false, List, [], ◌∷◌}
-use Rattle.bit_expr.specs.declared.node.ExprId.{ExprId}
+use Rattle.expr_bits.specs.Prelude.{ExprId}
 
 -- the id of a constant
 abbrev pub bit_id : Bool → ExprId

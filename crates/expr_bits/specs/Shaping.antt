@@ -1,8 +1,6 @@
 -- Private: shapes and positions of bits (this project's rule).
 use Rattle.std.specs.Prelude.{◌≡◌, ℕ, Bool, true, false, Option, None, Some, List, [], ◌∷◌}
-use Rattle.bit_expr.specs.Formulas.{Const}
-use Rattle.bit_expr.specs.declared.node.ExprId.{ExprId}
-use Rattle.abel_meaning.specs.BitWords.{Word}
+use Rattle.expr_bits.specs.Prelude.{Const, ExprId, Word}
 use Rattle.set_expr.specs.declared.shaped.Shape.{Shape}
 use Rattle.set_expr.specs.declared.shaped.Shape.TheVariants as shape
 use Rattle.expr_bits.specs.declared.forms.Form.{Form}

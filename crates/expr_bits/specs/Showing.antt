@@ -1,9 +1,7 @@
 -- Bits in the arena as values with words of formulas (this project's rule).
 use Rattle.std.specs.Prelude.{◌≡◌, ℕ, Bool, List, length}
-use Rattle.bit_expr.specs.Formulas.{Formula}
-use Rattle.abel_meaning.specs.BitWords.{Word}
+use Rattle.expr_bits.specs.Prelude.{Formula, Word, Value}
 use Rattle.abel_meaning.specs.Numbers as number
-use Rattle.abel_meaning.specs.Numbers.{Value}
 use Rattle.expr_bits.specs.Making.{ShowsAll}
 use Rattle.expr_bits.specs.declared.forms.Bits.{Bits}
 use Rattle.expr_bits.specs.declared.forms.Form.{Form}

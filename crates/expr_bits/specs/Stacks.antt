@@ -1,13 +1,6 @@
 -- Private: a stack of values in the arena, and what is left to build (this project's rule).
 use Rattle.std.specs.Prelude.{◌≡◌, ℕ, Option, None, Some, List, [], ◌∷◌, map, reverse, slice_get, take}
-use Rattle.std.specs.Global.{Vec}
-use Rattle.bit_expr.specs.Formulas.{Formula}
-use Rattle.abel_tree.specs.declared.words.Extension.{Extension}
-use Rattle.abel_tree.specs.Entries.{Entry}
-use Rattle.abel_tree.specs.Tree.{members_of}
-use Rattle.abel_tree.specs.View.{view, view_member}
-use Rattle.abel_meaning.specs.Designs.{Context}
-use Rattle.abel_meaning.specs.Terms.{Term, Terms, known_of, term_of, terms_of, term_meant, extended_if}
+use Rattle.expr_bits.specs.Prelude.{Vec, Formula, Extension, Entry, members_of, view, view_member, Context, Term, Terms, known_of, term_of, terms_of, term_meant, extended_if}
 use Rattle.abel_meaning.specs.Terms as term
 use Rattle.expr_bits.specs.declared.forms.Bits.{Bits}
 use Rattle.expr_bits.specs.Parts.{Part, IsPart}

@@ -1,12 +1,7 @@
 -- Private: the bits of a term, step by step over a stack of values (this project's rule).
 use Rattle.std.specs.Prelude.{List, [], ◌∷◌}
-use Rattle.bit_expr.specs.Folding.{Made, free, ◌>>=◌}
-use Rattle.abel_meaning.specs.Designs.{Context}
-use Rattle.abel_meaning.specs.FormulaBits.{bits_of}
-use Rattle.abel_meaning.specs.Numbers.{Shape, Number, Single, Set}
-use Rattle.abel_meaning.specs.Terms.{Term}
+use Rattle.expr_bits.specs.Prelude.{Made, free, ◌>>=◌, Context, bits_of, Shape, Number, Single, Set, Term, constant_of}
 use Rattle.abel_meaning.specs.Terms as term
-use Rattle.abel_meaning.specs.Values.{constant_of}
 use Rattle.expr_bits.specs.Parts.{Part, with_value, number_part, under_part, both_part, no_part, joined_part}
 use Rattle.expr_bits.specs.declared.step.Step.{Step}
 use Rattle.expr_bits.specs.declared.step.Step.TheVariants as step

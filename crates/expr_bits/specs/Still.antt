@@ -1,12 +1,6 @@
 -- Private: constants that make no node (this project's rule).
 use Rattle.std.specs.Prelude.{◌≡◌, ℕ, suc, false, Option, None, Some, List, [], ◌∷◌, slice_get}
-use Rattle.bit_expr.specs.declared.node.Node.{Node}
-use Rattle.bit_expr.specs.Arena.{arena}
-use Rattle.abel_tree.specs.declared.words.Extension.{Extension}
-use Rattle.abel_tree.specs.Entries.{Entry}
-use Rattle.abel_meaning.specs.Designs.{Context}
-use Rattle.abel_meaning.specs.FormulaBits.{bits_of}
-use Rattle.abel_meaning.specs.Terms.{Term, extended_if}
+use Rattle.expr_bits.specs.Prelude.{Node, arena, Extension, Entry, Context, bits_of, Term, extended_if}
 use Rattle.expr_bits.specs.declared.forms.Bits.{Bits}
 use Rattle.expr_bits.specs.Parts.{IsPart}
 use Rattle.expr_bits.specs.declared.rows.Row.{Row}

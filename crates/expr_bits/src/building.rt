@@ -1,15 +1,9 @@
 //! Steps over a stack of values.
 
 ghost use Rattle.std.specs.Prelude.{◌≡◌, List, IfOk, OnOk};
-ghost use Rattle.bit_expr.specs.declared.node.Node.{Node as ANode};
-ghost use Rattle.bit_expr.specs.Arena.{arena};
-ghost use Rattle.bit_expr.specs.Formulas.{Formula};
-ghost use Rattle.expr_bits.specs.Making.{Makes};
-ghost use Rattle.set_expr.specs.Contexts.{context_for};
+ghost use Rattle.expr_bits.specs.Prelude.{ANode, arena, Formula, context_for};
+ghost use Rattle.expr_bits.specs.{Makes, Part, IsPart, AreStacked, Standing, top, below, as_set, made_by, left_by};
 ghost use Rattle.expr_bits.specs.declared.forms.Form.TheVariants as form;
-ghost use Rattle.expr_bits.specs.Parts.{Part, IsPart};
-ghost use Rattle.expr_bits.specs.Stacks.{AreStacked, Standing};
-ghost use Rattle.expr_bits.specs.Steps.{top, below, as_set, made_by, left_by};
 
 use crate::forms::{Bits, Form};
 use crate::leaves::{number_bits, one_bit};

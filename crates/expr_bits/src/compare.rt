@@ -1,11 +1,9 @@
 //! Relations of two words of one width.
 
 ghost use Rattle.std.specs.Prelude.{◌≡◌, length, reverse, IfOk};
-ghost use Rattle.bit_expr.specs.Arena.{arena};
+ghost use Rattle.expr_bits.specs.Prelude.{arena, relation_bit};
 ghost use Rattle.abel_tree.specs.declared.words.Binary.TheVariants as binary;
-ghost use Rattle.abel_meaning.specs.BitWords.{relation_bit};
-ghost use Rattle.expr_bits.specs.Making.{Makes, ShowsOne, AllIn, word_at};
-ghost use Rattle.expr_bits.specs.Pieces.{relation_steps, start_of};
+ghost use Rattle.expr_bits.specs.{Makes, ShowsOne, AllIn, word_at, relation_steps, start_of};
 
 use crate::pieces::{Relation, relation_step};
 use crate::word_operators::ZERO;

@@ -1,14 +1,8 @@
 //! The names of a source on a device.
 
 ghost use Rattle.std.specs.Prelude.{◌≡◌, None, IfOk, length};
-ghost use Rattle.abel_tree.specs.Entries.{entries_of};
-ghost use Rattle.abel_tree.specs.View.{view};
-ghost use Rattle.abel_meaning.specs.Terms.{known_of, term_of};
-ghost use Rattle.set_expr.specs.Answer.{refusal_of};
-ghost use Rattle.set_expr.specs.Contexts.{context_for};
-ghost use Rattle.expr_bits.specs.ExpressionBits.{MakesBits};
-ghost use Rattle.expr_bits.specs.Reads.{reads_signal};
-ghost use Rattle.expr_bits.specs.Still.{AreRows};
+ghost use Rattle.expr_bits.specs.Prelude.{entries_of, view, known_of, term_of, refusal_of, context_for};
+ghost use Rattle.expr_bits.specs.{MakesBits, reads_signal, AreRows};
 
 use crate::forms::Bits;
 use crate::keeping::rows_of;

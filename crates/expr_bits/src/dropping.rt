@@ -1,10 +1,8 @@
 //! Relations of what is left of two words.
 
 ghost use Rattle.std.specs.Prelude.{◌≡◌, length};
-ghost use Rattle.bit_expr.specs.Arena.{arena};
-ghost use Rattle.abel_meaning.specs.BitWords.{relation_bit};
-ghost use Rattle.abel_meaning.specs.FormulaBits.{kept_bits};
-ghost use Rattle.expr_bits.specs.Making.{Makes, ShowsOne, AllIn, word_at};
+ghost use Rattle.expr_bits.specs.Prelude.{arena, relation_bit, kept_bits};
+ghost use Rattle.expr_bits.specs.{Makes, ShowsOne, AllIn, word_at};
 
 use crate::compare::relation_word;
 use crate::positions::kept_word;

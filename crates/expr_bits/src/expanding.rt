@@ -1,17 +1,9 @@
 //! Expressions as work on their parts.
 
 ghost use Rattle.std.specs.Prelude.{◌≡◌, Option, List, [], ◌∷◌, ◌++◌, map, take, IfOk};
-ghost use Rattle.abel_tree.specs.declared.words.Extension.{Extension as AnExtension};
-ghost use Rattle.abel_tree.specs.Entries.{Entry, entries_of};
-ghost use Rattle.abel_tree.specs.Tree.{members_of};
-ghost use Rattle.abel_tree.specs.View.{view, view_member};
-ghost use Rattle.abel_meaning.specs.Designs.{Context};
-ghost use Rattle.abel_meaning.specs.Terms.{Term, Terms, extended_if, known_of, member_before, named_before, special_term, term_of, terms_of};
+ghost use Rattle.expr_bits.specs.Prelude.{AnExtension, Entry, entries_of, members_of, view, view_member, Context, Term, Terms, extended_if, known_of, member_before, named_before, special_term, term_of, terms_of, name_items};
 ghost use Rattle.abel_meaning.specs.Terms as term;
-ghost use Rattle.name_uses.specs.RangeParts.{name_items};
-ghost use Rattle.expr_bits.specs.Parts.{Part};
-ghost use Rattle.expr_bits.specs.Stacks.{ComesTo, Precedes, tasks_of};
-ghost use Rattle.expr_bits.specs.Steps.{Do, Push, after_all, after_task};
+ghost use Rattle.expr_bits.specs.{Part, ComesTo, Precedes, tasks_of, Do, Push, after_all, after_task};
 
 use crate::naming::name_work;
 use crate::step::Step;

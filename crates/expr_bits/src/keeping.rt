@@ -2,15 +2,8 @@
 
 ghost use Rattle.std.specs.Prelude.{◌≡◌, ℕ, false, None, Some, IfOk, length, slice_get, take};
 ghost use Rattle.abel_tree.specs.declared.words.Extension.TheVariants as extension;
-ghost use Rattle.abel_tree.specs.Entries.{entries_of, view_declared};
-ghost use Rattle.abel_tree.specs.View.{view};
-ghost use Rattle.abel_meaning.specs.Designs.{Context, name_at};
-ghost use Rattle.abel_meaning.specs.Sources.{source_by};
-ghost use Rattle.abel_meaning.specs.Terms.{Read, known_of, term_of};
-ghost use Rattle.set_expr.specs.Contexts.{context_for};
-ghost use Rattle.expr_bits.specs.Reads.{IsReads, is_leaf, reads_leaf};
-ghost use Rattle.expr_bits.specs.Stacks.{here_term};
-ghost use Rattle.expr_bits.specs.Still.{AreRows, IsKeptIf, IsRow};
+ghost use Rattle.expr_bits.specs.Prelude.{entries_of, view_declared, view, Context, name_at, source_by, Read, known_of, term_of, context_for};
+ghost use Rattle.expr_bits.specs.{IsReads, is_leaf, reads_leaf, here_term, AreRows, IsKeptIf, IsRow};
 
 use crate::forms::Bits;
 use crate::reading_names::expr_reads;

@@ -1,12 +1,9 @@
 //! Numbers and single bits.
 
 ghost use Rattle.std.specs.Prelude.{◌≡◌, List, [], ◌∷◌, IfOk};
-ghost use Rattle.bit_expr.specs.Formulas.{Formula};
-ghost use Rattle.abel_meaning.specs.Numbers.{Value};
+ghost use Rattle.expr_bits.specs.Prelude.{Formula, Value};
 ghost use Rattle.abel_meaning.specs.Numbers as number;
-ghost use Rattle.expr_bits.specs.Making.{ShowsOne};
-ghost use Rattle.expr_bits.specs.Parts.{IsPart, number_part};
-ghost use Rattle.expr_bits.specs.Showing.{IsBits};
+ghost use Rattle.expr_bits.specs.{ShowsOne, IsPart, number_part, IsBits};
 
 use crate::forms::{Bits, Form};
 use bit_expr::ExprId;

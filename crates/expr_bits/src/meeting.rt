@@ -1,14 +1,8 @@
 //! Values in so many positions.
 
 ghost use Rattle.std.specs.Prelude.{◌≡◌, false, ◌||◌, List, length, get_or, replicate, IfOk};
-ghost use Rattle.bit_expr.specs.declared.node.Node.{Node};
-ghost use Rattle.bit_expr.specs.Arena.{arena};
-ghost use Rattle.bit_expr.specs.Formulas.{Formula};
-ghost use Rattle.abel_meaning.specs.BitWords.{Word};
-ghost use Rattle.abel_meaning.specs.FormulaBits.{met_word};
-ghost use Rattle.abel_meaning.specs.Numbers.{Value, width_of, meeting, met_unknown, either_unknown};
-ghost use Rattle.expr_bits.specs.Making.{ShowsItems};
-ghost use Rattle.expr_bits.specs.Showing.{HasForm, HasUnknown, IsBits};
+ghost use Rattle.expr_bits.specs.Prelude.{Node, arena, Formula, Word, met_word, Value, width_of, meeting, met_unknown, either_unknown};
+ghost use Rattle.expr_bits.specs.{ShowsItems, HasForm, HasUnknown, IsBits};
 
 use crate::forms::{Bits, Form};
 use crate::positions::{bit_at, digit_word, resized_word, spread_word};

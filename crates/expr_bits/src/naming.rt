@@ -1,9 +1,8 @@
 //! What names are to be built as.
 
 ghost use Rattle.std.specs.Prelude.{List, take};
-ghost use Rattle.abel_tree.specs.Entries.{Entry, entries_of, view_meaning};
-ghost use Rattle.abel_meaning.specs.Terms.{extended_if, known_of, term_meant, term_named};
-ghost use Rattle.expr_bits.specs.Stacks.{ComesTo, named_term};
+ghost use Rattle.expr_bits.specs.Prelude.{Entry, entries_of, view_meaning, extended_if, known_of, term_meant, term_named};
+ghost use Rattle.expr_bits.specs.{ComesTo, named_term};
 
 use crate::step::Step;
 use crate::work::{Outer, Work};

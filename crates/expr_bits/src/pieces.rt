@@ -1,10 +1,8 @@
 //! Parts of sums and relations, a few nodes each.
 
 ghost use Rattle.std.specs.Prelude.{◌≡◌, ◌<◌, length};
-ghost use Rattle.bit_expr.specs.Arena.{arena, formula_at};
-ghost use Rattle.abel_meaning.specs.BitWords.{sum_bit, next_carry};
-ghost use Rattle.expr_bits.specs.Making.{Makes, ShowsOne};
-ghost use Rattle.expr_bits.specs.Pieces.{same_of, under_of, upto_of, or_and_of, relation_step, start_id};
+ghost use Rattle.expr_bits.specs.Prelude.{arena, formula_at, sum_bit, next_carry};
+ghost use Rattle.expr_bits.specs.{Makes, ShowsOne, same_of, under_of, upto_of, or_and_of, relation_step, start_id};
 
 use crate::word_operators::{ONE, ZERO};
 use bit_expr::{ExprFault, ExprId, Exprs, Node};

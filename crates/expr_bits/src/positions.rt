@@ -1,7 +1,7 @@
 //! Words of the positions of others, without any node.
 
 ghost use Rattle.std.specs.Prelude.{◌≡◌, get_or, replicate, IfOk};
-ghost use Rattle.expr_bits.specs.Positions.{bit_id, digit_ids, kept_ids, resized_ids};
+ghost use Rattle.expr_bits.specs.{bit_id, digit_ids, kept_ids, resized_ids};
 
 use crate::word_operators::{ONE, ZERO};
 use bit_expr::ExprId;

@@ -1,15 +1,9 @@
 //! The bits of what signals read.
 
 ghost use Rattle.std.specs.Prelude.{◌≡◌};
-ghost use Rattle.abel_meaning.specs.Designs.{Context};
-ghost use Rattle.abel_meaning.specs.FormulaBits.{make_source};
-ghost use Rattle.abel_meaning.specs.Sources.{source_of};
+ghost use Rattle.expr_bits.specs.Prelude.{Context, make_source, source_of, IsContextOf};
 ghost use Rattle.abel_meaning.specs.Terms as term;
-ghost use Rattle.expr_bits.specs.Making.{Makes, ShowsOne};
-ghost use Rattle.set_expr.specs.Answer.{IsContextOf};
-ghost use Rattle.expr_bits.specs.Parts.{IsPart};
-ghost use Rattle.expr_bits.specs.Held.{HasLeaf, view_reading};
-ghost use Rattle.expr_bits.specs.Steps.{term_part};
+ghost use Rattle.expr_bits.specs.{Makes, ShowsOne, IsPart, HasLeaf, view_reading, term_part};
 
 use crate::forms::Bits;
 use crate::leaves::one_bit;

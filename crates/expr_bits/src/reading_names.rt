@@ -1,15 +1,9 @@
 //! What expressions read, by what their names read.
 
 ghost use Rattle.std.specs.Prelude.{length, map, take, IfOk};
-ghost use Rattle.std.specs.List.{list_any};
-ghost use Rattle.abel_tree.specs.Entries.{entries_of};
-ghost use Rattle.abel_tree.specs.View.{view};
-ghost use Rattle.abel_meaning.specs.Designs.{Context};
-ghost use Rattle.abel_meaning.specs.Terms.{known_of, term_named, term_of};
-ghost use Rattle.name_uses.specs.RangeParts.{name_items};
+ghost use Rattle.expr_bits.specs.Prelude.{list_any, entries_of, view, Context, known_of, term_named, term_of, name_items};
 ghost use Rattle.name_uses.specs.Viewed.{view_use};
-ghost use Rattle.expr_bits.specs.Reads.{Finds, IsReads, named_leaf, named_signal, used_leaf, used_signal};
-ghost use Rattle.expr_bits.specs.Still.{AreRows};
+ghost use Rattle.expr_bits.specs.{Finds, IsReads, named_leaf, named_signal, used_leaf, used_signal, AreRows};
 
 use crate::reads::Reads;
 use crate::rows::{Row, reads_at};

@@ -1,9 +1,8 @@
 //! What a value reads.
 
 ghost use Rattle.std.specs.Prelude.{◌≡◌, ◌||◌, Option};
-ghost use Rattle.abel_tree.specs.declared.words.Extension.{Extension as AnExtension};
-ghost use Rattle.abel_tree.specs.Extensions.{innermost};
-ghost use Rattle.expr_bits.specs.Reads.{leaf_under, no_reads};
+ghost use Rattle.expr_bits.specs.Prelude.{AnExtension, innermost};
+ghost use Rattle.expr_bits.specs.{leaf_under, no_reads};
 
 use abel_tree::Extension;
 

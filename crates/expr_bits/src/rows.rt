@@ -1,10 +1,8 @@
 //! What is kept of each name: what it reads, and the bits of a constant that makes no node.
 
 ghost use Rattle.std.specs.Prelude.{◌≡◌, List, None, IfSome};
-ghost use Rattle.abel_tree.specs.Entries.{Entry};
-ghost use Rattle.abel_meaning.specs.Designs.{Context};
-ghost use Rattle.expr_bits.specs.Stacks.{named_term};
-ghost use Rattle.expr_bits.specs.Still.{AreRows, IsKept, reads_at};
+ghost use Rattle.expr_bits.specs.Prelude.{Entry, Context};
+ghost use Rattle.expr_bits.specs.{named_term, AreRows, IsKept, reads_at};
 
 use crate::forms::Bits;
 use crate::reads::Reads;

@@ -1,12 +1,8 @@
 //! Sets of values as bits.
 
 ghost use Rattle.std.specs.Prelude.{◌≡◌, List, length, IfOk};
-ghost use Rattle.bit_expr.specs.declared.node.Node.{Node};
-ghost use Rattle.bit_expr.specs.Arena.{arena};
-ghost use Rattle.bit_expr.specs.Formulas.{Formula};
-ghost use Rattle.abel_meaning.specs.Numbers.{Value, member_width};
-ghost use Rattle.expr_bits.specs.Parts.{IsPart, Part, joined_part, no_part};
-ghost use Rattle.expr_bits.specs.Showing.{HasForm};
+ghost use Rattle.expr_bits.specs.Prelude.{Node, arena, Formula, Value, member_width};
+ghost use Rattle.expr_bits.specs.{IsPart, Part, joined_part, no_part, HasForm};
 ghost use Rattle.expr_bits.specs.declared.forms.Form.TheVariants as form;
 
 use crate::forms::{Bits, Form};

@@ -1,12 +1,8 @@
 //! What an expression comes to, from its bits.
 
 ghost use Rattle.std.specs.Prelude.{◌≡◌, ◌<◌, List, length, IfOk};
-ghost use Rattle.bit_expr.specs.Formulas.{Formula};
-ghost use Rattle.abel_meaning.specs.BitWords.{Word};
-ghost use Rattle.abel_meaning.specs.Numbers.{Value};
-ghost use Rattle.set_expr.specs.Answer.{IsShaped};
-ghost use Rattle.expr_bits.specs.Showing.{IsBits};
-ghost use Rattle.expr_bits.specs.Shaping.{IsBlank, place_of, places_of, shape_of};
+ghost use Rattle.expr_bits.specs.Prelude.{Formula, Word, Value, IsShaped};
+ghost use Rattle.expr_bits.specs.{IsBits, IsBlank, place_of, places_of, shape_of};
 
 use crate::forms::{Bits, Form};
 use bit_expr::ExprId;

@@ -1,9 +1,8 @@
 //! What signals read.
 
 ghost use Rattle.std.specs.Prelude.{◌≡◌, ◌<◌, Some};
-ghost use Rattle.abel_tree.specs.Entries.{is_stored, view_declared};
-ghost use Rattle.abel_meaning.specs.Sources.{node_source, on_pin, pin_source, register_source, source_by};
-ghost use Rattle.expr_bits.specs.Held.{HasLeaf, view_reading};
+ghost use Rattle.expr_bits.specs.Prelude.{is_stored, view_declared, node_source, on_pin, pin_source, register_source, source_by};
+ghost use Rattle.expr_bits.specs.{HasLeaf, view_reading};
 ghost use Rattle.set_expr.specs.Scopes.{IsPlacedKind};
 
 use abel_tree::{Declared, Extension, Meaning};

@@ -1,9 +1,8 @@
 //! Operators that go along two words, position by position.
 
 ghost use Rattle.std.specs.Prelude.{◌≡◌, ◌<◌, length};
-ghost use Rattle.bit_expr.specs.Arena.{arena, formula_at};
-ghost use Rattle.expr_bits.specs.Along.{step_by, along};
-ghost use Rattle.expr_bits.specs.Making.{Makes, ShowsTwo, ShowsItems, AllIn, word_at};
+ghost use Rattle.expr_bits.specs.Prelude.{arena, formula_at};
+ghost use Rattle.expr_bits.specs.{step_by, along, Makes, ShowsTwo, ShowsItems, AllIn, word_at};
 
 use crate::pieces::{next_carry, same_bit, sum_bit};
 use bit_expr::{ExprFault, ExprId, Exprs, Node};

@@ -1,13 +1,8 @@
 //! Operators on values as bits.
 
 ghost use Rattle.std.specs.Prelude.{ℕ, Bool, List, false};
-ghost use Rattle.bit_expr.specs.Arena.{arena};
-ghost use Rattle.abel_meaning.specs.Numbers.{Value};
-ghost use Rattle.abel_meaning.specs.Values.{unary_value};
-ghost use Rattle.expr_bits.specs.Making.{Makes};
-ghost use Rattle.expr_bits.specs.Showing.{HasForm, HasUnknown};
-ghost use Rattle.expr_bits.specs.Operators.{MeetsAs, related_part, computed_part};
-ghost use Rattle.expr_bits.specs.Parts.{Part, IsPart, Stands, under_part, both_part, computed_value};
+ghost use Rattle.expr_bits.specs.Prelude.{arena, Value, unary_value};
+ghost use Rattle.expr_bits.specs.{Makes, HasForm, HasUnknown, MeetsAs, related_part, computed_part, Part, IsPart, Stands, under_part, both_part, computed_value};
 
 use crate::dropping::{Compared, kept_relation};
 use crate::forms::{Bits, Form};

@@ -1,14 +1,8 @@
 //! The walk over an expression.
 
 ghost use Rattle.std.specs.Prelude.{◌≡◌};
-ghost use Rattle.abel_tree.specs.Entries.{entries_of};
-ghost use Rattle.abel_meaning.specs.Terms.{Term};
-ghost use Rattle.expr_bits.specs.Making.{Makes};
-ghost use Rattle.set_expr.specs.Contexts.{context_for};
-ghost use Rattle.expr_bits.specs.Parts.{IsPart};
-ghost use Rattle.expr_bits.specs.Stacks.{task_of};
-ghost use Rattle.expr_bits.specs.Steps.{Push, term_part};
-ghost use Rattle.expr_bits.specs.Still.{AreRows};
+ghost use Rattle.expr_bits.specs.Prelude.{entries_of, Term, context_for};
+ghost use Rattle.expr_bits.specs.{Makes, IsPart, task_of, Push, term_part, AreRows};
 
 use crate::building::{build, copied, taken};
 use crate::expanding::{expand, expand_members};

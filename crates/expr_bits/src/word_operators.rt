@@ -1,10 +1,8 @@
 //! Operators on words of one width.
 
 ghost use Rattle.std.specs.Prelude.{◌≡◌, length};
-ghost use Rattle.bit_expr.specs.Arena.{arena};
-ghost use Rattle.abel_meaning.specs.BitWords.{each_not, difference_bits, operator_bits, unary_word};
-ghost use Rattle.expr_bits.specs.Along.{step_of};
-ghost use Rattle.expr_bits.specs.Making.{Makes, ShowsItems, AllIn, word_at};
+ghost use Rattle.expr_bits.specs.Prelude.{arena, each_not, difference_bits, operator_bits, unary_word};
+ghost use Rattle.expr_bits.specs.{step_of, Makes, ShowsItems, AllIn, word_at};
 
 use crate::positions::spread_word;
 use crate::steps::{Step, Sweep, along};

@@ -1,12 +1,7 @@
 -- Numbers, `.X.` and sets make no node.
 use Rattle.std.proofs.Common.{false, refl}
-use Rattle.bit_expr.specs.Arena.{arena}
-use Rattle.bit_expr.specs.Formulas.{Const}
+use Rattle.expr_bits.proofs.Common.{arena, Const, constant_of, context_for, IsPart, joined_part, no_part, number_part, as_set, below, term_part, top}
 use Rattle.abel_meaning.specs.Terms as term
-use Rattle.abel_meaning.specs.Values.{constant_of}
-use Rattle.set_expr.specs.Contexts.{context_for}
-use Rattle.expr_bits.specs.Parts.{IsPart, joined_part, no_part, number_part}
-use Rattle.expr_bits.specs.Steps.{as_set, below, term_part, top}
 use Rattle.expr_bits.proofs.AlongWords.{zero_there, zero_is}
 use Rattle.expr_bits.proofs.Contexts.{is_context}
 use Rattle.expr_bits.proofs.Making.{nothing_made}

@@ -1,7 +1,6 @@
 -- The value on top, or a number.
 use Rattle.std.proofs.Common.{sym, subst}
-use Rattle.expr_bits.specs.Parts.{IsPart}
-use Rattle.expr_bits.specs.Steps.{top}
+use Rattle.expr_bits.proofs.Common.{IsPart, top}
 use Rattle.expr_bits.proofs.StackLaws.{stack_none, none_left}
 use Rattle.expr_bits.proofs.building.taken.Goals as goal
 

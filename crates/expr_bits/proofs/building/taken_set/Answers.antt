@@ -1,5 +1,5 @@
 -- A set is taken as it is.
-use Rattle.expr_bits.specs.Steps.{top}
+use Rattle.expr_bits.proofs.Common.{top}
 use Rattle.expr_bits.proofs.StackLaws.{set_empty, set_kept}
 use Rattle.expr_bits.proofs.building.taken_set.Goals as goal
 

@@ -1,11 +1,6 @@
 -- One position more, and all positions.
 use Rattle.std.proofs.Common.{◌<◌, ◌≤◌, Result, refl, sym, subst, arith, drop}
-use Rattle.std.proofs.lemmas.Result.{err_from_is_err_and}
-use Rattle.bit_expr.specs.Arena.{arena}
-use Rattle.bit_expr.specs.declared.fault.ExprFault.{ExprFault}
-use Rattle.bit_expr.specs.declared.node.ExprId.{ExprId}
-use Rattle.expr_bits.specs.Making.{Makes, ShowsOne, word_at}
-use Rattle.expr_bits.specs.Pieces.{relation_step, relation_steps, start_of}
+use Rattle.expr_bits.proofs.Common.{err_from_is_err_and, arena, ExprFault, ExprId, Makes, ShowsOne, word_at, relation_step, relation_steps, start_of}
 use Rattle.expr_bits.proofs.FoldedWords.{folds_on, fold_ends, fold_stops, relation_more, relation_none, start_shown}
 use Rattle.expr_bits.proofs.Making.{going_start, in_at}
 use Rattle.expr_bits.proofs.compare.compared.Goals as goal

@@ -1,8 +1,6 @@
 -- What was found before, and what is left to compare.
 use Rattle.std.proofs.Common.{drop}
-use Rattle.bit_expr.specs.Arena.{arena}
-use Rattle.expr_bits.specs.Making.{ShowsOne, word_at}
-use Rattle.expr_bits.specs.Pieces.{relation_steps, start_of}
+use Rattle.expr_bits.proofs.Common.{arena, ShowsOne, word_at, relation_steps, start_of}
 use Rattle.expr_bits.proofs.Making.{Going}
 use Rattle.expr_bits.proofs.compare.compared.Given as goal
 

@@ -1,9 +1,7 @@
 -- Both words from their other end on.
 use Rattle.std.proofs.Common.{◌≡◌, length, reverse, sym, ap, ◌∙◌, subst}
-use Rattle.std.proofs.lemmas.List.{length-reverse}
-use Rattle.bit_expr.specs.Arena.{arena, formula_at}
+use Rattle.expr_bits.proofs.Common.{length-reverse, arena, formula_at, AllIn, word_at}
 use Rattle.abel_meaning.proofs.RelationWords.{map_reverse}
-use Rattle.expr_bits.specs.Making.{AllIn, word_at}
 use Rattle.expr_bits.proofs.Making.{in_reverse}
 use Rattle.expr_bits.proofs.compare.equal_word.Goals as goal
 

@@ -1,8 +1,6 @@
 -- What is no relation gives 0.
 use Rattle.std.proofs.Common.{Ok, false, sym, subst}
-use Rattle.bit_expr.specs.Arena.{arena}
-use Rattle.bit_expr.specs.Formulas.{Const}
-use Rattle.expr_bits.specs.Making.{Makes, ShowsOne, word_at}
+use Rattle.expr_bits.proofs.Common.{arena, Const, Makes, ShowsOne, word_at}
 use Rattle.expr_bits.proofs.AlongWords.{zero_there, zero_is, no_relation}
 use Rattle.expr_bits.proofs.Making.{nothing_made}
 use Rattle.expr_bits.proofs.compare.relation_word.Goals as goal

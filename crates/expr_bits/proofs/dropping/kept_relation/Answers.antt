@@ -1,8 +1,6 @@
 -- What is kept of both has one width.
 use Rattle.std.proofs.Common.{◌≡◌, length, sym, ap, ◌∙◌, subst}
-use Rattle.bit_expr.specs.Arena.{arena}
-use Rattle.abel_meaning.specs.FormulaBits.{kept_bits}
-use Rattle.expr_bits.specs.Making.{AllIn, word_at}
+use Rattle.expr_bits.proofs.Common.{arena, kept_bits, AllIn, word_at}
 use Rattle.expr_bits.proofs.PositionWords.{kept_in, kept_at, kept_length}
 use Rattle.expr_bits.proofs.dropping.kept_relation.Goals as goal
 

@@ -1,14 +1,9 @@
 -- Each expression by its parts.
 use Rattle.std.proofs.Common.{map, take, refl, sym, ap, ◌∙◌}
-use Rattle.std.proofs.lemmas.Result.{IfOk-weaker}
-use Rattle.abel_tree.specs.Entries.{entries_of}
-use Rattle.abel_tree.specs.Tree.{members_of}
-use Rattle.abel_tree.specs.View.{view, view_member}
-use Rattle.abel_meaning.specs.Terms.{extended_if, known_of, special_term, term_named, term_of, terms_of}
+use Rattle.expr_bits.proofs.Common.{IfOk-weaker, entries_of, members_of, view, view_member, extended_if, known_of, special_term, term_named, term_of, terms_of, Push}
 use Rattle.abel_meaning.specs.Terms as term
 use Rattle.expr_bits.specs.declared.step.Step.TheVariants as step
 use Rattle.expr_bits.specs.declared.work.Work.TheVariants as work
-use Rattle.expr_bits.specs.Steps.{Push}
 use Rattle.expr_bits.proofs.Coming.{first_comes, same_first, number_comes, special_extended, under_work, both_work}
 use Rattle.expr_bits.proofs.Extensions.{innermost_wins}
 use Rattle.expr_bits.proofs.Views.{view_number, view_special, view_name, view_set, view_paren, view_unary, view_binary}

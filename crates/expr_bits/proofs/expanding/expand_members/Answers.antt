@@ -1,16 +1,9 @@
 -- The first member behind the others, or a set without members.
 use Rattle.std.proofs.Common.{map, refl, take, sym, ap, ◌∷◌, ◌∙◌}
-use Rattle.std.proofs.lemmas.List.{nil_from_length}
-use Rattle.std.proofs.lemmas.Result.{IfOk-weaker}
-use Rattle.abel_tree.specs.Entries.{entries_of}
-use Rattle.abel_tree.specs.Tree.{members_of}
-use Rattle.abel_tree.specs.View.{view_member}
-use Rattle.abel_meaning.specs.Terms.{extended_if, known_of, terms_of}
+use Rattle.expr_bits.proofs.Common.{nil_from_length, IfOk-weaker, entries_of, members_of, view_member, extended_if, known_of, terms_of, tasks_of, Push, after_all}
 use Rattle.abel_meaning.specs.Terms as term
 use Rattle.expr_bits.specs.declared.step.Step.TheVariants as step
 use Rattle.expr_bits.specs.declared.work.Work.TheVariants as work
-use Rattle.expr_bits.specs.Stacks.{tasks_of}
-use Rattle.expr_bits.specs.Steps.{Push, after_all}
 use Rattle.expr_bits.proofs.Coming.{first_comes}
 use Rattle.expr_bits.proofs.StepLaws.{set_none}
 use Rattle.expr_bits.proofs.expanding.expand_members.Goals as goal

@@ -1,12 +1,6 @@
 -- One value, and the names of a range.
 use Rattle.std.proofs.Common.{map, refl, take, sym, ap, ap₂, ◌∙◌, subst}
-use Rattle.std.proofs.lemmas.Result.{IfOk-weaker}
-use Rattle.abel_tree.specs.Entries.{entries_of}
-use Rattle.abel_tree.specs.Ranges.{range_names}
-use Rattle.abel_tree.specs.View.{view, view_member}
-use Rattle.abel_meaning.specs.Terms.{known_of, member_before, named_before, term_of}
-use Rattle.name_uses.specs.RangeParts.{name_items}
-use Rattle.expr_bits.specs.Stacks.{Precedes}
+use Rattle.expr_bits.proofs.Common.{IfOk-weaker, entries_of, range_names, view, view_member, known_of, member_before, named_before, term_of, name_items, Precedes}
 use Rattle.expr_bits.proofs.Views.{view_one, view_span}
 use Rattle.expr_bits.proofs.expanding.with_member.Goals as goal
 

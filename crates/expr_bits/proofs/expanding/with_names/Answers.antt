@@ -1,11 +1,7 @@
 -- One name more, and all of them.
 use Rattle.std.proofs.Common.{◌≡◌, ◌+◌, [], ◌∷◌, ◌++◌, map, refl, take, sym, ap, subst, ◌∙◌}
-use Rattle.abel_tree.specs.Entries.{entries_of}
-use Rattle.abel_meaning.specs.Terms.{extended_if, known_of, named_before, term_named}
+use Rattle.expr_bits.proofs.Common.{entries_of, extended_if, known_of, named_before, term_named, name_items, front_more, whole_front, ComesTo, Precedes}
 use Rattle.abel_meaning.specs.Terms as term
-use Rattle.name_uses.specs.RangeParts.{name_items}
-use Rattle.set_expr.proofs.FoundMembers.{front_more, whole_front}
-use Rattle.expr_bits.specs.Stacks.{ComesTo, Precedes}
 use Rattle.expr_bits.proofs.Coming.{names_last, precedes_then}
 use Rattle.expr_bits.proofs.expanding.with_names.Goals as goal
 

@@ -1,9 +1,6 @@
 -- The names so far are before the members of the set.
 use Rattle.std.proofs.Common.{map, take}
-use Rattle.abel_tree.specs.Entries.{entries_of}
-use Rattle.abel_meaning.specs.Terms.{Terms, known_of, named_before}
-use Rattle.name_uses.specs.RangeParts.{name_items}
-use Rattle.expr_bits.specs.Stacks.{Precedes}
+use Rattle.expr_bits.proofs.Common.{entries_of, Terms, known_of, named_before, name_items, Precedes}
 use Rattle.expr_bits.proofs.expanding.with_names.Given as goal
 
 abbrev pub invariant-loop-name : goal.invariant-loop-name

@@ -1,5 +1,5 @@
 -- The member is joined behind the value.
-use Rattle.std.proofs.lemmas.Result.{IfOk-weaker}
+use Rattle.expr_bits.proofs.Common.{IfOk-weaker}
 use Rattle.expr_bits.proofs.Coming.{value_precedes}
 use Rattle.expr_bits.proofs.expanding.with_value.Goals as goal
 

@@ -1,8 +1,6 @@
 -- A pin, and a node.
 use Rattle.std.proofs.Common.{length, refl, take, ap}
-use Rattle.abel_tree.specs.Entries.{entries_of, view_declared, view_meaning}
-use Rattle.abel_meaning.specs.Terms.{known_of, term_meant}
-use Rattle.set_expr.specs.Contexts.{context_for}
+use Rattle.expr_bits.proofs.Common.{entries_of, view_declared, view_meaning, known_of, term_meant, context_for}
 use Rattle.expr_bits.proofs.RowLaws.{name_here, signal_row}
 use Rattle.expr_bits.proofs.keeping.row_of.Goals as goal
 

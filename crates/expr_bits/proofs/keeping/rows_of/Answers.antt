@@ -1,8 +1,6 @@
 -- One row more.
 use Rattle.std.proofs.Common.{◌+◌, length, [], ◌∷◌, sym, ap, ◌∙◌, subst, arith, length-append}
-use Rattle.abel_tree.specs.Entries.{entries_of}
-use Rattle.set_expr.specs.Contexts.{context_for}
-use Rattle.expr_bits.specs.Still.{AreRows}
+use Rattle.expr_bits.proofs.Common.{entries_of, context_for, AreRows}
 use Rattle.expr_bits.proofs.RowLaws.{IsRowOf, row_more}
 use Rattle.expr_bits.proofs.keeping.rows_of.Goals as goal
 

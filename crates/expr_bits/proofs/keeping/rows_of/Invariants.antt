@@ -1,8 +1,6 @@
 -- The rows so far are those of the first names, one each.
 use Rattle.std.proofs.Common.{◌≡◌, length}
-use Rattle.abel_tree.specs.Entries.{entries_of}
-use Rattle.set_expr.specs.Contexts.{context_for}
-use Rattle.expr_bits.specs.Still.{AreRows}
+use Rattle.expr_bits.proofs.Common.{entries_of, context_for, AreRows}
 use Rattle.expr_bits.proofs.keeping.rows_of.Given as goal
 
 abbrev pub invariant-loop-declared : goal.invariant-loop-declared

@@ -1,13 +1,7 @@
 -- What was built alone without a node.
 use Rattle.std.proofs.Common.{length, take, Ok, Some, refl, sym, ◌∙◌, subst}
 use Rattle.abel_tree.specs.declared.words.Extension.TheVariants as extension
-use Rattle.abel_tree.specs.Entries.{entries_of}
-use Rattle.abel_tree.specs.View.{view}
-use Rattle.abel_meaning.specs.Terms.{extended_if, known_of, term_of}
-use Rattle.set_expr.specs.Contexts.{context_for}
-use Rattle.expr_bits.specs.Making.{Makes}
-use Rattle.expr_bits.specs.Parts.{IsPart}
-use Rattle.expr_bits.specs.Steps.{term_part}
+use Rattle.expr_bits.proofs.Common.{entries_of, view, extended_if, known_of, term_of, context_for, Makes, IsPart, term_part}
 use Rattle.expr_bits.proofs.KeptBits.{kept_alone}
 use Rattle.expr_bits.proofs.Quiet.{kept_under}
 use Rattle.expr_bits.proofs.keeping.still_bits.Goals as goal

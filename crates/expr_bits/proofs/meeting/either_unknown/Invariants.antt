@@ -1,6 +1,6 @@
 -- So many positions are there.
 use Rattle.std.proofs.Common.{◌≡◌, take}
-use Rattle.abel_meaning.specs.Numbers.{either_unknown}
+use Rattle.expr_bits.proofs.Common.{either_unknown}
 use Rattle.expr_bits.proofs.meeting.either_unknown.Given as goal
 
 abbrev pub invariant-loop-index : goal.invariant-loop-index

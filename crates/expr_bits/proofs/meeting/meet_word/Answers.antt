@@ -1,10 +1,6 @@
 -- The bits by form, and their width.
 use Rattle.std.proofs.Common.{◌≡◌, length, get_or, replicate, sym, ap, ◌∙◌, subst}
-use Rattle.std.proofs.lemmas.Result.{IfOk-weaker}
-use Rattle.bit_expr.specs.Arena.{arena}
-use Rattle.abel_meaning.specs.FormulaBits.{met_word}
-use Rattle.expr_bits.specs.Making.{ShowsAll}
-use Rattle.expr_bits.specs.Positions.{resized_ids}
+use Rattle.expr_bits.proofs.Common.{IfOk-weaker, arena, met_word, ShowsAll, resized_ids}
 use Rattle.expr_bits.proofs.MetWords.{met_number, met_single, met_set, digits_length, resized_length}
 use Rattle.expr_bits.proofs.meeting.meet_word.Goals as goal
 

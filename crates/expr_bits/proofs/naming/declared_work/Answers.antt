@@ -1,10 +1,6 @@
 -- What is declared under the number, or nothing.
 use Rattle.std.proofs.Common.{◌≡◌, ◌≤◌, None, length, slice_get, sym, ap, subst, arith}
-use Rattle.std.proofs.lemmas.Bool.{ltb-false}
-use Rattle.std.proofs.lemmas.Option.{slice_get_past}
-use Rattle.abel_tree.specs.Entries.{entries_of}
-use Rattle.abel_meaning.specs.Terms.{extended_if}
-use Rattle.expr_bits.specs.Stacks.{ComesTo, here_term}
+use Rattle.expr_bits.proofs.Common.{ltb-false, slice_get_past, entries_of, extended_if, ComesTo, here_term}
 use Rattle.expr_bits.proofs.Coming.{zero_comes}
 use Rattle.expr_bits.proofs.NamesBefore.{entry_at, entries_long}
 use Rattle.expr_bits.proofs.naming.declared_work.Goals as goal

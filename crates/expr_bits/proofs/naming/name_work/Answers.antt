@@ -1,8 +1,6 @@
 -- Among the first names it is what it is among all; any other is a number.
 use Rattle.std.proofs.Common.{sym, ap}
-use Rattle.abel_tree.specs.Entries.{entries_of}
-use Rattle.abel_meaning.specs.Terms.{extended_if}
-use Rattle.expr_bits.specs.Steps.{Push, after_task}
+use Rattle.expr_bits.proofs.Common.{entries_of, extended_if, Push, after_task}
 use Rattle.expr_bits.proofs.Coming.{zero_comes}
 use Rattle.expr_bits.proofs.NamesBefore.{here_is, named_none, named_past}
 use Rattle.expr_bits.proofs.naming.name_work.Goals as goal

@@ -1,8 +1,6 @@
 -- Two parts, and then both of them.
 use Rattle.std.proofs.Common.{Ok, refl}
-use Rattle.bit_expr.specs.Arena.{arena, formula_at}
-use Rattle.bit_expr.specs.Folding.{make_and, make_or}
-use Rattle.expr_bits.specs.Making.{Makes, ShowsOne}
+use Rattle.expr_bits.proofs.Common.{arena, formula_at, make_and, make_or, Makes, ShowsOne}
 use Rattle.expr_bits.proofs.Making.{kept, adds_makes, then_or_and}
 use Rattle.expr_bits.proofs.pieces.next_carry.Goals as goal
 

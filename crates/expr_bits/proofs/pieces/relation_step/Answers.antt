@@ -1,11 +1,6 @@
 -- Two parts, and then both of them.
 use Rattle.std.proofs.Common.{◌≡◌, Ok, refl, arith, subst}
-use Rattle.bit_expr.specs.Arena.{arena, formula_at}
-use Rattle.bit_expr.specs.Folding.{◌>>=◌, Made}
-use Rattle.bit_expr.specs.Formulas.{Formula}
-use Rattle.abel_meaning.specs.BitWords.{less_bit}
-use Rattle.expr_bits.specs.Making.{Makes, ShowsOne}
-use Rattle.expr_bits.specs.Pieces.{under_of, upto_of, or_and_of}
+use Rattle.expr_bits.proofs.Common.{arena, formula_at, ◌>>=◌, Made, Formula, less_bit, Makes, ShowsOne, under_of, upto_of, or_and_of}
 use Rattle.expr_bits.proofs.Making.{kept, made_is, then_or_and}
 use Rattle.expr_bits.proofs.pieces.relation_step.Goals as goal
 

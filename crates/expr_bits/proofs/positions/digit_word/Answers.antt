@@ -1,6 +1,6 @@
 -- One digit more, and all digits.
 use Rattle.std.proofs.Common.{ap, arith, ◌∙◌}
-use Rattle.expr_bits.specs.Positions.{digit_ids}
+use Rattle.expr_bits.proofs.Common.{digit_ids}
 use Rattle.expr_bits.proofs.PositionWords.{next, digits_next, halved_next}
 use Rattle.expr_bits.proofs.positions.digit_word.Goals as goal
 

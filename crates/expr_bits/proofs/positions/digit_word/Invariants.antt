@@ -1,6 +1,6 @@
 -- So many digits are there, and the number without them.
 use Rattle.std.proofs.Common.{◌≡◌}
-use Rattle.expr_bits.specs.Positions.{digit_ids}
+use Rattle.expr_bits.proofs.Common.{digit_ids}
 use Rattle.expr_bits.proofs.PositionWords.{halved}
 use Rattle.expr_bits.proofs.positions.digit_word.Given as goal
 

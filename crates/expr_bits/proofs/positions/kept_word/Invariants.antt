@@ -1,6 +1,6 @@
 -- What is kept of the first positions.
 use Rattle.std.proofs.Common.{◌≡◌, take}
-use Rattle.expr_bits.specs.Positions.{kept_ids}
+use Rattle.expr_bits.proofs.Common.{kept_ids}
 use Rattle.expr_bits.proofs.positions.kept_word.Given as goal
 
 abbrev pub invariant-loop-index : goal.invariant-loop-index

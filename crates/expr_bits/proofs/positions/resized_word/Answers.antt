@@ -1,6 +1,6 @@
 -- One position more, and all positions.
 use Rattle.std.proofs.Common.{ap, arith, ◌∙◌}
-use Rattle.expr_bits.specs.Positions.{resized_ids}
+use Rattle.expr_bits.proofs.Common.{resized_ids}
 use Rattle.expr_bits.proofs.PositionWords.{next, resized_next}
 use Rattle.expr_bits.proofs.positions.resized_word.Goals as goal
 

@@ -1,9 +1,7 @@
 -- One bit without X.
 use Rattle.std.proofs.Common.{refl}
-use Rattle.abel_meaning.specs.FormulaBits.{make_source}
-use Rattle.abel_meaning.specs.Sources.{source_of}
+use Rattle.expr_bits.proofs.Common.{make_source, source_of, constant_of}
 use Rattle.abel_meaning.specs.Terms as term
-use Rattle.abel_meaning.specs.Values.{constant_of}
 use Rattle.expr_bits.proofs.TwoValues.{one_made}
 use Rattle.expr_bits.proofs.reading.read.Goals as goal
 

@@ -1,7 +1,6 @@
 -- What the code reads is what the definition does.
 use Rattle.std.proofs.Common.{subst}
-use Rattle.expr_bits.specs.Making.{Makes, ShowsOne}
-use Rattle.abel_meaning.specs.FormulaBits.{make_source}
+use Rattle.expr_bits.proofs.Common.{Makes, ShowsOne, make_source}
 use Rattle.expr_bits.proofs.reading.read_signal.Goals as goal
 
 pub returns : goal.returns

@@ -1,5 +1,5 @@
 -- The name is one of those that are placed.
-use Rattle.abel_tree.specs.Entries.{view_declared}
+use Rattle.expr_bits.proofs.Common.{view_declared}
 use Rattle.expr_bits.proofs.NamesBefore.{entry_at}
 use Rattle.expr_bits.proofs.reading.signal_source.Goals as goal
 

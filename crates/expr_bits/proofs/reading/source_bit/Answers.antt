@@ -1,7 +1,6 @@
 -- The constant 0 is there.
 use Rattle.std.proofs.Common.{false}
-use Rattle.bit_expr.specs.Formulas.{Const}
-use Rattle.expr_bits.specs.Making.{ShowsOne}
+use Rattle.expr_bits.proofs.Common.{Const, ShowsOne}
 use Rattle.expr_bits.proofs.AlongWords.{zero_there, zero_is}
 use Rattle.expr_bits.proofs.Making.{nothing_made}
 use Rattle.expr_bits.proofs.reading.source_bit.Goals as goal

@@ -1,12 +1,6 @@
 -- One use more, and all uses.
 use Rattle.std.proofs.Common.{length, map, take, ap, ◌∙◌, subst}
-use Rattle.std.specs.List.{list_any}
-use Rattle.abel_tree.specs.Entries.{entries_of}
-use Rattle.abel_tree.specs.View.{view}
-use Rattle.abel_meaning.specs.Terms.{known_of}
-use Rattle.name_uses.specs.Viewed.{view_use}
-use Rattle.set_expr.proofs.FoundMembers.{front_more, whole_front}
-use Rattle.expr_bits.specs.Reads.{Finds, used_leaf, used_signal}
+use Rattle.expr_bits.proofs.Common.{list_any, entries_of, view, known_of, view_use, front_more, whole_front, Finds, used_leaf, used_signal}
 use Rattle.expr_bits.proofs.ReadLaws.{more_found, nothing_found, uses_read}
 use Rattle.expr_bits.proofs.reading_names.expr_reads.Goals as goal
 

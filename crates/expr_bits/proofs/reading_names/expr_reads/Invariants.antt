@@ -1,12 +1,6 @@
 -- What is read so far.
 use Rattle.std.proofs.Common.{length, map, take}
-use Rattle.std.specs.List.{list_any}
-use Rattle.abel_tree.specs.Entries.{entries_of}
-use Rattle.abel_meaning.specs.Designs.{Context}
-use Rattle.abel_meaning.specs.Terms.{known_of}
-use Rattle.name_uses.specs.Viewed.{view_use}
-use Rattle.expr_bits.specs.Reads.{Finds, used_leaf, used_signal}
-use Rattle.expr_bits.specs.Still.{AreRows}
+use Rattle.expr_bits.proofs.Common.{list_any, entries_of, Context, known_of, view_use, Finds, used_leaf, used_signal, AreRows}
 use Rattle.expr_bits.proofs.reading_names.expr_reads.Given as goal
 
 abbrev pub invariant-loop-used : goal.invariant-loop-used

@@ -1,11 +1,6 @@
 -- One name more, and all names.
 use Rattle.std.proofs.Common.{length, take, subst}
-use Rattle.std.specs.List.{list_any}
-use Rattle.abel_tree.specs.Entries.{entries_of}
-use Rattle.abel_meaning.specs.Terms.{known_of, term_named}
-use Rattle.name_uses.specs.RangeParts.{name_items}
-use Rattle.set_expr.proofs.FoundMembers.{front_more, whole_front}
-use Rattle.expr_bits.specs.Reads.{Finds, IsReads, named_leaf, named_signal}
+use Rattle.expr_bits.proofs.Common.{list_any, entries_of, known_of, term_named, name_items, front_more, whole_front, Finds, IsReads, named_leaf, named_signal}
 use Rattle.expr_bits.proofs.ReadLaws.{more_found, nothing_found}
 use Rattle.expr_bits.proofs.reading_names.list_reads.Goals as goal
 

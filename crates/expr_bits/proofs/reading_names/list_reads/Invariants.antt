@@ -1,12 +1,6 @@
 -- The names that were looked up.
 use Rattle.std.proofs.Common.{length, map, take}
-use Rattle.std.specs.List.{list_any}
-use Rattle.abel_tree.specs.Entries.{entries_of}
-use Rattle.abel_meaning.specs.Designs.{Context}
-use Rattle.abel_meaning.specs.Terms.{known_of}
-use Rattle.name_uses.specs.RangeParts.{name_items}
-use Rattle.expr_bits.specs.Reads.{Finds, named_leaf, named_signal}
-use Rattle.expr_bits.specs.Still.{AreRows}
+use Rattle.expr_bits.proofs.Common.{list_any, entries_of, Context, known_of, name_items, Finds, named_leaf, named_signal, AreRows}
 use Rattle.expr_bits.proofs.reading_names.list_reads.Given as goal
 
 abbrev pub invariant-loop-name : goal.invariant-loop-name

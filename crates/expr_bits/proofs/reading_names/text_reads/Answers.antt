@@ -1,8 +1,7 @@
 -- A name that has a row, and one that hasn't.
 use Rattle.std.proofs.Common.{length, take, sym, subst}
-use Rattle.abel_tree.specs.Entries.{entries_of}
-use Rattle.abel_meaning.specs.Terms.{Number, known_of, term_named}
-use Rattle.expr_bits.specs.Reads.{IsReads}
+use Rattle.expr_bits.proofs.Common.{entries_of, known_of, term_named, IsReads}
+use Rattle.abel_meaning.specs.Terms.{Number}
 use Rattle.expr_bits.proofs.NamesBefore.{named_none}
 use Rattle.expr_bits.proofs.ReadLaws.{nothing_found}
 use Rattle.expr_bits.proofs.RowLaws.{named_reads}

@@ -1,15 +1,7 @@
 -- One name, and the names of a range.
 use Rattle.std.proofs.Common.{◌≡◌, ◌∷◌, [], Option, length, map, option_map, take, sym, ap, ap₂, ◌∙◌, subst}
-use Rattle.std.specs.List.{list_any}
-use Rattle.std.proofs.Math.Bool.{or-false}
-use Rattle.abel_tree.specs.declared.words.Extension.{Extension}
-use Rattle.abel_tree.specs.Entries.{entries_of}
-use Rattle.abel_tree.specs.Extensions.{innermost}
-use Rattle.abel_tree.specs.Ranges.{range_names}
-use Rattle.abel_meaning.specs.Terms.{known_of, term_named}
-use Rattle.name_uses.specs.RangeParts.{name_items}
+use Rattle.expr_bits.proofs.Common.{list_any, or-false, Extension, entries_of, innermost, range_names, known_of, term_named, name_items, IsReads, named_leaf, named_signal, names_to}
 use Rattle.name_uses.specs.Viewed.{word_at}
-use Rattle.expr_bits.specs.Reads.{IsReads, named_leaf, named_signal, names_to}
 use Rattle.expr_bits.proofs.reading_names.used_reads.Goals as goal
 
 pub returns-in-None : goal.returns-in-None

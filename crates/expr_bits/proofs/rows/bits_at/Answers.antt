@@ -1,7 +1,6 @@
 -- The bits of a row, under an extension with which it reads no leaf.
 use Rattle.std.proofs.Common.{sym, slice_get, subst, ◌∙◌}
-use Rattle.expr_bits.specs.Stacks.{here_term}
-use Rattle.expr_bits.specs.Still.{IsKeptIf}
+use Rattle.expr_bits.proofs.Common.{here_term, IsKeptIf}
 use Rattle.expr_bits.proofs.RowLaws.{row_here}
 use Rattle.expr_bits.proofs.rows.bits_at.Goals as goal
 

@@ -1,7 +1,6 @@
 -- One position more, and all of them.
 use Rattle.std.proofs.Common.{◌≤◌, false, sym, ap₂, ◌∙◌, subst}
-use Rattle.std.proofs.lemmas.List.{take_all}
-use Rattle.expr_bits.specs.Shaping.{places_of}
+use Rattle.expr_bits.proofs.Common.{take_all, places_of}
 use Rattle.expr_bits.proofs.PositionWords.{next}
 use Rattle.expr_bits.proofs.Shaped.{places_next}
 use Rattle.expr_bits.proofs.shaping.places_of.Goals as goal

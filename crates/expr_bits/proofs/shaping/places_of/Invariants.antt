@@ -1,6 +1,6 @@
 -- So many positions are there.
 use Rattle.std.proofs.Common.{◌≡◌, take}
-use Rattle.expr_bits.specs.Shaping.{places_of}
+use Rattle.expr_bits.proofs.Common.{places_of}
 use Rattle.expr_bits.proofs.shaping.places_of.Given as goal
 
 abbrev pub invariant-loop-index : goal.invariant-loop-index

@@ -1,6 +1,6 @@
 -- The shape and the positions are those of the bits.
 use Rattle.std.proofs.Common.{ap₂, ◌∙◌}
-use Rattle.expr_bits.specs.Shaping.{places_of}
+use Rattle.expr_bits.proofs.Common.{places_of}
 use Rattle.expr_bits.proofs.Shaped.{shaped_is}
 use Rattle.expr_bits.proofs.shaping.shaped.Goals as goal
 

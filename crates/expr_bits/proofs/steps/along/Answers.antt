@@ -1,13 +1,7 @@
 -- One position more, and all positions.
 use Rattle.std.proofs.Common.{◌≡◌, ◌+◌, ◌<◌, nat_eq, length, Result, Ok, Err, refl, sym, ap, ◌∙◌, subst, arith}
-use Rattle.std.proofs.lemmas.Result.{err_from_is_err_and}
-use Rattle.std.specs.Global.{Vec}
-use Rattle.bit_expr.specs.Arena.{arena, formula_at}
-use Rattle.bit_expr.specs.declared.fault.ExprFault.{ExprFault}
+use Rattle.expr_bits.proofs.Common.{err_from_is_err_and, Vec, arena, formula_at, ExprFault, ExprId, along, Makes, ShowsItems, word_at}
 use Rattle.bit_expr.specs.declared.fault.ExprFault.TheVariants as fault
-use Rattle.bit_expr.specs.declared.node.ExprId.{ExprId}
-use Rattle.expr_bits.specs.Along.{along}
-use Rattle.expr_bits.specs.Making.{Makes, ShowsItems, word_at}
 use Rattle.expr_bits.proofs.Making.{in_at}
 use Rattle.expr_bits.proofs.WordPlaces.{seen, goes_on, stops, starts, ends, push_stops}
 use Rattle.expr_bits.proofs.steps.along.Goals as goal

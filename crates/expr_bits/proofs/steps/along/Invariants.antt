@@ -1,7 +1,5 @@
 -- The bits so far with the carry, and what is left.
-use Rattle.bit_expr.specs.Arena.{arena, formula_at}
-use Rattle.expr_bits.specs.Along.{along}
-use Rattle.expr_bits.specs.Making.{word_at}
+use Rattle.expr_bits.proofs.Common.{arena, formula_at, along, word_at}
 use Rattle.expr_bits.proofs.Making.{Going}
 use Rattle.expr_bits.proofs.WordPlaces.{Running, left}
 use Rattle.expr_bits.proofs.steps.along.Given as goal

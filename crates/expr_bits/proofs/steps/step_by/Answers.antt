@@ -1,10 +1,6 @@
 -- The bit, and then the carry.
 use Rattle.std.proofs.Common.{Bool, Ok, refl, sym, subst}
-use Rattle.bit_expr.specs.Arena.{arena, formula_at}
-use Rattle.bit_expr.specs.Folding.{free, ◌>>=◌}
-use Rattle.abel_meaning.specs.BitWords.{sum_bit, next_carry}
-use Rattle.expr_bits.specs.Along.{sum_step}
-use Rattle.expr_bits.specs.Making.{Makes, ShowsOne, ShowsTwo}
+use Rattle.expr_bits.proofs.Common.{arena, formula_at, free, ◌>>=◌, sum_bit, next_carry, sum_step, Makes, ShowsOne, ShowsTwo}
 use Rattle.expr_bits.proofs.Making.{kept, one_kept, then_all, nothing_made}
 use Rattle.expr_bits.proofs.steps.step_by.Goals as goal
 

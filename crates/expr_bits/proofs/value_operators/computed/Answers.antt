@@ -1,15 +1,6 @@
 -- Two numbers have no bits, and all else has a word as wide as both values.
 use Rattle.std.proofs.Common.{◌≡◌, false, replicate, length, Result, Ok, Err, sym, ap, ap₂, ◌∙◌, subst}
-use Rattle.std.proofs.lemmas.Result.{err_from_is_err_and}
-use Rattle.std.specs.Global.{Vec}
-use Rattle.bit_expr.specs.declared.fault.ExprFault.{ExprFault}
-use Rattle.bit_expr.specs.declared.node.ExprId.{ExprId}
-use Rattle.bit_expr.specs.Arena.{arena}
-use Rattle.abel_meaning.specs.BitWords.{operator_bits}
-use Rattle.expr_bits.specs.declared.forms.Bits.{Bits}
-use Rattle.expr_bits.specs.Making.{AllIn, Makes, ShowsItems, word_at}
-use Rattle.expr_bits.specs.Operators.{MeetsAs, computed_part}
-use Rattle.expr_bits.specs.Parts.{IsPart, computed_value, width_of_two, word_in}
+use Rattle.expr_bits.proofs.Common.{err_from_is_err_and, Vec, ExprFault, ExprId, arena, operator_bits, Bits, AllIn, Makes, ShowsItems, word_at, MeetsAs, computed_part, IsPart, computed_value, width_of_two, word_in}
 use Rattle.expr_bits.proofs.OperatedBits.{shown_length}
 use Rattle.expr_bits.proofs.TwoValues.{number_made, operated_made, operated_stops}
 use Rattle.expr_bits.proofs.value_operators.computed.Goals as goal

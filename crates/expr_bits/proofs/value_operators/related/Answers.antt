@@ -1,14 +1,6 @@
 -- What is left of both values in one width, as one bit without X.
 use Rattle.std.proofs.Common.{length, true, Result, Ok, Err, refl, sym, ap, ◌∙◌, subst, arith}
-use Rattle.std.proofs.lemmas.Result.{err_from_is_err_and}
-use Rattle.bit_expr.specs.Arena.{arena}
-use Rattle.bit_expr.specs.declared.fault.ExprFault.{ExprFault}
-use Rattle.bit_expr.specs.declared.node.ExprId.{ExprId}
-use Rattle.abel_meaning.specs.Values.{binary_by}
-use Rattle.expr_bits.specs.declared.forms.Bits.{Bits}
-use Rattle.expr_bits.specs.Making.{AllIn, Makes, ShowsOne, word_at}
-use Rattle.expr_bits.specs.Operators.{related_part}
-use Rattle.expr_bits.specs.Parts.{IsPart, relation_of}
+use Rattle.expr_bits.proofs.Common.{err_from_is_err_and, arena, ExprFault, ExprId, binary_by, Bits, AllIn, Makes, ShowsOne, word_at, related_part, IsPart, relation_of}
 use Rattle.expr_bits.proofs.Making.{stopped}
 use Rattle.expr_bits.proofs.OperatedBits.{relation_made}
 use Rattle.expr_bits.proofs.TwoValues.{one_made}

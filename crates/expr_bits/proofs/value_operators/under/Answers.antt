@@ -1,8 +1,6 @@
 -- The word of the value is that of the bits.
 use Rattle.std.proofs.Common.{refl, subst}
-use Rattle.bit_expr.specs.Arena.{arena}
-use Rattle.abel_meaning.specs.BitWords.{unary_word}
-use Rattle.expr_bits.specs.Making.{IsMade, ShowsItems, word_at}
+use Rattle.expr_bits.proofs.Common.{arena, unary_word, IsMade, ShowsItems, word_at}
 use Rattle.expr_bits.proofs.OperatedBits.{under_made}
 use Rattle.expr_bits.proofs.value_operators.under.Goals as goal
 

@@ -1,21 +1,8 @@
 -- One turn more, and the end.
 use Rattle.std.proofs.Common.{◌≡◌, List, [], ◌∷◌, ◌++◌, Result, Err, sym, ap, ◌∙◌, subst}
-use Rattle.std.proofs.lemmas.Result.{err_from_is_err_and}
-use Rattle.std.specs.Global.{Vec}
-use Rattle.bit_expr.specs.declared.fault.ExprFault.{ExprFault}
+use Rattle.expr_bits.proofs.Common.{err_from_is_err_and, Vec, ExprFault, Node, arena, Entry, entries_of, Context, context_for, Makes, Bits, Work, IsPart, named_term, task_of, tasks_of, Task, Push, Do, left_by, made_by, term_part}
 use Rattle.bit_expr.specs.declared.fault.ExprFault.TheVariants as fault
-use Rattle.bit_expr.specs.declared.node.Node.{Node}
-use Rattle.bit_expr.specs.Arena.{arena}
-use Rattle.abel_tree.specs.Entries.{Entry, entries_of}
-use Rattle.abel_meaning.specs.Designs.{Context}
-use Rattle.set_expr.specs.Contexts.{context_for}
-use Rattle.expr_bits.specs.Making.{Makes}
-use Rattle.expr_bits.specs.declared.forms.Bits.{Bits}
-use Rattle.expr_bits.specs.declared.work.Work.{Work}
 use Rattle.expr_bits.specs.declared.work.Work.TheVariants as work
-use Rattle.expr_bits.specs.Parts.{IsPart}
-use Rattle.expr_bits.specs.Stacks.{named_term, task_of, tasks_of}
-use Rattle.expr_bits.specs.Steps.{Task, Push, Do, left_by, made_by, term_part}
 use Rattle.expr_bits.proofs.Coming.{first_comes}
 use Rattle.expr_bits.proofs.StackLaws.{none_left, put_kept, put_made}
 use Rattle.expr_bits.proofs.Turns.{Walking, tasks_last, walking_start, walking_standing, walking_as, walking_turn, walking_stops, walking_done}

@@ -1,7 +1,5 @@
 -- What was built, and what is left comes to the whole.
-use Rattle.abel_tree.specs.Entries.{entries_of}
-use Rattle.set_expr.specs.Contexts.{context_for}
-use Rattle.expr_bits.specs.Stacks.{task_of, tasks_of}
+use Rattle.expr_bits.proofs.Common.{entries_of, context_for, task_of, tasks_of}
 use Rattle.expr_bits.proofs.Turns.{Walking}
 use Rattle.expr_bits.proofs.walking.walk.Given as goal
 

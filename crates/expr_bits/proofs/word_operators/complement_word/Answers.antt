@@ -1,7 +1,6 @@
 -- A complement goes along one word.
 use Rattle.std.proofs.Common.{subst}
-use Rattle.bit_expr.specs.Arena.{arena, formula_at}
-use Rattle.expr_bits.specs.Making.{Makes, ShowsItems, word_at}
+use Rattle.expr_bits.proofs.Common.{arena, formula_at, Makes, ShowsItems, word_at}
 use Rattle.expr_bits.proofs.AlongWords.{zero_there, not_along}
 use Rattle.expr_bits.proofs.word_operators.complement_word.Goals as goal
 

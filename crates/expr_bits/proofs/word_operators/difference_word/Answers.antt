@@ -1,10 +1,6 @@
 -- The complement, and then the sum.
 use Rattle.std.proofs.Common.{◌≡◌, length, true, refl, sym, ap, ◌∙◌, subst}
-use Rattle.std.proofs.lemmas.List.{length-map}
-use Rattle.bit_expr.specs.Arena.{arena, formula_at}
-use Rattle.bit_expr.specs.Formulas.{Const}
-use Rattle.abel_meaning.specs.BitWords.{each_not, sum_bits, difference_bits}
-use Rattle.expr_bits.specs.Making.{Makes, ShowsItems, word_at}
+use Rattle.expr_bits.proofs.Common.{length-map, arena, formula_at, Const, each_not, sum_bits, difference_bits, Makes, ShowsItems, word_at}
 use Rattle.expr_bits.proofs.AlongWords.{one_there, one_is, length_not, sum_along}
 use Rattle.expr_bits.proofs.Making.{in_kept, word_kept, then_all}
 use Rattle.expr_bits.proofs.word_operators.difference_word.Goals as goal

@@ -1,7 +1,6 @@
 -- Each operator that has a step goes along both words.
 use Rattle.std.proofs.Common.{Ok, sym, subst, ◌∙◌}
-use Rattle.bit_expr.specs.Arena.{arena}
-use Rattle.expr_bits.specs.Making.{Makes, ShowsItems, word_at}
+use Rattle.expr_bits.proofs.Common.{arena, Makes, ShowsItems, word_at}
 use Rattle.expr_bits.proofs.AlongWords.{zero_there, zero_is, no_operator, operator_along}
 use Rattle.expr_bits.proofs.PositionWords.{zeros_made}
 use Rattle.expr_bits.proofs.word_operators.operator_word.Goals as goal

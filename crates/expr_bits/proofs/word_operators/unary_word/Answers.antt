@@ -1,9 +1,6 @@
 -- Two's complement is zeros less the word.
 use Rattle.std.proofs.Common.{◌≡◌, length, false, map, sym, ap, ◌∙◌, subst}
-use Rattle.std.proofs.lemmas.List.{length-replicate}
-use Rattle.bit_expr.specs.Arena.{arena}
-use Rattle.bit_expr.specs.Formulas.{Const}
-use Rattle.expr_bits.specs.Making.{AllIn, word_at}
+use Rattle.expr_bits.proofs.Common.{length-replicate, arena, Const, AllIn, word_at}
 use Rattle.expr_bits.proofs.PositionWords.{zeros_in, zeros_at}
 use Rattle.expr_bits.proofs.word_operators.unary_word.Goals as goal
 

@@ -1,21 +1,6 @@
 -- The bits of the walk over all names, of which there are few.
 use Rattle.std.proofs.Common.{◌≡◌, ℕ, List, length, take, refl, sym, ap, ◌∙◌, subst}
-use Rattle.std.proofs.Math.Seq.{take-length}
-use Rattle.bit_expr.specs.Arena.{arena}
-use Rattle.bit_expr.specs.declared.node.Node.{Node}
-use Rattle.pld_device.specs.Table.{Table}
-use Rattle.abel_tree.specs.declared.names.Names.{Names}
-use Rattle.abel_tree.specs.Entries.{Entry, entries_of}
-use Rattle.abel_tree.specs.Tree.{Tree}
-use Rattle.abel_tree.specs.View.{view}
-use Rattle.abel_meaning.specs.FormulaBits.{bits_of}
-use Rattle.abel_meaning.specs.Terms.{known_of, term_of}
-use Rattle.set_expr.specs.Contexts.{context_for}
-use Rattle.expr_bits.specs.declared.forms.Bits.{Bits}
-use Rattle.expr_bits.specs.Making.{IsMade}
-use Rattle.expr_bits.specs.Parts.{IsPart}
-use Rattle.expr_bits.specs.Steps.{term_part}
-use Rattle.expr_bits.specs.Still.{AreRows}
+use Rattle.expr_bits.proofs.Common.{take-length, arena, Node, Table, Names, Entry, entries_of, Tree, view, bits_of, known_of, term_of, context_for, Bits, IsMade, IsPart, term_part, AreRows}
 use Rattle.expr_bits.proofs.Accepted.{accepted, few}
 use Rattle.expr_bits.proofs.device_scope.DeviceScope.bits.Goals as goal
 

@@ -1,7 +1,6 @@
 -- The same under each extension.
 use Rattle.std.proofs.Common.{sym, ap, ◌∙◌}
-use Rattle.abel_tree.specs.Extensions.{innermost}
-use Rattle.expr_bits.specs.Reads.{leaf_under}
+use Rattle.expr_bits.proofs.Common.{innermost, leaf_under}
 use Rattle.expr_bits.proofs.ReadLaws.{alike_leaf}
 use Rattle.expr_bits.proofs.reads.Reads.under.Goals as goal
 
