@@ -1,19 +1,10 @@
 -- What a fuse past the array controls, and its level.
 use Rattle.std.proofs.Common.{◌≡◌, ◌⊎◌, ℕ, ◌+◌, ◌*◌, ◌<◌, ◌≤◌, ◌==◌, Bool, true, false, nat_eq, nat_lt, if◌then◌else◌, Option, None, Some, List, ◌∷◌, [], ◌++◌, length, get_or, refl, ap, sym, subst, ◌∙◌, inl, inr, arith, slice_get, is_some, unwrap_or}
+use Rattle.fit_plans.proofs.Common.{cases_Bool, eqb-true, eq-eqb, ltb-true, get_or_append_left, get_or_past, slice_get_past, slice_get_within, nat_tests, is_on, same_level, Control, Inverts, Registers, Switches, IsFixed, fuse_for, fuse_if_any, IsDevice, Table, inverted_at, registered_at, Plan, IsPlanned, form_at, IsBurned, IsControlLevel, IsNoControl, IsNoCells, IsFoundFor, control_level, told_by, told_level}
 use Rattle.std.specs.Option.{option_eq}
-use Rattle.std.proofs.lemmas.Bool.{cases_Bool, eqb-true, eq-eqb, ltb-true}
 use Rattle.std.proofs.Math.Seq.{get_or-append_seam}
-use Rattle.std.proofs.lemmas.List.{get_or_append_left, get_or_past}
-use Rattle.std.proofs.lemmas.Option.{slice_get_past, slice_get_within}
-use Rattle.std.proofs.lemmas.Bool.Decides.{nat_tests}
-use Rattle.pld_base.specs.Bits.{is_on, same_level}
 use Rattle.pld_device.specs.declared.fuse_bit.FuseBit.{FuseBit}
-use Rattle.pld_device.specs.Laws.{Control, Inverts, Registers, Switches, IsFixed, fuse_for, fuse_if_any, IsDevice}
-use Rattle.pld_device.specs.Table.{Table, inverted_at, registered_at}
 use Rattle.fit_plans.specs.declared.control_fuses.CellForm.{CellForm}
-use Rattle.fit_plans.specs.declared.plan.Plan.{Plan}
-use Rattle.fit_plans.specs.Planned.{IsPlanned}
-use Rattle.fit_plans.specs.Controls.{form_at, IsBurned, IsControlLevel, IsNoControl, IsNoCells, IsFoundFor, control_level, told_by, told_level}
 
 -- ---- a level that is told
 

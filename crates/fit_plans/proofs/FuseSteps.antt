@@ -1,10 +1,6 @@
 -- One more fuse.
 use Rattle.std.proofs.Common.{◌≡◌, ℕ, ◌+◌, Bool, List, [], ◌∷◌, ◌++◌, map, Option, ap, sym, ◌∙◌, arith}
-use Rattle.std.specs.List.{range_with_len}
-use Rattle.std.proofs.lemmas.List.FromFn.{map-range_with_len_more}
-use Rattle.covers.specs.declared.cube.Cube.{Cube}
-use Rattle.pld_device.specs.Table.{Table}
-use Rattle.fit_plans.specs.FuseLists.{fuse_level, fuses_of}
+use Rattle.fit_plans.proofs.Common.{range_with_len, map-range_with_len_more, Cube, Table, fuse_level, fuses_of}
 
 pub one_fuse : {X : Type 0} (f : ℕ → X) (n : ℕ) (xs ys : List X) (x : X) → xs ≡ map f (range_with_len 0 n) → x ≡ f n → ys ≡ xs ++ x ∷ [] → ys ≡ map f (range_with_len 0 (n + 1))
 one_fuse f n xs ys x so_far is more = rw (more, so_far, is) (sym (map-range_with_len_more f 0 n n (omega arith)))

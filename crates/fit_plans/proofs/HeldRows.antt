@@ -1,17 +1,7 @@
 -- The fuses hold what was planned.
 use Rattle.std.proofs.Common.{◌≡◌, ℕ, ◌+◌, ◌<◌, Bool, false, Option, None, List, map, get_or, ap, ◌∙◌, arith}
-use Rattle.std.specs.List.{range_with_len}
-use Rattle.std.proofs.lemmas.List.FromFn.{get_or-map-range_with_len}
-use Rattle.std.proofs.lemmas.Option.{slice_get-get_or, slice_get_past}
-use Rattle.covers.specs.declared.cube.Cube.{Cube}
-use Rattle.pld_device.specs.Laws.{IsDevice}
-use Rattle.pld_device.specs.Table.{Table, no_cell, cell_at}
-use Rattle.covers.specs.Cubes.{full_cube}
-use Rattle.fit_plans.specs.FuseLists.{fuses_of, planned_row}
+use Rattle.fit_plans.proofs.Common.{range_with_len, get_or-map-range_with_len, slice_get-get_or, slice_get_past, Cube, IsDevice, Table, no_cell, cell_at, full_cube, fuses_of, planned_row, Plan, planned, IsPlanned}
 use Rattle.fit_plans.proofs.PlannedRows.{control_is, fuses_long, holds_planned, row_is}
-use Rattle.fit_plans.specs.declared.plan.Plan.{Plan}
-use Rattle.fit_plans.specs.Owners.{planned}
-use Rattle.fit_plans.specs.Planned.{IsPlanned}
 use Rattle.fit_plans.proofs.OwnedRows.{planned_data}
 
 pub is_planned : (t : Table) → IsDevice t → (p : Plan) (rows : List (Option Cube)) (control fuses : List Bool)

@@ -1,22 +1,11 @@
 -- The needed points of a function's two lists are allowed.
 use Rattle.std.proofs.Common.{◌≡◌, ℕ, zero, suc, ◌^◌, ◌<◌, ◌≤◌, Bool, true, false, ◌||◌, List, length, replicate, Some, refl, sym, ◌∙◌, ap, subst}
-use Rattle.std.proofs.lemmas.List.Elements.{All-from_recursion}
-use Rattle.std.specs.List.{AllByRecursion}
-use Rattle.pld_base.specs.Bits.{same_level}
-use Rattle.bit_expr.specs.declared.netlist.Function.{Function}
-use Rattle.bit_expr.specs.declared.netlist.Netlist.{Netlist}
+use Rattle.fit_plans.proofs.Common.{All-from_recursion, AllByRecursion, same_level, Function, Netlist, Cube, AllAskBelow, AsksBelow, covers, CoversList, all_turned, IsInside, IsCarried, ListsInside, levels_turned, allowed_of, needed_of, one_of, one_or_any}
 use Rattle.bit_expr.specs.Formulas.{Formula, formula_value}
-use Rattle.covers.specs.declared.cube.Cube.{Cube}
-use Rattle.covers.specs.Cubes.{AllAskBelow, AsksBelow, covers}
-use Rattle.covers.specs.Covers.{CoversList}
 use Rattle.sop_lowering.specs.Products.{Products}
 use Rattle.sop_lowering.specs.Values.{Carries, HasValue}
 use Rattle.sop_lowering.specs.Written.{written}
 use Rattle.sop_lowering.proofs.WrittenValues.{written_values}
-use Rattle.fit_plans.specs.Columns.{all_turned}
-use Rattle.fit_plans.specs.Covering.{IsInside}
-use Rattle.fit_plans.specs.Points.{IsCarried, ListsInside, levels_turned}
-use Rattle.fit_plans.specs.Tries.{allowed_of, needed_of, one_of, one_or_any}
 use Rattle.fit_plans.proofs.TurnedCubes.{covers_turned, length_turned, turned_below}
 
 -- the two lists have the values that their formulas have at some point

@@ -1,3 +1,4 @@
+pub mod Common
 pub mod ControlFuses
 pub mod FuseSteps
 pub mod HeldRows

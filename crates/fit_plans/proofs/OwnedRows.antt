@@ -1,19 +1,10 @@
 -- Whose a row is: a cell's data row is that cell's alone.
 use Rattle.std.proofs.Common.{◌≡◌, ℕ, zero, suc, ◌+◌, ◌-◌, ◌<◌, ◌≤◌, Bool, true, false, ◌==◌, Option, None, Some, List, ◌∷◌, length, drop, slice_get, refl, ap, sym, ◌∙◌, arith}
-use Rattle.std.proofs.lemmas.Bool.Decides.{nat_tests}
-use Rattle.std.proofs.lemmas.Bool.{eqb-true}
-use Rattle.std.proofs.lemmas.Option.{get_or_from_slice_get, slice_get-get_or, slice_get_within}
-use Rattle.std.proofs.lemmas.List.{drop_more, drop_all}
+use Rattle.fit_plans.proofs.Common.{nat_tests, eqb-true, get_or_from_slice_get, slice_get-get_or, slice_get_within, drop_more, drop_all, IsDevice, Table, no_cell, cell_at, IsDataRow, Data, Enabling, Reset, Preset, CellPlan, Plan, DevicesHaveOwners, planned, is_data, is_row, enables_as, enables, shared_owner, owner_from, owner}
 use Rattle.pld_device.specs.declared.cell.Cell.{Cell}
 use Rattle.pld_device.specs.declared.enable.Enable.{Enable}
 use Rattle.pld_device.specs.declared.enable.Enable.TheVariants.{Row, PinLow}
-use Rattle.pld_device.specs.Laws.{IsDevice}
 use Rattle.pld_device.proofs.RowsApart.{rows_apart}
-use Rattle.pld_device.specs.Table.{Table, no_cell, cell_at, IsDataRow}
-use Rattle.fit_plans.specs.declared.plan.Owner.TheVariants.{Data, Enabling, Reset, Preset}
-use Rattle.fit_plans.specs.declared.plan.CellPlan.{CellPlan}
-use Rattle.fit_plans.specs.declared.plan.Plan.{Plan}
-use Rattle.fit_plans.specs.Owners.{DevicesHaveOwners, planned, is_data, is_row, enables_as, enables, shared_owner, owner_from, owner}
 
 drop_at : {X : Type 0} (xs : List X) (i : ℕ) (x : X) → slice_get xs i ≡ Some x → drop i xs ≡ x ∷ drop (i + 1) xs
 drop_at {X = X} xs i x there = drop_more xs i x (slice_get_within xs i x there) ∙ ap (λ (y : X). y ∷ drop (i + 1) xs) (get_or_from_slice_get xs i x x there)

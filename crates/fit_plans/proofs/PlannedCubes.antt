@@ -1,12 +1,7 @@
 -- What is planned for a row is one of the plan's cubes.
 use Rattle.std.proofs.Common.{◌≡◌, ℕ, Option, Some, None, slice_get, refl}
-use Rattle.covers.specs.declared.cube.Cube.{Cube}
-use Rattle.pld_device.specs.Table.{Table}
-use Rattle.fit_plans.specs.declared.plan.CellPlan.{CellPlan}
+use Rattle.fit_plans.proofs.Common.{Cube, Table, CellPlan, Data, Enabling, Nobody, Preset, Reset, Plan, cube_for, of_cell, owner, planned}
 use Rattle.fit_plans.specs.declared.plan.Owner.{Owner}
-use Rattle.fit_plans.specs.declared.plan.Owner.TheVariants.{Data, Enabling, Nobody, Preset, Reset}
-use Rattle.fit_plans.specs.declared.plan.Plan.{Plan}
-use Rattle.fit_plans.specs.Owners.{cube_for, of_cell, owner, planned}
 
 module _ (t : Table) (plan : Plan) (P : Cube → Type 0)
     (rows : (c i : ℕ) (x : CellPlan) (d : Cube) → slice_get plan.cells c ≡ Some x → slice_get x.rows i ≡ Some d → P d)

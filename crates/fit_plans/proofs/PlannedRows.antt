@@ -1,18 +1,10 @@
 -- Fuses that are written down one by one have the rows that were planned.
 use Rattle.std.proofs.Common.{◌≡◌, ◌⊎◌, ℕ, suc, ◌+◌, ◌*◌, ◌/◌, ◌%◌, ◌-◌, ◌<◌, ◌≤◌, Bool, true, false, nat_lt, Option, Some, None, List, length, drop, get_or, refl, ap, sym, ◌∙◌, subst, arith, inl, inr, length-drop}
+use Rattle.fit_plans.proofs.Common.{cases_Bool, lt-ltb, ltb-true, length-take, length-replicate, get_or-replicate, get_or-take, get_or-drop, length-map-range_with_len, get_or-map-range_with_len, is_on, IsDevice, Table, Cube, full_cube, planned_fuse, planned_row, fuse_level, fuses_of}
 use Rattle.std.proofs.Math.Nat.{mul-le-mul_left, mul-add-div, mul-add-mod_self_left, div-eq_of_lt, mod-eq_of_lt}
-use Rattle.std.proofs.lemmas.Bool.{cases_Bool, lt-ltb, ltb-true}
-use Rattle.std.proofs.lemmas.List.{length-take, length-replicate, get_or-replicate, get_or-take, get_or-drop}
-use Rattle.std.proofs.lemmas.List.FromFn.{length-map-range_with_len, get_or-map-range_with_len}
-use Rattle.pld_base.specs.Bits.{is_on}
 use Rattle.pld_base.proofs.BitLemmas.{same_levels}
-use Rattle.pld_device.specs.Laws.{IsDevice}
 use Rattle.pld_device.specs.Rows.{row_fuses}
-use Rattle.pld_device.specs.Table.{Table}
-use Rattle.covers.specs.declared.cube.Cube.{Cube}
-use Rattle.covers.specs.Cubes.{full_cube}
 use Rattle.fit_plans.specs.RowCubes.{fuse_at, row_of, zeros, HoldsCubes}
-use Rattle.fit_plans.specs.FuseLists.{planned_fuse, planned_row, fuse_level, fuses_of}
 
 -- a fuse of a row, by its column
 is_on-row_fuses : (t : Table) (fuses : List Bool) (row column : ℕ) → column < t.columns → is_on (row_fuses t fuses row) column ≡ is_on fuses (t.columns * row + column)

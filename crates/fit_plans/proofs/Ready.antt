@@ -1,11 +1,7 @@
 -- What can be covered meets what a cover asks for.
 use Rattle.std.proofs.Common.{ℕ, ◌≤◌, ◌<◌, ◌^◌, Bool, arith}
-use Rattle.bit_expr.specs.declared.netlist.Function.{Function}
-use Rattle.bit_expr.specs.declared.netlist.Netlist.{Netlist}
-use Rattle.fit_plans.specs.Covering.{AreInside}
-use Rattle.fit_plans.specs.Tries.{allowed_of, needed_of}
+use Rattle.fit_plans.proofs.Common.{Function, Netlist, AreInside, allowed_of, needed_of, CanCover}
 use Rattle.fit_plans.proofs.InsideLists.{lists_inside}
-use Rattle.fit_plans.specs.Covered.{CanCover}
 
 pub are_inside : (vars mask : ℕ) (net : Netlist) (f : Function) (positive : Bool) → vars ≤ 22 → mask < 2 ^ 32 → CanCover vars net f
     → AreInside vars mask (needed_of net f positive) (allowed_of net f positive)

@@ -1,14 +1,7 @@
 -- A turned cube has the turned points.
 use Rattle.std.proofs.Common.{◌≡◌, ◌⊎◌, inl, inr, ℕ, suc, ◌+◌, ◌-◌, ◌^◌, ◌<◌, ◌≤◌, min, max, Bool, true, false, not, ◌&&◌, ◌||◌, eqb, if◌then◌else◌, List, [], ◌∷◌, length, refl, sym, ◌∙◌, ap, subst, arith}
 use Rattle.std.specs.Prelude.{bit_and, bit_or, All}
-use Rattle.std.specs.Int.{bit_at, bit_not, w32}
-use Rattle.std.proofs.lemmas.List.Elements.{All-map}
-use Rattle.std.proofs.lemmas.Nat.{and_le_l, or_lt}
-use Rattle.std.proofs.lemmas.Nat.Bits.{bit_at-lt, bit_at_and, bit_at_or, bit_at_not}
-use Rattle.covers.specs.declared.cube.Cube.{Cube}
-use Rattle.covers.specs.Cubes.{AllAskBelow, AsksBelow, covers, fits, has_from}
-use Rattle.fit_plans.specs.Columns.{all_turned, turned}
-use Rattle.fit_plans.specs.Points.{TurnedPoints, levels_turned}
+use Rattle.fit_plans.proofs.Common.{bit_at, bit_not, w32, All-map, and_le_l, or_lt, bit_at-lt, bit_at_and, bit_at_or, bit_at_not, Cube, AllAskBelow, AsksBelow, covers, fits, has_from, all_turned, turned, TurnedPoints, levels_turned}
 
 pub exchanged : (a b mask v : ℕ) → mask < 2 ^ 32 → v < 32
     → bit_at (bit_or (bit_and a (bit_not w32 mask)) (bit_and b mask)) v ≡ max (min (bit_at a v) (1 - bit_at mask v)) (min (bit_at b v) (bit_at mask v))

@@ -1,14 +1,7 @@
 -- A literal of a turned cube is the turned literal of the cube, and leaving it out is turning what is left.
 use Rattle.std.proofs.Common.{◌≡◌, ◌≢◌, ◌⊎◌, inl, inr, ℕ, suc, ◌+◌, ◌-◌, ◌^◌, ◌<◌, ◌≤◌, min, Bool, true, false, not, ◌&&◌, if◌then◌else◌, List, [], ◌∷◌, length, refl, sym, ◌∙◌, ap, ap₂, arith}
 use Rattle.std.specs.Prelude.{bit_and, ◌==◌}
-use Rattle.std.specs.Int.{bit_at, bit_not, w32}
-use Rattle.std.proofs.lemmas.Bool.{cases_eq}
-use Rattle.std.proofs.lemmas.Nat.Bits.{bit_at-lt, bit_at-pow_other, bit_at-zero, bit_at_and, bit_at_not}
-use Rattle.std.proofs.lemmas.Nat.{pow_below}
-use Rattle.covers.specs.declared.cube.Cube.{Cube}
-use Rattle.covers.specs.Cubes.{asks, fits, has_from, literal_cube, without}
-use Rattle.fit_plans.specs.Columns.{turned}
-use Rattle.fit_plans.specs.Points.{levels_turned}
+use Rattle.fit_plans.proofs.Common.{bit_at, bit_not, w32, cases_eq, bit_at-lt, bit_at-pow_other, bit_at-zero, bit_at_and, bit_at_not, pow_below, Cube, asks, fits, has_from, literal_cube, without, turned, levels_turned}
 use Rattle.fit_plans.proofs.TurnedCubes.{exchanged, fits_turned, one_or_zero, stays, taken}
 
 -- the level that a literal of the turned cube has in the cube itself

@@ -1,15 +1,8 @@
 -- Turned lists of rows stay prime and irredundant.
 use Rattle.std.proofs.Common.{◌≡◌, ℕ, zero, suc, ◌+◌, ◌^◌, ◌<◌, ◌≤◌, Bool, true, false, not, if◌then◌else◌, List, [], ◌∷◌, ◌++◌, length, refl, sym, ◌∙◌, ap, ap₂, subst, arith}
 use Rattle.std.specs.Prelude.{◌==◌, remove, take, drop, get_or}
-use Rattle.std.specs.Int.{bit_at}
-use Rattle.std.proofs.lemmas.List.{length-map, map-append}
-use Rattle.std.proofs.lemmas.List.Elements.{All-map}
-use Rattle.covers.specs.declared.cube.Cube.{Cube}
-use Rattle.covers.specs.Covers.{CoversList}
-use Rattle.covers.specs.Cubes.{covers, has_point, literal_cube, without}
+use Rattle.fit_plans.proofs.Common.{bit_at, length-map, map-append, All-map, Cube, CoversList, covers, has_point, literal_cube, without, all_turned, turned, levels_turned}
 use Rattle.covers.specs.Prime.{IsIrredundant, IsPrime, IsPrimeIrredundant}
-use Rattle.fit_plans.specs.Columns.{all_turned, turned}
-use Rattle.fit_plans.specs.Points.{levels_turned}
 use Rattle.fit_plans.specs.TurnedCovers.{IsExchangedMask, TurnedAgain, TurnedStaysPrime}
 use Rattle.fit_plans.proofs.TurnedCubes.{covers_turned, length_turned}
 use Rattle.fit_plans.proofs.TurnedLiterals.{asks_turned, left_turned, turned_level}

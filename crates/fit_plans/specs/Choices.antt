@@ -1,7 +1,6 @@
 -- Which polarity a cell takes (this project's rule).
 use Rattle.std.specs.Prelude.{◌≡◌, ℕ, ◌≤◌, true, false, Option, Some, None, length, Result, Ok, Err}
-use Rattle.std.specs.Global.{Vec}
-use Rattle.covers.specs.declared.cube.Cube.{Cube}
+use Rattle.fit_plans.specs.Prelude.{Vec, Cube}
 use Rattle.fit_plans.specs.declared.choosing.Chosen.{Chosen}
 use Rattle.fit_plans.specs.declared.choosing.Tried.{Tried}
 

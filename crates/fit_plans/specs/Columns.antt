@@ -1,8 +1,7 @@
 -- Cubes over what the pairs' columns carry: a register's pair carries the complement of its Q (the devices'
 -- datasheets, macrocell diagrams). Bit v of a mask says that pair v does.
 use Rattle.std.specs.Prelude.{ℕ, List, map, bit_and, bit_or}
-use Rattle.std.specs.Int.{bit_not, w32}
-use Rattle.covers.specs.declared.cube.Cube.{Cube}
+use Rattle.fit_plans.specs.Prelude.{bit_not, w32, Cube}
 
 -- the cube with its two levels exchanged at the variables of the mask
 abbrev pub turned : (mask : ℕ) → Cube → Cube

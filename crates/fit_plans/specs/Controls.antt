@@ -1,11 +1,8 @@
 -- What the control fuses of a device are to say, beside the rows (the devices' datasheets, macrocell diagrams; row
 -- switches and fixed levels are this project's rule).
 use Rattle.std.specs.Prelude.{◌≡◌, ℕ, ◌*◌, ◌<◌, ◌≤◌, ◌==◌, Bool, true, false, if◌then◌else◌, Option, Some, None, List, length, get_or, slice_get, is_some}
-use Rattle.pld_base.specs.Bits.{is_on, same_level}
+use Rattle.fit_plans.specs.Prelude.{is_on, same_level, Control, Inverts, Registers, Switches, IsFixed, fuse_for, row_fuses, Table, cell_at, inverted_at, registered_at}
 use Rattle.pld_device.specs.declared.fuse_bit.FuseBit.{FuseBit}
-use Rattle.pld_device.specs.Laws.{Control, Inverts, Registers, Switches, IsFixed, fuse_for}
-use Rattle.pld_device.specs.Rows.{row_fuses}
-use Rattle.pld_device.specs.Table.{Table, cell_at, inverted_at, registered_at}
 use Rattle.fit_plans.specs.declared.control_fuses.CellForm.{CellForm}
 use Rattle.fit_plans.specs.declared.plan.CellPlan.{CellPlan}
 use Rattle.fit_plans.specs.declared.plan.Plan.{Plan}

@@ -1,13 +1,7 @@
 -- The covers of the cells and controls of a netlist, over the pairs' columns (this project's rule).
 use Rattle.std.specs.Prelude.{◌≡◌, ◌⊎◌, ℕ, Bool, true, false, if◌then◌else◌, Option, None, Some, List, length}
-use Rattle.std.specs.Global.{Vec}
-use Rattle.bit_expr.specs.declared.netlist.CellWanted.{CellWanted}
-use Rattle.bit_expr.specs.declared.netlist.Function.{Function}
-use Rattle.bit_expr.specs.declared.netlist.Netlist.{Netlist}
+use Rattle.fit_plans.specs.Prelude.{Vec, CellWanted, Function, Netlist, Cube, Flip, CanLower}
 use Rattle.bit_expr.specs.declared.node.ExprId.{ExprId}
-use Rattle.covers.specs.declared.cube.Cube.{Cube}
-use Rattle.pld_device.specs.declared.flip.Flip.{Flip}
-use Rattle.sop_lowering.specs.Lowering.{CanLower}
 use Rattle.fit_plans.specs.Choices.{FitsRoom}
 use Rattle.fit_plans.specs.Covering.{IsTried}
 use Rattle.fit_plans.specs.Points.{IsCarried}

@@ -1,11 +1,7 @@
 -- Covers between two written lists, over the pairs' columns (two-level minimisation; the lists are this project's rule).
 use Rattle.std.specs.Prelude.{◌≡◌, ◌⊎◌, ℕ, ◌≤◌, Option, Some, None, List, length}
-use Rattle.std.specs.Global.{Vec}
-use Rattle.covers.specs.declared.cube.Cube.{Cube}
+use Rattle.fit_plans.specs.Prelude.{Vec, Cube, AllAskBelow, IsPrimeIrredundant, Products}
 use Rattle.covers.specs.Covers.{CoversList}
-use Rattle.covers.specs.Cubes.{AllAskBelow}
-use Rattle.covers.specs.Prime.{IsPrimeIrredundant}
-use Rattle.sop_lowering.specs.Products.{Products}
 use Rattle.fit_plans.specs.Columns.{all_turned}
 
 -- the lists ask no variable from `vars` on, and every needed point is allowed

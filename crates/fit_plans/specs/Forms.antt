@@ -1,11 +1,8 @@
 -- The forms that an assigned cell may have in a device, and what its rows have in each (the devices' datasheets,
 -- macrocell diagrams).
 use Rattle.std.specs.Prelude.{Bool, true, false, not, ◌&&◌, ◌||◌, if◌then◌else◌, []}
-use Rattle.pld_base.specs.Bits.{same_level}
-use Rattle.pld_device.specs.declared.flip.Flip.{Flip}
+use Rattle.fit_plans.specs.Prelude.{same_level, Flip, complement_if, data_complements, pin_complements, CellWanted}
 use Rattle.pld_device.specs.declared.flip.Flip.TheVariants.{Always, AfterRegister, BeforeRegister}
-use Rattle.pld_device.specs.Macrocells.{complement_if, data_complements, pin_complements}
-use Rattle.bit_expr.specs.declared.netlist.CellWanted.{CellWanted}
 
 -- the cell may be inverted, or direct: a device that always complements has the inverted form alone, one that complements
 -- behind the register gives a register the form in which its pin follows Q as is asked, a free one both, and else both are free

@@ -1,9 +1,7 @@
 -- The fuses of a device, fuse by fuse: those of the rows by the cubes that they are to hold, and those past the array
 -- (this project's rule).
 use Rattle.std.specs.Prelude.{ℕ, ◌*◌, ◌/◌, ◌%◌, Bool, false, nat_lt, if◌then◌else◌, Option, None, Some, List, map}
-use Rattle.std.specs.List.{range_with_len}
-use Rattle.pld_device.specs.Table.{Table}
-use Rattle.covers.specs.declared.cube.Cube.{Cube}
+use Rattle.fit_plans.specs.Prelude.{range_with_len, Table, Cube}
 use Rattle.fit_plans.specs.RowCubes.{fuse_at, row_of, zeros}
 
 -- the fuse of a column in a row that holds a cube, or nothing

@@ -8,6 +8,7 @@ pub mod FuseLists
 pub mod Owners
 pub mod Planned
 pub mod Points
+pub mod Prelude
 pub mod RowCubes
 pub mod Tries
 pub mod TurnedCovers

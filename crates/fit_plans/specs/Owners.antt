@@ -1,11 +1,9 @@
 -- Whose each row of a device is, and the cube that it is to hold (this project's rule).
 use Rattle.std.specs.Prelude.{◌≡◌, ℕ, suc, ◌-◌, ◌<◌, ◌==◌, Bool, false, ◌&&◌, nat_le, nat_lt, if◌then◌else◌, Option, Some, None, List, [], ◌∷◌, length, slice_get}
-use Rattle.covers.specs.declared.cube.Cube.{Cube}
+use Rattle.fit_plans.specs.Prelude.{Cube, IsDevice, Table, IsDataRow, cell_at}
 use Rattle.pld_device.specs.declared.cell.Cell.{Cell}
 use Rattle.pld_device.specs.declared.enable.Enable.{Enable}
 use Rattle.pld_device.specs.declared.enable.Enable.TheVariants.{Row, PinLow}
-use Rattle.pld_device.specs.Laws.{IsDevice}
-use Rattle.pld_device.specs.Table.{Table, IsDataRow, cell_at}
 use Rattle.fit_plans.specs.declared.plan.CellPlan.{CellPlan}
 use Rattle.fit_plans.specs.declared.plan.Owner.{Owner}
 use Rattle.fit_plans.specs.declared.plan.Owner.TheVariants.{Data, Enabling, Reset, Preset, Nobody}

@@ -1,8 +1,6 @@
 -- Fuses of a device by what its rows are to hold (this project's rule).
 use Rattle.std.specs.Prelude.{◌≡◌, ℕ, ◌*◌, ◌<◌, ◌≤◌, Bool, Some, List, length, slice_get}
-use Rattle.pld_base.specs.Bits.{is_on}
-use Rattle.pld_device.specs.Rows.{row_fuses}
-use Rattle.pld_device.specs.Table.{Table, cell_at}
+use Rattle.fit_plans.specs.Prelude.{is_on, row_fuses, Table, cell_at}
 use Rattle.fit_plans.specs.declared.plan.CellPlan.{CellPlan}
 use Rattle.fit_plans.specs.declared.plan.Plan.{Plan}
 use Rattle.fit_plans.specs.FuseLists.{planned_row}

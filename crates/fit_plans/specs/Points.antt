@@ -1,11 +1,7 @@
 -- What turned cubes and the two lists of a function are true at (this project's rule).
 use Rattle.std.specs.Prelude.{◌≡◌, ℕ, zero, suc, ◌<◌, ◌≤◌, ◌^◌, ◌==◌, Bool, not, if◌then◌else◌, List, [], ◌∷◌, length}
-use Rattle.std.specs.Int.{bit_at}
+use Rattle.fit_plans.specs.Prelude.{bit_at, Function, Netlist, Cube, AsksBelow, has_point}
 use Rattle.pld_base.specs.Points.{Levels}
-use Rattle.bit_expr.specs.declared.netlist.Function.{Function}
-use Rattle.bit_expr.specs.declared.netlist.Netlist.{Netlist}
-use Rattle.covers.specs.declared.cube.Cube.{Cube}
-use Rattle.covers.specs.Cubes.{AsksBelow, has_point}
 use Rattle.sop_lowering.specs.Values.{Carries}
 use Rattle.fit_plans.specs.Columns.{turned}
 use Rattle.fit_plans.specs.Covering.{AreInside}

@@ -1,11 +1,6 @@
 -- Rows of a device's array that hold cubes (the devices' datasheets: a fuse of 0 connects its column to the row).
 use Rattle.std.specs.Prelude.{◌≡◌, ℕ, ◌+◌, ◌/◌, ◌%◌, ◌<◌, ◌≤◌, ◌==◌, Bool, if◌then◌else◌, List, map, length, replicate, get_or, false}
-use Rattle.std.specs.Int.{bit_at}
-use Rattle.std.specs.List.{range_with_len}
-use Rattle.pld_device.specs.Rows.{row_fuses}
-use Rattle.pld_device.specs.Table.{Table}
-use Rattle.covers.specs.declared.cube.Cube.{Cube}
-use Rattle.covers.specs.Cubes.{full_cube}
+use Rattle.fit_plans.specs.Prelude.{bit_at, range_with_len, row_fuses, Table, Cube, full_cube}
 
 -- the fuse of a column in the row of a cube: 0 where the cube asks for what the column carries
 abbrev pub fuse_at : Cube → ℕ → Bool

@@ -1,12 +1,10 @@
 -- The two written lists of a function in the polarity of a cell's rows (this project's rule).
 use Rattle.std.specs.Prelude.{◌≡◌, ◌⊎◌, ℕ, Bool, true, false, Some, None, List, Result, Ok, Err}
-use Rattle.bit_expr.specs.declared.netlist.Function.{Function}
-use Rattle.bit_expr.specs.declared.netlist.Netlist.{Netlist}
+use Rattle.fit_plans.specs.Prelude.{Function, Netlist, Products}
 use Rattle.bit_expr.specs.Arena.{arena, formula_at}
 use Rattle.bit_expr.specs.Formulas.{Formula, Or}
 use Rattle.sop_lowering.specs.declared.fault.LowerFault.{LowerFault}
 use Rattle.sop_lowering.specs.declared.fault.LowerFault.TheVariants as fault
-use Rattle.sop_lowering.specs.Products.{Products}
 use Rattle.sop_lowering.specs.Written.{written}
 use Rattle.fit_plans.specs.declared.lists.Lists.{Lists}
 

@@ -1,8 +1,6 @@
 -- Prime and irredundant lists of rows under an exchange of levels (two-level minimisation; the masks are this project's rule).
 use Rattle.std.specs.Prelude.{◌≡◌, ℕ, ◌<◌, ◌≤◌, ◌^◌, ◌==◌, not, if◌then◌else◌, List}
-use Rattle.std.specs.Int.{bit_at}
-use Rattle.covers.specs.declared.cube.Cube.{Cube}
-use Rattle.covers.specs.Prime.{IsPrimeIrredundant}
+use Rattle.fit_plans.specs.Prelude.{bit_at, Cube, IsPrimeIrredundant}
 use Rattle.fit_plans.specs.Columns.{all_turned}
 
 -- exchanging the levels of some variables in rows, needed and allowed lists keeps rows prime and irredundant

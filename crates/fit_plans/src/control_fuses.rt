@@ -1,9 +1,8 @@
 //! The control fuses of a device, past its array.
 
 ghost use Rattle.std.specs.Prelude.{◌≡◌, ◌<◌, ◌≤◌, ◌*◌, ℕ, None, Some, List, length, IfOk};
-ghost use Rattle.pld_base.specs.Bits.{is_on};
+ghost use Rattle.fit_plans.specs.Prelude.{is_on, IsFixed, Switches, fuse_for};
 ghost use Rattle.fit_plans.specs.declared.control_fuses.CellForm.{CellForm};
-ghost use Rattle.pld_device.specs.Laws.{IsFixed, Switches, fuse_for};
 ghost use Rattle.fit_plans.specs.Controls.{IsBurned, IsControlLevel, IsFoundFor, IsNoCells, control_level, told_by};
 
 use crate::plan::{Plan, planned, planned_fuses};

@@ -1,8 +1,7 @@
 //! The cover of a function in a polarity, made in the pool.
 
 ghost use Rattle.std.specs.Prelude.{◌≡◌, ◌+◌, ◌≤◌, ◌++◌, IfOk, length, vec_capacity, vec_len};
-ghost use Rattle.covers.specs.Prime.{IsPrimeIrredundant};
-ghost use Rattle.sop_lowering.specs.Lowering.{CanLower};
+ghost use Rattle.fit_plans.specs.Prelude.{IsPrimeIrredundant, CanLower};
 ghost use Rattle.fit_plans.specs.Covering.{AreInside, IsInside, IsTried};
 ghost use Rattle.fit_plans.specs.Tries.{allowed_of, needed_of};
 

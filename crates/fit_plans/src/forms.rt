@@ -1,8 +1,8 @@
 //! The forms that an assigned cell may have, and what its rows have in each.
 
 ghost use Rattle.std.specs.Prelude.{◌≡◌};
+ghost use Rattle.fit_plans.specs.Prelude.{complement_if};
 ghost use Rattle.fit_plans.specs.Forms.{follows_as, may_be_inverted_as, rows_are_positive, or_is_complement, names_or};
-ghost use Rattle.pld_device.specs.Macrocells.{complement_if};
 
 use bit_expr::CellWanted;
 use pld_device::Flip;

@@ -1,7 +1,7 @@
 //! The two written lists of a function.
 
 ghost use Rattle.std.specs.Prelude.{◌≤◌, IfOk, false, true, vec_len};
-ghost use Rattle.sop_lowering.specs.Lowering.{CanLower};
+ghost use Rattle.fit_plans.specs.Prelude.{CanLower};
 ghost use Rattle.fit_plans.specs.Tries.{AreLists, allowed_of, needed_of};
 
 use bit_expr::{Function, Netlist};

@@ -1,7 +1,7 @@
 //! What each row of a device is to hold.
 
 ghost use Rattle.std.specs.Prelude.{◌≡◌, ◌<◌, length, map, IfOk};
-ghost use Rattle.std.specs.List.{range_with_len};
+ghost use Rattle.fit_plans.specs.Prelude.{range_with_len};
 ghost use Rattle.fit_plans.specs.Owners.{cube_for, enables, is_data, owner, planned};
 ghost use Rattle.fit_plans.specs.Planned.{IsPlanned};
 

@@ -1,8 +1,8 @@
 //! The covers of a cell in the forms that it may have.
 
 ghost use Rattle.std.specs.Prelude.{◌≡◌, ◌≤◌, ◌<◌, ◌^◌, IfOk, Ok, false, true};
+ghost use Rattle.fit_plans.specs.Prelude.{CanLower};
 ghost use Rattle.fit_plans.specs.Choices.{FitsRoom};
-ghost use Rattle.sop_lowering.specs.Lowering.{CanLower};
 ghost use Rattle.fit_plans.specs.Covered.{CanCover, HasNoLists, IsListedAs, IsTriedAs, IsTriedCell};
 ghost use Rattle.fit_plans.specs.Forms.{may_be_inverted_as, rows_are_positive};
 

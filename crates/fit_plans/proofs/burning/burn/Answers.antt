@@ -1,5 +1,5 @@
 use Rattle.std.proofs.Common.{get_or, None, false, arith}
-use Rattle.fit_plans.specs.FuseLists.{fuse_level}
+use Rattle.fit_plans.proofs.Common.{fuse_level}
 use Rattle.fit_plans.proofs.FuseSteps.{one_fuse, all_fuses}
 use Rattle.fit_plans.proofs.burning.burn.Goals as goal
 

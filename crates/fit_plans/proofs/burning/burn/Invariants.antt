@@ -1,6 +1,5 @@
 use Rattle.std.proofs.Common.{◌≡◌, map, get_or, None, false}
-use Rattle.std.specs.List.{range_with_len}
-use Rattle.fit_plans.specs.FuseLists.{fuse_level}
+use Rattle.fit_plans.proofs.Common.{range_with_len, fuse_level}
 use Rattle.fit_plans.proofs.burning.burn.Given as goal
 
 abbrev pub invariant-loop-number : goal.invariant-loop-number

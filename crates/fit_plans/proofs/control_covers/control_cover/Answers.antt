@@ -1,6 +1,6 @@
 use Rattle.std.proofs.Common.{true}
+use Rattle.fit_plans.proofs.Common.{control_function}
 use Rattle.fit_plans.proofs.Ready.{are_inside}
-use Rattle.fit_plans.specs.Covered.{control_function}
 use Rattle.fit_plans.proofs.control_covers.control_cover.Goals as goal
 
 pub cover-requires-clause-inside : goal.cover-requires-clause-inside

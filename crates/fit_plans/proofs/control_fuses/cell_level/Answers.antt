@@ -1,5 +1,5 @@
 use Rattle.std.proofs.Common.{sym, ◌∙◌, arith}
-use Rattle.fit_plans.specs.Controls.{IsNoCells}
+use Rattle.fit_plans.proofs.Common.{IsNoCells}
 use Rattle.fit_plans.proofs.ControlFuses.{found_inverted, found_registered, no_cells, one_more}
 use Rattle.fit_plans.proofs.control_fuses.cell_level.Goals as goal
 

@@ -1,5 +1,5 @@
 use Rattle.std.proofs.Common.{◌<◌, ℕ}
-use Rattle.fit_plans.specs.Controls.{IsNoCells}
+use Rattle.fit_plans.proofs.Common.{IsNoCells}
 use Rattle.fit_plans.proofs.control_fuses.cell_level.Given as goal
 
 abbrev pub invariant-loop-index : goal.invariant-loop-index

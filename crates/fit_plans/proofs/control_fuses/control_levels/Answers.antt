@@ -1,6 +1,5 @@
 use Rattle.std.proofs.Common.{◌+◌, ◌*◌, ◌∙◌, length, ap, arith, [], ◌∷◌}
-use Rattle.std.proofs.lemmas.List.{length-append}
-use Rattle.fit_plans.specs.Controls.{IsControlLevel}
+use Rattle.fit_plans.proofs.Common.{length-append, IsControlLevel}
 use Rattle.fit_plans.proofs.ControlFuses.{more_levels}
 use Rattle.fit_plans.proofs.control_fuses.control_levels.Goals as goal
 

@@ -1,6 +1,5 @@
 use Rattle.std.proofs.Common.{◌≡◌, ◌<◌, ◌≤◌, ◌*◌, ℕ, length}
-use Rattle.pld_base.specs.Bits.{is_on}
-use Rattle.fit_plans.specs.Controls.{IsControlLevel}
+use Rattle.fit_plans.proofs.Common.{is_on, IsControlLevel}
 use Rattle.fit_plans.proofs.control_fuses.control_levels.Given as goal
 
 abbrev pub invariant-loop-number : goal.invariant-loop-number

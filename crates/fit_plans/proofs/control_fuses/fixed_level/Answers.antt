@@ -1,6 +1,5 @@
 use Rattle.std.proofs.Common.{◌≡◌, Some, true, sym, ap, ◌∙◌, arith}
-use Rattle.pld_device.specs.Laws.{IsFixed, fuse_for}
-use Rattle.fit_plans.specs.Controls.{told_by}
+use Rattle.fit_plans.proofs.Common.{IsFixed, fuse_for, told_by}
 use Rattle.fit_plans.proofs.ControlFuses.{found_fixed, no_fixed, one_more}
 use Rattle.fit_plans.proofs.control_fuses.fixed_level.Goals as goal
 

@@ -1,5 +1,5 @@
 use Rattle.std.proofs.Common.{◌≡◌, ◌<◌, ℕ, Some}
-use Rattle.pld_device.specs.Laws.{IsFixed, fuse_for}
+use Rattle.fit_plans.proofs.Common.{IsFixed, fuse_for}
 use Rattle.fit_plans.proofs.control_fuses.fixed_level.Given as goal
 
 abbrev pub invariant-loop-index : goal.invariant-loop-index

@@ -1,5 +1,5 @@
 use Rattle.std.proofs.Common.{◌≡◌, Some, is_some, sym, ap, ◌∙◌, arith}
-use Rattle.pld_device.specs.Laws.{Switches, fuse_for}
+use Rattle.fit_plans.proofs.Common.{Switches, fuse_for}
 use Rattle.fit_plans.proofs.ControlFuses.{one_more, switch_is, switch_is_not}
 use Rattle.fit_plans.proofs.control_fuses.switch_level.Goals as goal
 

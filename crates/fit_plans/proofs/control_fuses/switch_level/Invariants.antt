@@ -1,5 +1,5 @@
 use Rattle.std.proofs.Common.{◌≡◌, ◌<◌, ℕ, Some}
-use Rattle.pld_device.specs.Laws.{Switches, fuse_for}
+use Rattle.fit_plans.proofs.Common.{Switches, fuse_for}
 use Rattle.fit_plans.proofs.control_fuses.switch_level.Given as goal
 
 abbrev pub invariant-loop-row : goal.invariant-loop-row

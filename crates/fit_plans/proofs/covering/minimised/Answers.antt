@@ -1,5 +1,5 @@
 use Rattle.std.proofs.Common.{subst, take, length, ◌≡◌, ◌+◌}
-use Rattle.covers.specs.Pool.{Pool}
+use Rattle.fit_plans.proofs.Common.{Pool}
 use Rattle.fit_plans.proofs.PoolLists.{pool_back}
 use Rattle.fit_plans.proofs.covering.minimised.Goals as goal
 

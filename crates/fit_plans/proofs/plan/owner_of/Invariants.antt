@@ -1,5 +1,5 @@
 use Rattle.std.proofs.Common.{◌≡◌, drop}
-use Rattle.fit_plans.specs.Owners.{owner, owner_from}
+use Rattle.fit_plans.proofs.Common.{owner, owner_from}
 use Rattle.fit_plans.proofs.plan.owner_of.Given as goal
 
 abbrev pub invariant-loop-index : goal.invariant-loop-index

@@ -1,6 +1,5 @@
 use Rattle.std.proofs.Common.{◌≡◌, map}
-use Rattle.std.specs.List.{range_with_len}
-use Rattle.fit_plans.specs.Owners.{planned}
+use Rattle.fit_plans.proofs.Common.{range_with_len, planned}
 use Rattle.fit_plans.proofs.plan.plan_rows.Given as goal
 
 abbrev pub invariant-loop-row : goal.invariant-loop-row

@@ -1,6 +1,5 @@
 use Rattle.std.proofs.Common.{◌∙◌, ap, length}
-use Rattle.std.proofs.lemmas.List.FromFn.{length-map-range_with_len}
-use Rattle.fit_plans.specs.Owners.{planned}
+use Rattle.fit_plans.proofs.Common.{length-map-range_with_len, planned}
 use Rattle.fit_plans.proofs.HeldRows.{is_planned}
 use Rattle.fit_plans.proofs.plan.planned_fuses.Goals as goal
 

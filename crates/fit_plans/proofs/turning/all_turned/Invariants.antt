@@ -1,5 +1,5 @@
 use Rattle.std.proofs.Common.{◌≡◌, take, length}
-use Rattle.fit_plans.specs.Columns.{all_turned}
+use Rattle.fit_plans.proofs.Common.{all_turned}
 use Rattle.fit_plans.proofs.turning.all_turned.Given as goal
 
 abbrev pub invariant-loop-cube : goal.invariant-loop-cube
