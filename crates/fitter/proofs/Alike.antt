@@ -1,46 +1,13 @@
 -- Cells whose own reset, or preset, has the value of the shared one, and a point at which it hasn't.
 use Rattle.std.proofs.Common.{◌≡◌, ◌≢◌, ℕ, zero, suc, ◌+◌, ◌<◌, ◌≤◌, ◌^◌, Bool, true, false, ◌==◌, List, [], ◌∷◌, length, get_or, Option, Some, None, refl, sym, ap, ◌∙◌, subst, arith, inl, inr}
 use Rattle.std.specs.Prelude.{Contains, find, is_some, unwrap_or}
-use Rattle.std.specs.Option.{option_map}
-use Rattle.std.proofs.lemmas.Bool.{cases_lt, eq-eqb, ne_eqb}
-use Rattle.std.proofs.lemmas.List.{get_or-map, length-map}
-use Rattle.pld_base.specs.declared.point.Point.{Point}
-use Rattle.pld_base.specs.Bits.{bits, is_on}
-use Rattle.pld_base.specs.Points.{Levels, levels_of}
-use Rattle.pld_base.proofs.BitLemmas.{is_on-bits, length-bits}
-use Rattle.pld_device.specs.Laws.{IsDevice}
-use Rattle.pld_device.specs.Table.{Table}
-use Rattle.bit_expr.specs.declared.netlist.CellWanted.{CellWanted}
-use Rattle.bit_expr.specs.declared.netlist.Control.{Control}
-use Rattle.bit_expr.specs.declared.netlist.Netlist.{Netlist}
-use Rattle.bit_expr.specs.declared.node.ExprId.{ExprId}
+use Rattle.fitter.proofs.Common.{option_map, cases_lt, eq-eqb, ne_eqb, get_or-map, length-map, Point, bits, is_on, Levels, levels_of, is_on-bits, length-bits, IsDevice, Table, CellWanted, Control, Netlist, ExprId, arena, formula_at, Const, Formula, formula_value, Wanted, first_with, own_of, plain_control, plain_netlist, plain_wanted, shared_function, wanted_at, IsSoundNetlist, IsReadable, IsSoundCell, Cube, CoversList, covers, IsValuedFor, AreShared, both_ways, found, Carries, bit_list, pair_of, written, IsSoundId, cell_wanted, SharedControl, Preset, Reset, IsWired, FindsApart, AllListed, AreNotShared, AreSharedBelow, FindsApartAt, IsAlikeAt, IsApartAt, IsFirstOf, IsFirstWith, IsListedBit, IsSharedBit, own_control, own_formula}
 use Rattle.bit_expr.specs.declared.node.Leaf.TheVariants as leaf
-use Rattle.bit_expr.specs.Arena.{arena, formula_at}
-use Rattle.bit_expr.specs.Formulas.{Const, Formula, formula_value}
-use Rattle.abel_meaning.specs.Netlists.{Wanted, first_with, own_of, plain_control, plain_netlist, plain_wanted, shared_function, wanted_at}
-use Rattle.abel_meaning.specs.SoundIds.{IsSoundNetlist}
-use Rattle.abel_meaning.specs.Soundness.{IsReadable, IsSoundCell}
-use Rattle.covers.specs.declared.cube.Cube.{Cube}
-use Rattle.covers.specs.Covers.{CoversList}
-use Rattle.covers.specs.Cubes.{covers}
-use Rattle.netlist_laws.specs.RowCovers.{IsValuedFor}
-use Rattle.netlist_laws.specs.Fitting.{AreShared}
-use Rattle.netlist_laws.proofs.BoolLaws.{both_ways}
-use Rattle.netlist_laws.proofs.WantedCells.{found}
-use Rattle.sop_lowering.specs.Values.{Carries}
-use Rattle.sop_lowering.specs.Written.{bit_list, pair_of, written}
-use Rattle.fitter.specs.Coverable.{IsSoundId}
-use Rattle.fitter.specs.Plans.{cell_wanted}
 use Rattle.fitter.proofs.CarriedPoints.{carries_all}
 use Rattle.fitter.proofs.LeafPairs.{pin_has, q_has}
 use Rattle.fitter.proofs.ListPoints.{list_at}
 use Rattle.fitter.proofs.SeenPairs.{seen_carries, seen_long, seen_pairs}
 use Rattle.fitter.proofs.WantedIds.{found_id, preset_id, reset_id, sound_id_at, wanted_is, zero_is}
-use Rattle.fitter.specs.declared.shared.SharedControl.{SharedControl}
-use Rattle.fitter.specs.declared.shared.SharedControl.TheVariants.{Preset, Reset}
-use Rattle.fitter.specs.Evaluating.{IsWired}
-use Rattle.fitter.specs.Missing.{FindsApart}
-use Rattle.fitter.specs.Sharing.{AllListed, AreNotShared, AreSharedBelow, FindsApartAt, IsAlikeAt, IsApartAt, IsFirstOf, IsFirstWith, IsListedBit, IsSharedBit, own_control, own_formula}
 use Rattle.fitter.proofs.FirstNames.{none_first, own_is}
 
 -- what a map gave came from something

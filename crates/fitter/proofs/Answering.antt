@@ -1,49 +1,13 @@
 -- The answers of fitting, by what the steps on the way answered.
 use Rattle.std.proofs.Common.{◌≡◌, ◌≢◌, ℕ, ◌<◌, ◌≤◌, Bool, true, List, length, get_or, slice_get, Option, Some, None, refl, sym, ap, ◌∙◌, subst, arith}
-use Rattle.std.specs.Int.Bits.{bit_xor}
-use Rattle.std.proofs.lemmas.List.{length-map}
-use Rattle.std.proofs.lemmas.List.Sorted.{length_permutation}
-use Rattle.std.proofs.lemmas.Option.{same_Some, slice_get_within}
-use Rattle.pld_device.specs.declared.flip.Flip.{Flip}
-use Rattle.pld_device.specs.declared.flip.Flip.TheVariants.{AfterRegister, Always, BeforeRegister}
-use Rattle.pld_device.specs.Laws.{IsDevice}
-use Rattle.pld_device.specs.Macrocells.{pin_complements}
-use Rattle.pld_device.specs.Registers.{is_inverted}
-use Rattle.pld_device.specs.Table.{Table, cell_at}
-use Rattle.bit_expr.specs.declared.netlist.CellWanted.{CellWanted}
-use Rattle.bit_expr.specs.declared.netlist.Netlist.{Netlist}
-use Rattle.abel_meaning.specs.Netlists.{Wanted, plain_netlist}
-use Rattle.abel_meaning.specs.SoundIds.{IsSoundNetlist}
-use Rattle.covers.specs.declared.cube.Cube.{Cube}
-use Rattle.fit_plans.specs.Columns.{all_turned, turned}
-use Rattle.fit_plans.specs.declared.choosing.Tried.{Tried}
-use Rattle.fitter.specs.Plans.{HasCellPlan, IsTurnMask, PlansNetlist, PlansRows, cell_wanted, enable_bit, is_chosen}
+use Rattle.fitter.proofs.Common.{bit_xor, length-map, length_permutation, same_Some, slice_get_within, Flip, AfterRegister, Always, BeforeRegister, IsDevice, pin_complements, is_inverted, Table, cell_at, CellWanted, Netlist, Wanted, plain_netlist, IsSoundNetlist, Cube, all_turned, turned, Tried, HasCellPlan, IsTurnMask, PlansNetlist, PlansRows, cell_wanted, enable_bit, is_chosen, control_function, CellPlan, Plan, form_at, HoldsCubes, SharedControl, Preset, Reset, CellCovers, HasCheckedAs, HasCoversAs, FittedCell, CellRows, SharedRows, HasControls, IsFitOf, IsTooMany, CoversBelow, AreRowsInOrder, AreRowsOf, EachFitsBelow, HasSharedRow, IsEntryOf, IsManyRows, IsOverAt, IsSingleRow, RowsBelow, SingleBelow, EnablesBelow, IsFirstSum, IsProduct, IsSharedProduct, IsDirectOver, IsFittedEntry, Rises, IsTurnedCell}
 use Rattle.fitter.proofs.BurnedControls.{says_inverted}
 use Rattle.fitter.proofs.PlannedRows.{cell_single}
 use Rattle.fitter.proofs.PlansFit.{may_choose, plans_fit}
 use Rattle.fitter.proofs.SharedChosen.{shared_chosen}
-use Rattle.fit_plans.specs.Covered.{control_function}
-use Rattle.fit_plans.specs.declared.plan.CellPlan.{CellPlan}
-use Rattle.fit_plans.specs.declared.plan.Plan.{Plan}
-use Rattle.fit_plans.specs.Controls.{form_at}
-use Rattle.fit_plans.specs.RowCubes.{HoldsCubes}
-use Rattle.fitter.specs.declared.shared.SharedControl.{SharedControl}
-use Rattle.fitter.specs.declared.shared.SharedControl.TheVariants.{Preset, Reset}
-use Rattle.fitter.specs.declared.cell_covering.CellCovers.{CellCovers}
-use Rattle.fitter.specs.CellCovered.{HasCheckedAs, HasCoversAs}
 use Rattle.fitter.specs.declared.answer.Fitted.{Fitted}
-use Rattle.fitter.specs.declared.answer.FittedCell.{FittedCell}
 use Rattle.fitter.specs.declared.planning.AllRows.{AllRows}
-use Rattle.fitter.specs.declared.planning.CellRows.{CellRows}
-use Rattle.fitter.specs.declared.shared_rows.SharedRows.{SharedRows}
-use Rattle.fitter.specs.Answers.{HasControls, IsFitOf, IsTooMany}
-use Rattle.fitter.specs.Covered.{CoversBelow}
 use Rattle.fitter.specs.Fitting.{IsBurnedPlan, plan_of}
-use Rattle.fitter.specs.Order.{AreRowsInOrder}
-use Rattle.fitter.specs.Planned.{AreRowsOf, EachFitsBelow, HasSharedRow, IsEntryOf, IsManyRows, IsOverAt, IsSingleRow, RowsBelow, SingleBelow}
-use Rattle.fitter.specs.Products.{EnablesBelow, IsFirstSum, IsProduct, IsSharedProduct}
-use Rattle.fitter.specs.Rows.{IsDirectOver, IsFittedEntry, Rises}
-use Rattle.fitter.specs.Turning.{IsTurnedCell}
 use Rattle.fitter.proofs.Controls.{first_of_one, is_no_product, is_product}
 use Rattle.fitter.proofs.CellPlans.{over_at, plan_as}
 use Rattle.fitter.proofs.CoversInTurn.{none_wide}

@@ -1,27 +1,11 @@
 -- What control fuses say that were burned for a plan.
 use Rattle.std.proofs.Common.{◌≡◌, ◌≢◌, ℕ, ◌*◌, ◌<◌, ◌≤◌, Bool, true, false, ◌==◌, ◌||◌, List, [], ◌∷◌, ◌++◌, length, map, get_or, slice_get, Option, Some, None, refl, sym, ap, ◌∙◌, subst, arith, inl, inr}
 use Rattle.std.specs.Prelude.{All, Contains, is_some, IsSome}
-use Rattle.std.specs.List.{list_any}
-use Rattle.std.proofs.lemmas.Bool.{cases_Bool, cases_lt, eq-eqb, or_left, or_right, true≢false}
-use Rattle.std.proofs.lemmas.List.{get_or_past}
-use Rattle.std.proofs.lemmas.List.Folds.{list_any_at}
-use Rattle.std.proofs.lemmas.Option.{slice_get-get_or}
-use Rattle.pld_base.specs.Bits.{is_on, same_level}
-use Rattle.pld_device.specs.declared.flip.Flip.TheVariants.{Always}
+use Rattle.fitter.proofs.Common.{list_any, cases_Bool, cases_lt, eq-eqb, or_left, or_right, true≢false, get_or_past, list_any_at, slice_get-get_or, is_on, same_level, Always, Either, Inverts, IsDevice, IsFixed, Registers, Switches, fuse_for, fuse_if_any, is_inverted, says, is_switched_on, Table, cell_at, inverted_at, registered_at, has, Cube, CellForm, Plan, IsBurned, control_level, form_at, told_level, planned}
 use Rattle.pld_device.specs.declared.fuse_bit.FuseBit.{FuseBit}
-use Rattle.pld_device.specs.declared.kinds.Kinds.TheVariants.{Either}
 use Rattle.pld_device.specs.ControlFuses.{control_fuses, fuses_named}
-use Rattle.pld_device.specs.Laws.{Control, Inverts, IsDevice, IsFixed, Registers, Switches, fuse_for, fuse_if_any}
+use Rattle.pld_device.specs.Laws.{Control}
 use Rattle.pld_device.specs.LawTests.FuseLists.{fixed_at, fixed_fuses, listed, named}
-use Rattle.pld_device.specs.Registers.{is_inverted, says}
-use Rattle.pld_device.specs.Rows.{is_switched_on}
-use Rattle.pld_device.specs.Table.{Table, cell_at, inverted_at, registered_at}
-use Rattle.pld_order.specs.Graphs.{has}
-use Rattle.covers.specs.declared.cube.Cube.{Cube}
-use Rattle.fit_plans.specs.declared.control_fuses.CellForm.{CellForm}
-use Rattle.fit_plans.specs.declared.plan.Plan.{Plan}
-use Rattle.fit_plans.specs.Controls.{IsBurned, control_level, form_at, told_level}
-use Rattle.fit_plans.specs.Owners.{planned}
 
 -- ---- a fuse that controls something is listed
 

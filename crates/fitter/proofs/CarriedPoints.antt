@@ -1,25 +1,7 @@
 -- Whatever levels the pairs are to have, there is a point with valued nodes whose leaves have them.
 use Rattle.std.proofs.Common.{◌≡◌, ℕ, ◌<◌, ◌≤◌, Bool, false, List, length, map, refl, sym, ap, ◌∙◌, subst, arith}
-use Rattle.std.specs.List.{range_with_len}
-use Rattle.std.proofs.lemmas.List.FromFn.{get_or-map-range_with_len, length-map-range_with_len}
-use Rattle.pld_base.specs.Bits.{bits, is_on}
-use Rattle.pld_base.specs.Points.{IsPoint, Levels}
-use Rattle.pld_base.proofs.BitLemmas.{length-bits}
-use Rattle.pld_device.specs.Laws.{IsDevice}
-use Rattle.pld_device.specs.Macrocells.{complement_if}
-use Rattle.pld_device.specs.Table.{Table}
-use Rattle.bit_expr.specs.declared.netlist.Netlist.{Netlist}
+use Rattle.fitter.proofs.Common.{range_with_len, get_or-map-range_with_len, length-map-range_with_len, bits, is_on, IsPoint, Levels, length-bits, IsDevice, complement_if, Table, Netlist, arena, formula_at, Formula, formula_value, value_with_any_0, function_at, plain_netlist, IsSoundNetlist, IsReadable, IsSoundFormula, IsValuedFor, IsValuedOfFor, is_valued_of, valued, valued_node, AreNodesValued, Carries, CarriesLeaf, pair_of}
 use Rattle.bit_expr.specs.declared.node.Leaf.TheVariants as leaf
-use Rattle.bit_expr.specs.Arena.{arena, formula_at}
-use Rattle.bit_expr.specs.Formulas.{Formula, formula_value}
-use Rattle.abel_meaning.specs.Functions.{value_with_any_0}
-use Rattle.abel_meaning.specs.Netlists.{function_at, plain_netlist}
-use Rattle.abel_meaning.specs.SoundIds.{IsSoundNetlist}
-use Rattle.abel_meaning.specs.Soundness.{IsReadable, IsSoundFormula}
-use Rattle.netlist_laws.specs.RowCovers.{IsValuedFor, IsValuedOfFor}
-use Rattle.netlist_laws.proofs.Valuing.{is_valued_of, valued, valued_node}
-use Rattle.sop_lowering.specs.Values.{AreNodesValued, Carries, CarriesLeaf}
-use Rattle.sop_lowering.specs.Written.{pair_of}
 use Rattle.fitter.proofs.LeafPairs.{pin_has, q_has}
 use Rattle.fitter.proofs.NodeRanks.{signal_ranks}
 use Rattle.fitter.proofs.Reached.{node_is, nodes_count, reaches}

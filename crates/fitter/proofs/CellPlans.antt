@@ -1,33 +1,8 @@
 -- Plans of cells by their covers.
 use Rattle.std.proofs.Common.{◌≡◌, ◌⊎◌, ℕ, ◌+◌, ◌<◌, ◌≤◌, Bool, true, false, List, [], ◌∷◌, ◌++◌, length, get_or, slice_get, Option, Some, None, Err, refl, sym, ap, ◌∙◌, subst, arith, inl, inr}
-use Rattle.std.specs.Global.{Vec}
-use Rattle.std.specs.Option.{option_to_list}
-use Rattle.std.proofs.lemmas.Bool.{cases_Bool, cases_lt}
-use Rattle.std.proofs.lemmas.List.{get_or_append_left, length-append}
-use Rattle.std.proofs.Math.Seq.{get_or-append_seam}
-use Rattle.std.proofs.lemmas.Option.{slice_get-get_or}
-use Rattle.pld_device.specs.Table.{Table, cell_at}
-use Rattle.bit_expr.specs.declared.netlist.CellWanted.{CellWanted}
-use Rattle.bit_expr.specs.declared.netlist.Netlist.{Netlist}
-use Rattle.bit_expr.proofs.ArenaLists.{get_kept}
-use Rattle.covers.specs.declared.cube.Cube.{Cube}
-use Rattle.fit_plans.specs.declared.choosing.Tried.{Tried}
-use Rattle.fit_plans.specs.Choices.{FitsRoom}
-use Rattle.fit_plans.specs.Tries.{allowed_of, needed_of}
-use Rattle.fitter.specs.Plans.{PlansAs, PlansCell, PlansRows, cell_wanted, enable_bit}
+use Rattle.fitter.proofs.Common.{Vec, option_to_list, cases_Bool, cases_lt, get_or_append_left, length-append, get_or-append_seam, slice_get-get_or, Table, cell_at, CellWanted, Netlist, get_kept, Cube, Tried, FitsRoom, allowed_of, needed_of, PlansAs, PlansCell, PlansRows, cell_wanted, enable_bit, IsTriedAs, IsTriedCell, control_function, may_be_inverted_as, rows_are_positive, CellForm, CellPlan, form_at, CellCovers, HasCovers, HasCoversAs, CellRows, FitFault, AreChosen, ArePlanned, ArePlannedAt, AreRowsOf, EachFitsBelow, HasRowsAt, IsOver, IsOverAt, IsSingleRow, RowsBelow, SingleBelow, IsHeavier, IsOverRoom}
 use Rattle.fitter.proofs.WantedIds.{found_id}
-use Rattle.fit_plans.specs.Covered.{IsTriedAs, IsTriedCell, control_function}
-use Rattle.fit_plans.specs.Forms.{may_be_inverted_as, rows_are_positive}
-use Rattle.fit_plans.specs.declared.control_fuses.CellForm.{CellForm}
-use Rattle.fit_plans.specs.declared.plan.CellPlan.{CellPlan}
-use Rattle.fit_plans.specs.Controls.{form_at}
-use Rattle.fitter.specs.declared.cell_covering.CellCovers.{CellCovers}
-use Rattle.fitter.specs.CellCovered.{HasCovers, HasCoversAs}
-use Rattle.fitter.specs.declared.planning.CellRows.{CellRows}
-use Rattle.fitter.specs.declared.fault.FitFault.{FitFault}
 use Rattle.fitter.specs.declared.fault.FitFault.TheVariants as fault
-use Rattle.fitter.specs.Planned.{AreChosen, ArePlanned, ArePlannedAt, AreRowsOf, EachFitsBelow, HasRowsAt, IsOver, IsOverAt, IsSingleRow, RowsBelow, SingleBelow}
-use Rattle.fitter.specs.Rows.{IsHeavier, IsOverRoom}
 use Rattle.fitter.proofs.Controls.{first_of_one}
 
 -- ---- one cell more

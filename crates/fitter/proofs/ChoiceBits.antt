@@ -1,16 +1,8 @@
 -- Which pairs carry a cell that stores the complement, bit by bit.
 use Rattle.std.proofs.Common.{◌≡◌, ℕ, ◌<◌, ◌≤◌, ◌^◌, List, length, get_or, slice_get, Some, sym, ap, ◌∙◌, arith}
-use Rattle.std.proofs.lemmas.Option.{get_or_from_slice_get}
-use Rattle.pld_base.specs.Bits.{bits}
-use Rattle.pld_base.proofs.BitLemmas.{is_on-bits}
-use Rattle.pld_device.specs.declared.carry.Carry.{Carry}
+use Rattle.fitter.proofs.Common.{get_or_from_slice_get, bits, is_on-bits, Carry, IsDevice, Table, Netlist, CellForm, IsChoiceMask, carries_choice}
 use Rattle.pld_device.specs.declared.carry.Carry.TheVariants as carry
-use Rattle.pld_device.specs.Laws.{IsDevice}
-use Rattle.pld_device.specs.Table.{Table}
-use Rattle.bit_expr.specs.declared.netlist.Netlist.{Netlist}
-use Rattle.fit_plans.specs.declared.control_fuses.CellForm.{CellForm}
 use Rattle.fitter.proofs.Stepping.{LevelsBelow}
-use Rattle.fitter.specs.Turning.{IsChoiceMask, carries_choice}
 
 -- what a pair carries, by its entry
 pub choice_is : (t : Table) (net : Netlist) (forms : List CellForm) (pair : ℕ) (x : Carry) → slice_get t.pairs pair ≡ Some x

@@ -1,14 +1,7 @@
 -- The written lists of a control.
 use Rattle.std.proofs.Common.{◌≡◌, ◌⊎◌, true, [], Some, None, refl, sym, ap, ◌∙◌, inl, inr}
-use Rattle.bit_expr.specs.declared.netlist.Netlist.{Netlist}
-use Rattle.bit_expr.specs.declared.node.ExprId.{ExprId}
-use Rattle.bit_expr.specs.Arena.{arena, formula_at}
-use Rattle.bit_expr.specs.Formulas.{Or}
-use Rattle.sop_lowering.specs.Products.{Products, sum_of}
-use Rattle.sop_lowering.specs.Written.{bit_list, written}
-use Rattle.fit_plans.specs.Tries.{allowed_of, needed_of}
+use Rattle.fitter.proofs.Common.{Netlist, ExprId, arena, formula_at, Or, Products, sum_of, bit_list, written, allowed_of, needed_of, control_function}
 use Rattle.fitter.proofs.WantedIds.{zero_is}
-use Rattle.fit_plans.specs.Covered.{control_function}
 
 sum_none : (a : Products) → sum_of a (Some []) ≡ a
 sum_none None = refl

@@ -1,15 +1,7 @@
 -- The covers of controls, and of cells, by their written lists.
 use Rattle.std.proofs.Common.{◌≡◌, ℕ, ◌<◌, ◌≤◌, ◌^◌, true, List, [], ◌∷◌, length, slice_get, Option, Some, refl, sym, ◌∙◌, subst, arith}
-use Rattle.std.specs.Option.{option_to_list}
-use Rattle.covers.specs.declared.cube.Cube.{Cube}
-use Rattle.covers.specs.Prime.{IsPrimeIrredundant}
-use Rattle.bit_expr.specs.declared.netlist.Netlist.{Netlist}
-use Rattle.bit_expr.specs.declared.node.ExprId.{ExprId}
-use Rattle.fit_plans.specs.Columns.{all_turned}
-use Rattle.fitter.specs.Plans.{PlansControl, PlansRows}
-use Rattle.fit_plans.specs.Covered.{control_function}
+use Rattle.fitter.proofs.Common.{option_to_list, Cube, IsPrimeIrredundant, Netlist, ExprId, all_turned, PlansControl, PlansRows, control_function, IsNoProduct, IsProduct}
 use Rattle.fitter.proofs.ControlLists.{control_allowed}
-use Rattle.fitter.specs.Products.{IsNoProduct, IsProduct}
 use Rattle.fitter.proofs.OneProduct.{many_rows, one_row_is}
 
 same_list : (a b : List Cube) → Some a ≡ Some b → a ≡ b

@@ -1,18 +1,7 @@
 -- Functions over a sound netlist can be covered.
 use Rattle.std.proofs.Common.{◌≡◌, ◌<◌, ◌≤◌, true, length, arith, inl, inr}
-use Rattle.std.proofs.lemmas.Bool.{or_cases}
-use Rattle.pld_device.specs.Laws.{IsDevice}
-use Rattle.pld_device.specs.Table.{Table}
-use Rattle.bit_expr.specs.declared.netlist.Netlist.{Netlist}
-use Rattle.bit_expr.specs.declared.node.ExprId.{ExprId}
-use Rattle.bit_expr.specs.declared.node.Leaf.{Leaf}
-use Rattle.bit_expr.specs.Arena.{arena, formula_at}
-use Rattle.bit_expr.specs.Formulas.{Formula, Or, names}
-use Rattle.abel_meaning.specs.Netlists.{plain_netlist}
-use Rattle.abel_meaning.specs.SoundIds.{IsSoundNetlist}
-use Rattle.abel_meaning.specs.Soundness.{IsSoundFormula}
-use Rattle.sop_lowering.specs.Lowering.{CanLower, HasPair}
-use Rattle.fitter.specs.Coverable.{IsSoundId, SoundCover}
+use Rattle.fitter.proofs.Common.{or_cases, IsDevice, Table, Netlist, ExprId, Leaf, arena, formula_at, Formula, Or, names, plain_netlist, IsSoundNetlist, IsSoundFormula, CanLower, IsSoundId, SoundCover}
+use Rattle.sop_lowering.specs.Lowering.{HasPair}
 use Rattle.fitter.proofs.CarriedPoints.{wires}
 use Rattle.fitter.proofs.LeafPairs.{pin_has, q_has}
 use Rattle.fitter.proofs.Reached.{reaches}

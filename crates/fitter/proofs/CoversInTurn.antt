@@ -1,24 +1,8 @@
 -- The covers of the cells in turn.
 use Rattle.std.proofs.Common.{◌≡◌, ◌⊎◌, ℕ, ◌+◌, ◌<◌, ◌≤◌, Bool, true, false, List, [], ◌∷◌, ◌++◌, length, get_or, Option, Some, None, Result, Ok, Err, refl, sym, subst, arith, inl, inr}
-use Rattle.std.proofs.lemmas.Bool.{cases_lt, false≢true}
-use Rattle.std.proofs.lemmas.List.{get_or_append_left, length-append}
-use Rattle.std.proofs.Math.Seq.{get_or-append_seam}
-use Rattle.pld_device.specs.Table.{Table}
-use Rattle.bit_expr.specs.declared.netlist.CellWanted.{CellWanted}
-use Rattle.bit_expr.specs.declared.netlist.Netlist.{Netlist}
-use Rattle.abel_meaning.specs.SoundIds.{IsSoundNetlist}
-use Rattle.sop_lowering.specs.declared.fault.LowerFault.{LowerFault}
+use Rattle.fitter.proofs.Common.{cases_lt, false≢true, get_or_append_left, length-append, get_or-append_seam, Table, CellWanted, Netlist, IsSoundNetlist, LowerFault, cell_wanted, SharedControl, Preset, Reset, AllListed, CellCovers, HasCheckedAs, HasCoversAs, IsCheckedAt, IsCoveredAt, IsFirstNumber, IsWideAt, IsControlTooWide, IsTooWide, NoneWide, CoversBelow, EachFitsBelow, OneFitsAt}
 use Rattle.sop_lowering.specs.declared.fault.LowerFault.TheVariants as lower
-use Rattle.fitter.specs.Plans.{cell_wanted}
-use Rattle.fitter.specs.declared.shared.SharedControl.{SharedControl}
-use Rattle.fitter.specs.declared.shared.SharedControl.TheVariants.{Preset, Reset}
-use Rattle.fitter.specs.Sharing.{AllListed}
-use Rattle.fitter.specs.declared.cell_covering.CellCovers.{CellCovers}
-use Rattle.fitter.specs.CellCovered.{HasCheckedAs, HasCoversAs, IsCheckedAt, IsCoveredAt, IsFirstNumber, IsWideAt}
-use Rattle.fitter.specs.Width.{IsControlTooWide, IsTooWide, NoneWide}
 use Rattle.fitter.proofs.Widths.{cell_low, checked_not_wide, covered_checked}
-use Rattle.fitter.specs.Covered.{CoversBelow}
-use Rattle.fitter.specs.Planned.{EachFitsBelow, OneFitsAt}
 
 pub below_none : (t : Table) (mask : ℕ) (net : Netlist) → CoversBelow t mask net 0 []
 below_none t mask net = record { count = refl; each = λ d low. absurd (omega (arith, low)); tried = λ d low fit. absurd (omega (arith, low)) }

@@ -1,34 +1,9 @@
 -- Rows that hold a prime and irredundant list of cubes are a prime cover of the device.
 use Rattle.std.proofs.Common.{◌≡◌, ◌≢◌, ℕ, zero, suc, ◌+◌, ◌*◌, ◌/◌, ◌%◌, ◌-◌, ◌<◌, ◌≤◌, min, Bool, true, false, not, ◌&&◌, ◌||◌, ◌==◌, List, [], ◌∷◌, length, map, set, remove, replicate, get_or, refl, ap, sym, ◌∙◌, subst, arith, inl, inr, length-set, get_or-set_same, get_or-set_other}
-use Rattle.std.specs.Int.{bit_at}
-use Rattle.std.specs.List.{list_any, range_with_len}
-use Rattle.std.proofs.lemmas.Bool.{cases_eq, cases_lt, and_parts, or_cases, or_left, or_right, eq-eqb, eqb-true, eqb-false, true≢false, not-true}
-use Rattle.std.proofs.lemmas.List.{length-map}
-use Rattle.std.proofs.lemmas.List.Folds.{list_any_at}
-use Rattle.std.proofs.lemmas.List.FromFn.{length-map-range_with_len, get_or-map-range_with_len}
-use Rattle.std.proofs.lemmas.Nat.Bits.{bit_at-lt, bit_at-zero}
-use Rattle.pld_base.specs.Bits.{is_on}
-use Rattle.pld_base.specs.Points.{Levels}
-use Rattle.pld_base.proofs.BitLemmas.{same_levels}
-use Rattle.pld_device.specs.Table.{Table}
-use Rattle.pld_device.specs.Laws.{IsDevice}
-use Rattle.pld_device.specs.Rows.{carried, columns_of, is_switched_on, pair_values, row_is_true, row_value}
-use Rattle.pld_order.proofs.Ranks.{Ranked}
-use Rattle.pld_order.specs.Graphs.{has}
+use Rattle.fitter.proofs.Common.{bit_at, list_any, range_with_len, cases_eq, cases_lt, and_parts, or_cases, or_left, or_right, eq-eqb, eqb-true, eqb-false, true≢false, not-true, length-map, list_any_at, length-map-range_with_len, get_or-map-range_with_len, bit_at-lt, bit_at-zero, is_on, Levels, same_levels, Table, IsDevice, carried, columns_of, is_switched_on, pair_values, row_is_true, row_value, Ranked, has, Cube, asks, covers, fits, full_cube, has_from, has_point, literal_cube, without, IsPrimeIrredundant, PlainNetlist, netlist_waits, signal_count, IsSound, IsPrimeCover, IsPrimeRow, IsValuedFor, any_other, is_used, value_without, both_ways, HasPair, column_of, unused_value, HoldsCubes, fuse_at, row_of, zeros, IsFunctionOf}
 use Rattle.device_logic.proofs.Runs.{any_at, one_of}
-use Rattle.covers.specs.declared.cube.Cube.{Cube}
-use Rattle.covers.specs.Cubes.{asks, covers, fits, full_cube, has_from, has_point, literal_cube, without}
-use Rattle.covers.specs.Prime.{IsPrimeIrredundant}
 use Rattle.covers.proofs.CubeBits.{bit_at_without, literal_below, literal_other, literal_same}
-use Rattle.abel_meaning.specs.Netlists.{PlainNetlist}
-use Rattle.abel_meaning.specs.NetlistReads.{netlist_waits, signal_count}
-use Rattle.abel_meaning.specs.Soundness.{IsSound}
-use Rattle.netlist_laws.specs.RowCovers.{IsPrimeCover, IsPrimeRow, IsValuedFor, any_other, is_used, value_without}
-use Rattle.netlist_laws.proofs.BoolLaws.{both_ways}
-use Rattle.netlist_laws.proofs.RowLiterals.{HasPair, column_of, pair_of}
-use Rattle.netlist_laws.proofs.UnusedRows.{unused_value}
-use Rattle.fit_plans.specs.RowCubes.{HoldsCubes, fuse_at, row_of, zeros}
-use Rattle.fitter.specs.Plans.{IsFunctionOf}
+use Rattle.netlist_laws.proofs.RowLiterals.{pair_of}
 use Rattle.fitter.proofs.PairPoints.{point_of}
 
 -- ---- the row of a cube (as for the first profile)

@@ -1,13 +1,6 @@
 -- A row that can't be left out has a point, so it doesn't ask any variable to be both 1 and 0.
 use Rattle.std.proofs.Common.{◌≡◌, ℕ, ◌<◌, ◌≤◌, Bool, true, false, not, ◌==◌, List, length, get_or, remove, refl, sym, ap, ◌∙◌, arith, inl, inr}
-use Rattle.std.specs.Int.{bit_at}
-use Rattle.std.proofs.lemmas.Bool.{cases_Bool, cases_eq, true≢false}
-use Rattle.covers.specs.declared.cube.Cube.{Cube}
-use Rattle.covers.specs.Cubes.{covers, fits, full_cube, has_point}
-use Rattle.covers.specs.Covers.{CoversList}
-use Rattle.covers.specs.Prime.{IsPrimeIrredundant}
-use Rattle.covers.proofs.CubePoints.{fits_at}
-use Rattle.covers.proofs.RowsOthers.{other_covers, some_of}
+use Rattle.fitter.proofs.Common.{bit_at, cases_Bool, cases_eq, true≢false, Cube, covers, fits, full_cube, has_point, CoversList, IsPrimeIrredundant, fits_at, other_covers, some_of}
 
 -- a row without which all points are covered still would be left out
 pub row_has_point : (needed allowed : List Cube) (vars : ℕ) (rows : List Cube) → IsPrimeIrredundant needed allowed vars rows → (k : ℕ) → k < length rows

@@ -1,19 +1,7 @@
 -- The entries of an answer, one a cell in turn.
 use Rattle.std.proofs.Common.{◌≡◌, ℕ, ◌+◌, ◌<◌, List, [], ◌∷◌, ◌++◌, length, get_or, slice_get, Some, None, sym, ap, ◌∙◌, subst, arith, inl, inr}
 use Rattle.std.specs.Prelude.{All, AllPairs}
-use Rattle.std.proofs.lemmas.Bool.{cases_lt}
-use Rattle.std.proofs.lemmas.List.{get_or_append_left, length-append}
-use Rattle.std.proofs.Math.Seq.{get_or-append_seam}
-use Rattle.std.proofs.lemmas.Option.{slice_get-get_or}
-use Rattle.pld_device.specs.Table.{Table}
-use Rattle.bit_expr.specs.declared.netlist.CellWanted.{CellWanted}
-use Rattle.bit_expr.specs.declared.netlist.Netlist.{Netlist}
-use Rattle.bit_expr.proofs.ArenaLists.{get_kept}
-use Rattle.fitter.specs.Plans.{cell_wanted}
-use Rattle.fit_plans.specs.declared.control_fuses.CellForm.{CellForm}
-use Rattle.fit_plans.specs.declared.plan.CellPlan.{CellPlan}
-use Rattle.fitter.specs.declared.answer.FittedCell.{FittedCell}
-use Rattle.fitter.specs.Planned.{EntriesBelow, IsEntryOf}
+use Rattle.fitter.proofs.Common.{cases_lt, get_or_append_left, length-append, get_or-append_seam, slice_get-get_or, Table, CellWanted, Netlist, get_kept, cell_wanted, CellForm, CellPlan, FittedCell, EntriesBelow, IsEntryOf}
 
 none_some : (w : CellWanted) → None ≡ Some w → ⊥
 none_some w e = absurd cc

@@ -1,18 +1,6 @@
 -- The cells that have their rows have a cover that fits.
 use Rattle.std.proofs.Common.{◌≡◌, ℕ, Bool, true, false, List, get_or, Option, Some, None, refl, subst, inl, inr}
-use Rattle.std.proofs.lemmas.Option.{same_Some}
-use Rattle.pld_device.specs.Table.{Table}
-use Rattle.bit_expr.specs.declared.netlist.CellWanted.{CellWanted}
-use Rattle.bit_expr.specs.declared.netlist.Netlist.{Netlist}
-use Rattle.fitter.specs.Plans.{cell_wanted}
-use Rattle.fit_plans.specs.declared.control_fuses.CellForm.{CellForm}
-use Rattle.fit_plans.specs.declared.plan.CellPlan.{CellPlan}
-use Rattle.fit_plans.specs.Controls.{form_at}
-use Rattle.fitter.specs.declared.cell_covering.CellCovers.{CellCovers}
-use Rattle.fitter.specs.CellCovered.{HasCoversAs}
-use Rattle.fitter.specs.declared.planning.CellRows.{CellRows}
-use Rattle.fitter.specs.Planned.{AreChosen, AreRowsOf, EachFitsBelow, OneFitsAt, RowsBelow}
-use Rattle.fitter.specs.Rows.{HasFittingCover}
+use Rattle.fitter.proofs.Common.{same_Some, Table, CellWanted, Netlist, cell_wanted, CellForm, CellPlan, form_at, CellCovers, HasCoversAs, CellRows, AreChosen, AreRowsOf, EachFitsBelow, OneFitsAt, RowsBelow, HasFittingCover}
 use Rattle.fitter.proofs.CellPlans.{number_is, tried_at}
 
 -- the cover that was chosen fits

@@ -1,22 +1,10 @@
 -- The pair of a leaf that can be read is the device's, wherever the netlist keeps it.
 use Rattle.std.proofs.Common.{◌≡◌, ◌≢◌, ℕ, ◌<◌, ◌≤◌, Bool, true, false, ◌==◌, List, length, get_or, slice_get, Some, refl, sym, ap, ◌∙◌, arith, inl, inr}
 use Rattle.std.specs.Prelude.{position, unwrap_or}
-use Rattle.std.proofs.lemmas.Bool.{cases_Bool, cases_lt, eq-eqb, eqb-true, lt-ltb, true≢false}
-use Rattle.std.proofs.lemmas.List.{get_or-map, get_or_past, length-map}
+use Rattle.fitter.proofs.Common.{cases_Bool, cases_lt, eq-eqb, eqb-true, lt-ltb, true≢false, get_or-map, get_or_past, length-map, get_or_from_slice_get, slice_get-get_or, slice_get_within, Carry, IsDevice, IsPair, IsPairOf, pair_pins, pin_carried, carries_cell, Table, cell_at, no_cell, pairs_apart, Netlist, plain_netlist, IsSoundNetlist, no_pair, pair_of_cell, pair_of_pin, IsReadable, pair_of}
 use Rattle.std.proofs.lemmas.List.Sums.{position_or_len_is}
-use Rattle.std.proofs.lemmas.Option.{get_or_from_slice_get, slice_get-get_or, slice_get_within}
-use Rattle.pld_device.specs.declared.carry.Carry.{Carry}
 use Rattle.pld_device.specs.declared.carry.Carry.TheVariants as carry
-use Rattle.pld_device.specs.Laws.{IsDevice, IsPair}
-use Rattle.pld_device.specs.Pins.{IsPairOf, pair_pins, pin_carried, carries_cell}
-use Rattle.pld_device.specs.Table.{Table, cell_at, no_cell}
-use Rattle.pld_device.proofs.OwnPins.{pairs_apart}
-use Rattle.bit_expr.specs.declared.netlist.Netlist.{Netlist}
 use Rattle.bit_expr.specs.declared.node.Leaf.TheVariants as leaf
-use Rattle.abel_meaning.specs.Netlists.{plain_netlist}
-use Rattle.abel_meaning.specs.SoundIds.{IsSoundNetlist, no_pair, pair_of_cell, pair_of_pin}
-use Rattle.abel_meaning.specs.Soundness.{IsReadable}
-use Rattle.sop_lowering.specs.Written.{pair_of}
 
 -- ---- places
 

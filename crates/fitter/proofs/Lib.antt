@@ -4,6 +4,7 @@ pub mod BurnedControls
 pub mod CarriedPoints
 pub mod CellPlans
 pub mod ChoiceBits
+pub mod Common
 pub mod ControlLists
 pub mod Controls
 pub mod Coverable

@@ -1,23 +1,6 @@
 -- The written list of a bit over a sound netlist, at levels of the pairs.
 use Rattle.std.proofs.Common.{◌≡◌, ℕ, Bool, true, false, List, length, replicate, Some, refl, sym, ap, ◌∙◌, subst}
-use Rattle.std.proofs.lemmas.List.{length-replicate}
-use Rattle.std.proofs.lemmas.List.Elements.{All-from_recursion}
-use Rattle.pld_base.specs.Bits.{same_level}
-use Rattle.pld_base.specs.Points.{Levels}
-use Rattle.pld_device.specs.Laws.{IsDevice}
-use Rattle.pld_device.specs.Table.{Table}
-use Rattle.bit_expr.specs.declared.netlist.Netlist.{Netlist}
-use Rattle.bit_expr.specs.declared.node.ExprId.{ExprId}
-use Rattle.bit_expr.specs.Arena.{arena, formula_at}
-use Rattle.bit_expr.specs.Formulas.{formula_value}
-use Rattle.abel_meaning.specs.SoundIds.{IsSoundNetlist}
-use Rattle.covers.specs.declared.cube.Cube.{Cube}
-use Rattle.covers.specs.Cubes.{AllAskBelow, AsksBelow, covers}
-use Rattle.sop_lowering.specs.Products.{Products}
-use Rattle.sop_lowering.specs.Values.{Carries, HasValue}
-use Rattle.sop_lowering.specs.Written.{bit_list}
-use Rattle.sop_lowering.proofs.WrittenValues.{written_values}
-use Rattle.fitter.specs.Coverable.{IsSoundId}
+use Rattle.fitter.proofs.Common.{length-replicate, All-from_recursion, same_level, Levels, IsDevice, Table, Netlist, ExprId, arena, formula_at, formula_value, IsSoundNetlist, Cube, AllAskBelow, AsksBelow, covers, Products, Carries, HasValue, bit_list, written_values, IsSoundId}
 use Rattle.fitter.proofs.CarriedPoints.{wires}
 
 same_true : (b : Bool) → same_level b true ≡ b

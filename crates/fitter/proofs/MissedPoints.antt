@@ -1,15 +1,7 @@
 -- Points of rows that a cover misses.
 use Rattle.std.proofs.Common.{◌≡◌, ◌≢◌, ℕ, ◌+◌, ◌<◌, ◌≤◌, Bool, true, false, List, [], ◌∷◌, ◌++◌, length, get_or, take, Option, Some, None, refl, sym, ap, ◌∙◌, subst, arith, inl, inr}
-use Rattle.std.proofs.lemmas.Bool.{cases_lt, true≢false}
-use Rattle.std.proofs.lemmas.List.{get_or-take, length-take, take_more, take_all}
-use Rattle.std.proofs.lemmas.List.Folds.{list_any_at}
-use Rattle.pld_base.specs.Bits.{bits}
-use Rattle.covers.specs.declared.cube.Cube.{Cube}
-use Rattle.covers.specs.Cubes.{covers, full_cube, has_point}
-use Rattle.covers.specs.Covers.{CoversCube, CoversList}
-use Rattle.covers.proofs.RowsOthers.{some_of}
+use Rattle.fitter.proofs.Common.{cases_lt, true≢false, get_or-take, length-take, take_more, take_all, list_any_at, bits, Cube, covers, full_cube, has_point, CoversCube, CoversList, some_of, FindsApart, FindsMissed, IsApart, IsMissed}
 use Rattle.covers.specs.Outside.{IsOutside}
-use Rattle.fitter.specs.Missing.{FindsApart, FindsMissed, IsApart, IsMissed}
 
 pub missed_at : (rows cubes : List Cube) (index vars point : ℕ) (row : Cube) → index < length rows → get_or rows index full_cube ≡ row → IsOutside cubes row vars point → IsMissed rows cubes vars point
 missed_at rows cubes index vars point row within is outside = record {

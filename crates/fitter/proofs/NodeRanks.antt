@@ -1,13 +1,7 @@
 -- The nodes of a sound netlist have ranks, no more than there are nodes, each above those of the nodes that it names.
 use Rattle.std.proofs.Common.{◌≡◌, ℕ, ◌+◌, ◌<◌, Bool, length}
-use Rattle.pld_device.specs.Table.{Table}
-use Rattle.pld_order.proofs.Ranks.{Ranked, no_loop_by_rank, ranked}
+use Rattle.fitter.proofs.Common.{Table, Ranked, no_loop_by_rank, ranked, names, PlainNetlist, node_at, netlist_waits, signal_count, IsSound, node_falls}
 use Rattle.bit_expr.specs.declared.node.Leaf.TheVariants as leaf
-use Rattle.bit_expr.specs.Formulas.{names}
-use Rattle.abel_meaning.specs.Netlists.{PlainNetlist, node_at}
-use Rattle.abel_meaning.specs.NetlistReads.{netlist_waits, signal_count}
-use Rattle.abel_meaning.specs.Soundness.{IsSound}
-use Rattle.netlist_laws.proofs.Valuing.{node_falls}
 
 -- the first node's `one` names the second
 abbrev pub node_names_node : PlainNetlist → ℕ → ℕ → Bool

@@ -1,24 +1,8 @@
 -- A prime and irredundant cover of one product, or of none, has no more than one row.
 use Rattle.std.proofs.Common.{◌≡◌, ◌≢◌, ℕ, zero, suc, ◌<◌, ◌≤◌, ◌^◌, Bool, true, false, not, ◌||◌, ◌==◌, List, [], ◌∷◌, length, get_or, set, Option, Some, None, refl, sym, ap, ◌∙◌, subst, arith, inl, inr, length-set, get_or-set_same, get_or-set_other}
-use Rattle.std.specs.Int.{bit_at}
-use Rattle.std.specs.Option.{option_map, option_to_list}
-use Rattle.std.proofs.lemmas.Bool.{cases_Bool, cases_eq, eqb-true, true≢false}
-use Rattle.std.proofs.lemmas.List.Folds.{list_any_at}
-use Rattle.std.proofs.lemmas.Nat.Bits.{bit_at-lt}
-use Rattle.pld_base.specs.Bits.{is_on}
-use Rattle.covers.specs.declared.cube.Cube.{Cube}
-use Rattle.covers.specs.Cubes.{asks, covers, fits, full_cube, has_point, literal_cube, without}
-use Rattle.covers.specs.Prime.{IsPrimeIrredundant}
-use Rattle.covers.proofs.CubePoints.{fits_at, has_point_each, point_one, point_zero}
-use Rattle.covers.proofs.RowsOthers.{other_covers}
-use Rattle.netlist_laws.proofs.BoolLaws.{both_ways}
-use Rattle.netlist_laws.proofs.RowLiterals.{column_of}
-use Rattle.fit_plans.specs.Columns.{all_turned, turned}
-use Rattle.fit_plans.specs.Points.{levels_turned}
-use Rattle.fit_plans.proofs.TurnedCubes.{covers_turned, length_turned, turned_points}
+use Rattle.fitter.proofs.Common.{bit_at, option_map, option_to_list, cases_Bool, cases_eq, eqb-true, true≢false, list_any_at, bit_at-lt, is_on, Cube, asks, covers, fits, full_cube, has_point, literal_cube, without, IsPrimeIrredundant, fits_at, has_point_each, point_one, point_zero, other_covers, both_ways, column_of, all_turned, turned, levels_turned, covers_turned, length_turned, turned_points, IsOneProduct}
 use Rattle.fitter.proofs.CubeRows.{dropped_other}
 use Rattle.fitter.proofs.CubeWitness.{asks_one_level}
-use Rattle.fitter.specs.Products.{IsOneProduct}
 
 same_bits : (c : Cube) (v : ℕ) (level : Bool) (w : ℕ) → v < 32 → w < 32 → w ≢ v
     → (bit_at (without (literal_cube v level) c).yes w ≡ bit_at c.yes w) × (bit_at (without (literal_cube v level) c).no w ≡ bit_at c.no w)

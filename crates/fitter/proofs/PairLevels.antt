@@ -1,50 +1,12 @@
 -- What the pairs of burned fuses carry at a point of the netlist under a choice, as written lists and their turned covers take
 -- it.
 use Rattle.std.proofs.Common.{◌≡◌, ℕ, zero, suc, ◌+◌, ◌<◌, ◌≤◌, Bool, true, false, not, ◌==◌, if◌then◌else◌, List, [], ◌∷◌, length, get_or, slice_get, Some, refl, sym, ap, ◌∙◌, subst, arith}
-use Rattle.std.specs.Int.{bit_at}
-use Rattle.std.proofs.lemmas.List.{get_or-map, length-map}
-use Rattle.std.proofs.lemmas.Option.{get_or_from_slice_get, slice_get_within}
-use Rattle.pld_base.specs.Bits.{is_on, same_level}
-use Rattle.pld_base.specs.Points.{IsPoint, Levels}
-use Rattle.pld_device.specs.declared.carry.Carry.{Carry}
+use Rattle.fitter.proofs.Common.{bit_at, get_or-map, length-map, get_or_from_slice_get, slice_get_within, is_on, same_level, IsPoint, Levels, Carry, IsDevice, IsPair, complement_if, pin_carried, stores, carried, pair_values, Table, cell_at, Function, Netlist, arena, formula_at, Formula, formula_value, plain_netlist, netlist_stores, IsSoundNetlist, IsReadable, IsSoundFormula, Cube, covers, IsValuedFor, Products, Carries, HasValue, pair_of, written, written_values, all_turned, IsCoverBetween, levels_turned, allowed_of, needed_of, one_of, one_or_any, covers_turned, length_turned, IsSoundId, IsChosenMask, IsFunctionOf, carries_chosen, exchanged_at, in_sense, point_exchanged, MayExchangeIn, netlist_exchanged, q_at, exchanged_means_so}
 use Rattle.pld_device.specs.declared.carry.Carry.TheVariants as carry
-use Rattle.pld_device.specs.Laws.{IsDevice, IsPair}
-use Rattle.pld_device.specs.Macrocells.{complement_if}
-use Rattle.pld_device.specs.Pins.{pin_carried}
-use Rattle.pld_device.specs.Registers.{stores}
-use Rattle.pld_device.specs.Rows.{carried, pair_values}
-use Rattle.pld_device.specs.Table.{Table, cell_at}
-use Rattle.bit_expr.specs.declared.netlist.Function.{Function}
-use Rattle.bit_expr.specs.declared.netlist.Netlist.{Netlist}
 use Rattle.bit_expr.specs.declared.node.Leaf.TheVariants as leaf
-use Rattle.bit_expr.specs.Arena.{arena, formula_at}
-use Rattle.bit_expr.specs.Formulas.{Formula, formula_value}
-use Rattle.abel_meaning.specs.Netlists.{plain_netlist}
-use Rattle.abel_meaning.specs.NetlistLogic.{netlist_stores}
-use Rattle.abel_meaning.specs.SoundIds.{IsSoundNetlist}
-use Rattle.abel_meaning.specs.Soundness.{IsReadable, IsSoundFormula}
-use Rattle.covers.specs.declared.cube.Cube.{Cube}
-use Rattle.covers.specs.Cubes.{covers}
-use Rattle.netlist_laws.specs.RowCovers.{IsValuedFor}
-use Rattle.sop_lowering.specs.Products.{Products}
-use Rattle.sop_lowering.specs.Values.{Carries, HasValue}
-use Rattle.sop_lowering.specs.Written.{pair_of, written}
-use Rattle.sop_lowering.proofs.WrittenValues.{written_values}
-use Rattle.fit_plans.specs.Columns.{all_turned}
-use Rattle.fit_plans.specs.Covering.{IsCoverBetween}
-use Rattle.fit_plans.specs.Points.{levels_turned}
-use Rattle.fit_plans.specs.Tries.{allowed_of, needed_of, one_of, one_or_any}
-use Rattle.fit_plans.proofs.TurnedCubes.{covers_turned, length_turned}
-use Rattle.fitter.specs.Coverable.{IsSoundId}
-use Rattle.fitter.specs.Plans.{IsChosenMask, IsFunctionOf, carries_chosen}
 use Rattle.fitter.proofs.CarriedPoints.{carries_all}
 use Rattle.fitter.proofs.Coverable.{either_sound}
 use Rattle.fitter.proofs.LeafPairs.{cell_pair, pair_low, pin_at, pin_pair}
-use Rattle.pld_machine.specs.Exchanged.{exchanged_at, in_sense}
-use Rattle.pld_machine.proofs.ExchangedPoints.{point_exchanged}
-use Rattle.netlist_laws.specs.ExchangedNets.{MayExchangeIn, netlist_exchanged}
-use Rattle.netlist_laws.proofs.ExchangedFormulas.{q_at}
-use Rattle.netlist_laws.proofs.ExchangedLogic.{exchanged_means_so}
 
 turned_from : (mask v : ℕ) (levels : List Bool) (i w : ℕ) → w ≡ v + i → i < length levels
     → is_on (levels_turned mask v levels) i ≡ (if bit_at mask w == 1 then not (is_on levels i) else is_on levels i)

@@ -1,23 +1,6 @@
 -- Whatever levels the pairs of a device are to carry, there is a point with valued nodes at which they do.
 use Rattle.std.proofs.Common.{◌≡◌, ℕ, suc, ◌<◌, Bool, false, List, [], ◌∷◌, length, map, Some, slice_get, refl, ap, sym, ◌∙◌, arith, inl, inr}
-use Rattle.std.proofs.lemmas.Bool.{cases_Bool}
-use Rattle.pld_base.specs.Points.{Levels, IsPoint}
-use Rattle.pld_base.specs.Bits.{bits}
-use Rattle.pld_base.proofs.BitLemmas.{length-bits}
-use Rattle.pld_device.specs.declared.carry.Carry.{Carry}
-use Rattle.pld_device.specs.Table.{Table}
-use Rattle.pld_device.specs.Laws.{IsDevice}
-use Rattle.pld_device.specs.Macrocells.{complement_if}
-use Rattle.pld_device.specs.Pins.{pin_carried}
-use Rattle.pld_device.specs.Rows.{carried, pair_values}
-use Rattle.pld_device.proofs.OwnPins.{pairs_apart}
-use Rattle.bit_expr.specs.Formulas.{same_leaf}
-use Rattle.abel_meaning.specs.Netlists.{PlainNetlist}
-use Rattle.netlist_laws.specs.RowCovers.{IsValuedFor, IsValuedOfFor}
-use Rattle.abel_meaning.specs.NetlistReads.{netlist_waits, signal_count}
-use Rattle.abel_meaning.specs.Soundness.{IsSound}
-use Rattle.pld_order.proofs.Ranks.{Ranked}
-use Rattle.netlist_laws.proofs.Valuing.{valued, is_valued_of}
+use Rattle.fitter.proofs.Common.{cases_Bool, Levels, IsPoint, bits, length-bits, Carry, Table, IsDevice, complement_if, pin_carried, carried, pair_values, pairs_apart, same_leaf, PlainNetlist, IsValuedFor, IsValuedOfFor, netlist_waits, signal_count, IsSound, Ranked, valued, is_valued_of}
 use Rattle.netlist_laws.proofs.CoverReads.{leaf_of, is_flipped, carried_leaf, same_pin, get_map, leaf_is, set_leaf, IsWire, set_point, set_same, set_other, twice, wire_of}
 use Rattle.netlist_laws.proofs.CellValues.{pairs_same, carried_same}
 

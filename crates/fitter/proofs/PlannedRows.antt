@@ -1,36 +1,10 @@
 -- The rows of fuses that were burned for a plan: which cubes they hold, that they are switched on, and which are used.
 use Rattle.std.proofs.Common.{◌≡◌, ℕ, zero, suc, ◌+◌, ◌<◌, ◌≤◌, Bool, true, false, ◌==◌, List, [], ◌∷◌, length, get_or, replicate, slice_get, Option, Some, None, refl, sym, ap, ◌∙◌, subst, arith, inl, inr}
 use Rattle.std.specs.Prelude.{is_some}
-use Rattle.std.specs.Int.{bit_at}
-use Rattle.std.specs.List.{list_any, range_with_len}
-use Rattle.std.specs.Option.{option_to_list}
-use Rattle.std.proofs.lemmas.Bool.{cases_Bool}
-use Rattle.std.proofs.lemmas.List.FromFn.{get_or-map-range_with_len, length-map-range_with_len}
-use Rattle.std.proofs.lemmas.List.Folds.{list_any_at}
-use Rattle.std.proofs.lemmas.Option.{get_or_from_slice_get, slice_get-get_or, slice_get_within}
-use Rattle.pld_device.specs.declared.enable.Enable.TheVariants.{Row}
-use Rattle.pld_device.specs.Laws.{IsDevice}
-use Rattle.pld_device.specs.Rows.{is_switched_on, row_fuses}
-use Rattle.pld_device.specs.Table.{Table, cell_at}
-use Rattle.bit_expr.specs.declared.netlist.CellWanted.{CellWanted}
-use Rattle.bit_expr.specs.declared.netlist.Netlist.{Netlist}
-use Rattle.bit_expr.specs.declared.node.ExprId.{ExprId}
-use Rattle.covers.specs.declared.cube.Cube.{Cube}
-use Rattle.covers.specs.Cubes.{full_cube}
-use Rattle.netlist_laws.specs.RowCovers.{is_used}
-use Rattle.fit_plans.specs.Columns.{all_turned}
-use Rattle.fit_plans.specs.Covering.{IsCoverBetween}
-use Rattle.sop_lowering.specs.Products.{Products}
-use Rattle.fit_plans.specs.declared.control_fuses.CellForm.{CellForm}
-use Rattle.fit_plans.specs.declared.plan.CellPlan.{CellPlan}
-use Rattle.fit_plans.specs.declared.plan.Plan.{Plan}
-use Rattle.fit_plans.specs.Controls.{IsBurned, form_at}
+use Rattle.fitter.proofs.Common.{bit_at, list_any, range_with_len, option_to_list, cases_Bool, get_or-map-range_with_len, length-map-range_with_len, list_any_at, get_or_from_slice_get, slice_get-get_or, slice_get_within, Row, IsDevice, is_switched_on, row_fuses, Table, cell_at, CellWanted, Netlist, ExprId, Cube, full_cube, is_used, all_turned, IsCoverBetween, Products, CellForm, CellPlan, Plan, IsBurned, form_at, cube_for, of_cell, planned, HoldsCubes, fuse_at, row_of, zeros, HasCellPlan, PlansAs, PlansNetlist, cell_wanted}
 use Rattle.fit_plans.specs.FuseLists.{planned_row}
-use Rattle.fit_plans.specs.Owners.{cube_for, of_cell, planned}
-use Rattle.fit_plans.specs.RowCubes.{HoldsCubes, fuse_at, row_of, zeros}
 use Rattle.fit_plans.proofs.PlannedCubes.{each_planned}
 use Rattle.fit_plans.proofs.OwnedRows.{enable_owner, planned_data, preset_owner, reset_owner}
-use Rattle.fitter.specs.Plans.{HasCellPlan, PlansAs, PlansNetlist, cell_wanted}
 use Rattle.fitter.proofs.BurnedControls.{holder_on, switch_as}
 use Rattle.fitter.proofs.CubeWitness.{asks_one_level}
 

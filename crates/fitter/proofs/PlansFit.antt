@@ -1,52 +1,9 @@
 -- Fuses that hold a plan for a netlist are those of the netlist under the choice that they show.
 use Rattle.std.proofs.Common.{◌≡◌, ◌≢◌, ℕ, ◌+◌, ◌-◌, ◌<◌, ◌≤◌, Bool, true, false, not, ◌&&◌, ◌||◌, if◌then◌else◌, List, [], length, slice_get, Option, Some, None, refl, sym, ap, ap₂, ◌∙◌, subst, arith}
-use Rattle.std.specs.List.{range_with_len}
+use Rattle.fitter.proofs.Common.{range_with_len, option_map, option_to_list, slice_get_past, same_level, IsPoint, Levels, PinLow, Row, Flip, AfterRegister, Always, BeforeRegister, Combinational, Either, Registered, IsDevice, complement_if, data_complements, data_rows, pin_complements, is_inverted, says, stores, stores_by, IsDataRow, Table, cell_at, no_cell, registered_at, preset_in, reset_in, CellWanted, Function, Netlist, ExprId, arena, formula_at, Const, Formula, formula_value, allows_plain, PlainNetlist, Wanted, function_at, plain_netlist, plain_wanted, shared_function, wanted_at, enable_of, netlist_stores, registers_as, IsSoundNetlist, IsSound, IsSoundFormula, IsSoundFree, MayRegister, Cube, IsExactRow, IsPrimeCover, is_used, IsFitted, IsFittedAs, IsFittedCell, IsFittedEnable, IsFittedShared, IsSpareCell, or_complements, or_may_be, data_row_below, all_turned, one_of, one_or_any, control_function, follows_as, may_be_inverted_as, names_or, or_is_complement, rows_are_positive, CellForm, CellPlan, Plan, IsBurned, form_at, planned, IsSoundId, IsFunctionOf, PlansAs, PlansCell, PlansControl, PlansFit, PlansNetlist, PlansShared, PlansSpare, cell_wanted, enable_bit, is_chosen, is_free_cell, exchanged_at, in_sense, MayExchangeIn, formula_exchanged, function_exchanged, is_free_wanted, netlist_exchanged, shown, wanted_exchanged, shared_exchanged, wanted_at_exchanged, function_value_exchanged, value_exchanged}
 use Rattle.std.specs.Prelude.{unwrap_or}
-use Rattle.std.specs.Option.{option_map, option_to_list}
-use Rattle.std.proofs.lemmas.Option.{slice_get_past}
-use Rattle.pld_base.specs.Bits.{same_level}
-use Rattle.pld_base.specs.Points.{IsPoint, Levels}
 use Rattle.pld_device.specs.declared.enable.Enable.{Enable}
-use Rattle.pld_device.specs.declared.enable.Enable.TheVariants.{PinLow, Row}
-use Rattle.pld_device.specs.declared.flip.Flip.{Flip}
-use Rattle.pld_device.specs.declared.flip.Flip.TheVariants.{AfterRegister, Always, BeforeRegister}
 use Rattle.pld_device.specs.declared.kinds.Kinds.{Kinds}
-use Rattle.pld_device.specs.declared.kinds.Kinds.TheVariants.{Combinational, Either, Registered}
-use Rattle.pld_device.specs.Laws.{IsDevice}
-use Rattle.pld_device.specs.Macrocells.{complement_if, data_complements, data_rows, pin_complements}
-use Rattle.pld_device.specs.Registers.{is_inverted, says, stores, stores_by}
-use Rattle.pld_device.specs.Table.{IsDataRow, Table, cell_at, no_cell, registered_at}
-use Rattle.device_logic.proofs.Ranges.{preset_in, reset_in}
-use Rattle.bit_expr.specs.declared.netlist.CellWanted.{CellWanted}
-use Rattle.bit_expr.specs.declared.netlist.Function.{Function}
-use Rattle.bit_expr.specs.declared.netlist.Netlist.{Netlist}
-use Rattle.bit_expr.specs.declared.node.ExprId.{ExprId}
-use Rattle.bit_expr.specs.Arena.{arena, formula_at}
-use Rattle.bit_expr.specs.Formulas.{Const, Formula, formula_value}
-use Rattle.abel_meaning.specs.Functions.{allows_plain}
-use Rattle.abel_meaning.specs.Netlists.{PlainNetlist, Wanted, function_at, plain_netlist, plain_wanted, shared_function, wanted_at}
-use Rattle.abel_meaning.specs.NetlistLogic.{enable_of, netlist_stores, registers_as}
-use Rattle.abel_meaning.specs.SoundIds.{IsSoundNetlist}
-use Rattle.abel_meaning.specs.Soundness.{IsSound, IsSoundFormula, IsSoundFree, MayRegister}
-use Rattle.covers.specs.declared.cube.Cube.{Cube}
-use Rattle.netlist_laws.specs.RowCovers.{IsExactRow, IsPrimeCover, is_used}
-use Rattle.netlist_laws.specs.Fitting.{IsFitted, IsFittedAs, IsFittedCell, IsFittedEnable, IsFittedShared, IsSpareCell, or_complements, or_may_be}
-use Rattle.netlist_laws.proofs.UnusedRows.{data_row_below}
-use Rattle.fit_plans.specs.Columns.{all_turned}
-use Rattle.fit_plans.specs.Tries.{one_of, one_or_any}
-use Rattle.fit_plans.specs.Covered.{control_function}
-use Rattle.fit_plans.specs.Forms.{follows_as, may_be_inverted_as, names_or, or_is_complement, rows_are_positive}
-use Rattle.fit_plans.specs.declared.control_fuses.CellForm.{CellForm}
-use Rattle.fit_plans.specs.declared.plan.CellPlan.{CellPlan}
-use Rattle.fit_plans.specs.declared.plan.Plan.{Plan}
-use Rattle.fit_plans.specs.Controls.{IsBurned, form_at}
-use Rattle.fit_plans.specs.Owners.{planned}
-use Rattle.fitter.specs.Coverable.{IsSoundId}
-use Rattle.fitter.specs.Plans.{IsFunctionOf, PlansAs, PlansCell, PlansControl, PlansFit, PlansNetlist, PlansShared, PlansSpare, cell_wanted, enable_bit, is_chosen, is_free_cell}
-use Rattle.pld_machine.specs.Exchanged.{exchanged_at, in_sense}
-use Rattle.netlist_laws.specs.ExchangedNets.{MayExchangeIn, formula_exchanged, function_exchanged, is_free_wanted, netlist_exchanged, shown, wanted_exchanged}
-use Rattle.netlist_laws.proofs.ExchangedCells.{shared_exchanged, wanted_at_exchanged}
-use Rattle.netlist_laws.proofs.ExchangedFormulas.{function_value_exchanged, value_exchanged}
 use Rattle.netlist_laws.proofs.ExchangedSound.{exchanged_is_sound}
 use Rattle.netlist_laws.proofs.FoundCells.{found as found_cell}
 use Rattle.netlist_laws.proofs.FreeCells.{free_may_exchange}

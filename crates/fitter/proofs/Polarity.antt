@@ -1,10 +1,7 @@
 -- Where the OR of a cell's rows is needed and where it is allowed, by its function's `one` and `any`.
 use Rattle.std.proofs.Common.{◌≡◌, Bool, true, false, not, ◌&&◌, ◌||◌, refl, ap, sym, ◌∙◌, inl, inr}
-use Rattle.std.proofs.lemmas.Bool.{cases_Bool}
-use Rattle.pld_base.specs.Bits.{same_level}
-use Rattle.pld_device.specs.Macrocells.{complement_if}
-use Rattle.abel_meaning.specs.Functions.{Function, allows, allows_plain}
-use Rattle.abel_meaning.specs.Netlists.{Wanted, as_named}
+use Rattle.fitter.proofs.Common.{cases_Bool, same_level, complement_if, allows, allows_plain, Wanted, as_named}
+use Rattle.abel_meaning.specs.Functions.{Function}
 
 pub twice_complement : (a b v : Bool) → complement_if a (complement_if b v) ≡ complement_if (complement_if a b) v
 twice_complement true true true = refl

@@ -1,21 +1,8 @@
 -- What holds of every leaf that can be read holds of all that a sound formula reaches.
 use Rattle.std.proofs.Common.{◌≡◌, ℕ, zero, suc, ◌<◌, ◌≤◌, Bool, true, false, List, length, map, get_or, refl, sym, ap, ◌∙◌, subst, arith}
-use Rattle.std.proofs.lemmas.Bool.{or_left, or_right}
-use Rattle.std.proofs.lemmas.List.{get_or-map, length-map}
-use Rattle.pld_device.specs.Table.{Table}
-use Rattle.pld_order.proofs.Ranks.{Ranked}
-use Rattle.bit_expr.specs.declared.netlist.Function.{Function}
-use Rattle.bit_expr.specs.declared.netlist.Netlist.{Netlist}
-use Rattle.bit_expr.specs.declared.node.Leaf.{Leaf}
+use Rattle.fitter.proofs.Common.{or_left, or_right, get_or-map, length-map, Table, Ranked, Function, Netlist, Leaf, arena, formula_at, Formula, Const, Read, Not, And, Or, Xor, names, no_function, node_at, plain_function, plain_netlist, IsSoundNetlist, IsReadable, IsSoundFormula, same_leaf-refl, function_of_node, node_formula}
 use Rattle.bit_expr.specs.declared.node.Leaf.TheVariants as leaf
-use Rattle.bit_expr.specs.Arena.{arena, formula_at}
-use Rattle.bit_expr.specs.Formulas.{Formula, Const, Read, Not, And, Or, Xor, names}
-use Rattle.abel_meaning.specs.Netlists.{no_function, node_at, plain_function, plain_netlist}
-use Rattle.abel_meaning.specs.SoundIds.{IsSoundNetlist}
-use Rattle.abel_meaning.specs.Soundness.{IsReadable, IsSoundFormula}
-use Rattle.netlist_laws.proofs.FormulaLeaves.{same_leaf-refl}
 use Rattle.sop_lowering.specs.Through.{EachLeaf, OfLeaf, Reaches, ReachesThrough}
-use Rattle.sop_lowering.specs.Written.{function_of_node, node_formula}
 use Rattle.fitter.proofs.NodeRanks.{node_names_node, node_ranks}
 
 pub each_leaf : (P : Leaf → Type 0) (f : Formula) → ((l : Leaf) → names f l ≡ true → P l) → EachLeaf P f

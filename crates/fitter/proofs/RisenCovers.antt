@@ -1,15 +1,8 @@
 -- A cover whose rows were put in order is one still.
 use Rattle.std.proofs.Common.{◌≡◌, ℕ, ◌<◌, Bool, List, length, sym, ◌∙◌, arith, inl, inr}
-use Rattle.std.specs.List.{swap}
+use Rattle.fitter.proofs.Common.{swap, All-permutation, IsPermutation-keeps, length_permutation, list_any-IsPermutation, Cube, covers, has_point, IsIrredundant, IsPrime, IsPrimeIrredundant, exchange_case, exchanged, swapped_others, Products, IsCoverBetween}
 use Rattle.std.specs.List.Sorted.{IsPermutation}
 use Rattle.std.proofs.lemmas.List.Edits.{length-swap}
-use Rattle.std.proofs.lemmas.List.Sorted.{All-permutation, IsPermutation-keeps, length_permutation, list_any-IsPermutation}
-use Rattle.covers.specs.declared.cube.Cube.{Cube}
-use Rattle.covers.specs.Cubes.{covers, has_point}
-use Rattle.covers.specs.Prime.{IsIrredundant, IsPrime, IsPrimeIrredundant}
-use Rattle.covers.proofs.RowsOthers.{exchange_case, exchanged, swapped_others}
-use Rattle.sop_lowering.specs.Products.{Products}
-use Rattle.fit_plans.specs.Covering.{IsCoverBetween}
 
 within_exchanged : (n i j k : ℕ) → i < n → j < n → k < n → exchanged i j k < n
 within_exchanged n i j k li lj lk =

@@ -1,10 +1,8 @@
 -- The fuses of a row as a number, digit by digit.
 use Rattle.std.proofs.Common.{◌≡◌, ℕ, suc, ◌+◌, ◌*◌, ◌<◌, ◌≤◌, ◌^◌, Bool, true, false, if◌then◌else◌, refl, arith}
+use Rattle.fitter.proofs.Common.{Cube, fuse_at, row_number}
 use Rattle.std.proofs.Math.Nat.{pow-suc}
 use Rattle.std.proofs.Math.Pow.{pow_mono}
-use Rattle.covers.specs.declared.cube.Cube.{Cube}
-use Rattle.fit_plans.specs.RowCubes.{fuse_at}
-use Rattle.fitter.specs.Rows.{row_number}
 
 pub digit_low : (b : Bool) → (if b then 1 else 0) ≤ 1
 digit_low true = omega arith

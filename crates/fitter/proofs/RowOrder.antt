@@ -1,17 +1,7 @@
 -- The rows that hold a rising cover are in order.
 use Rattle.std.proofs.Common.{◌≡◌, ℕ, zero, suc, ◌+◌, ◌<◌, ◌≤◌, Bool, List, length, get_or, slice_get, Some, refl, ap, ◌∙◌, arith}
-use Rattle.std.specs.List.{list_any}
-use Rattle.std.proofs.lemmas.List.FromFn.{get_or-map-range_with_len}
-use Rattle.std.proofs.lemmas.Option.{slice_get-get_or}
-use Rattle.pld_base.specs.Bits.{is_on}
-use Rattle.pld_device.specs.Rows.{row_fuses}
-use Rattle.pld_device.specs.Table.{Table, cell_at}
-use Rattle.covers.specs.declared.cube.Cube.{Cube}
-use Rattle.covers.specs.Cubes.{full_cube}
+use Rattle.fitter.proofs.Common.{list_any, get_or-map-range_with_len, slice_get-get_or, is_on, row_fuses, Table, cell_at, Cube, full_cube, HoldsCubes, fuse_at, row_of, AreRowsInOrder, fuse_number, Rises, row_number}
 use Rattle.fitter.proofs.PlannedRows.{IsSingle, row_used, zeros_unused}
-use Rattle.fit_plans.specs.RowCubes.{HoldsCubes, fuse_at, row_of}
-use Rattle.fitter.specs.Order.{AreRowsInOrder, fuse_number}
-use Rattle.fitter.specs.Rows.{Rises, row_number}
 
 -- a column's fuse in the row of a cube
 row_fuse : (t : Table) (c : Cube) (column : ℕ) → column < t.columns → is_on (row_of t c) column ≡ fuse_at c column

@@ -1,24 +1,8 @@
 -- At a point with valued nodes the pairs see levels that carry all that can be read.
 use Rattle.std.proofs.Common.{◌≡◌, ℕ, ◌<◌, Bool, true, false, if◌then◌else◌, List, length, map, get_or, refl, sym, ap, ◌∙◌}
-use Rattle.std.proofs.lemmas.List.{get_or-map, length-map}
-use Rattle.std.proofs.lemmas.Option.{get_or_from_slice_get, slice_get_within}
-use Rattle.pld_base.specs.Bits.{is_on}
-use Rattle.pld_base.specs.Points.{Levels}
-use Rattle.pld_device.specs.declared.carry.Carry.{Carry}
+use Rattle.fitter.proofs.Common.{get_or-map, length-map, get_or_from_slice_get, slice_get_within, is_on, Levels, Carry, IsDevice, IsPair, pin_carried, Table, cell_at, Netlist, Formula, PlainNetlist, plain_netlist, netlist_stores, IsSoundNetlist, IsReadable, IsSoundFormula, IsValuedFor, Carries, pair_of}
 use Rattle.pld_device.specs.declared.carry.Carry.TheVariants as carry
-use Rattle.pld_device.specs.Laws.{IsDevice, IsPair}
-use Rattle.pld_device.specs.Pins.{pin_carried}
-use Rattle.pld_device.specs.Table.{Table, cell_at}
-use Rattle.bit_expr.specs.declared.netlist.Netlist.{Netlist}
 use Rattle.bit_expr.specs.declared.node.Leaf.TheVariants as leaf
-use Rattle.bit_expr.specs.Formulas.{Formula}
-use Rattle.abel_meaning.specs.Netlists.{PlainNetlist, plain_netlist}
-use Rattle.abel_meaning.specs.NetlistLogic.{netlist_stores}
-use Rattle.abel_meaning.specs.SoundIds.{IsSoundNetlist}
-use Rattle.abel_meaning.specs.Soundness.{IsReadable, IsSoundFormula}
-use Rattle.netlist_laws.specs.RowCovers.{IsValuedFor}
-use Rattle.sop_lowering.specs.Values.{Carries}
-use Rattle.sop_lowering.specs.Written.{pair_of}
 use Rattle.fitter.proofs.CarriedPoints.{carries_all}
 use Rattle.fitter.proofs.LeafPairs.{cell_pair, pair_low, pin_at, pin_pair}
 

@@ -1,19 +1,6 @@
 -- Controls that all registers of a netlist share are shared under a choice too.
 use Rattle.std.proofs.Common.{◌≡◌, ℕ, ◌<◌, Bool, true, Option, None, Some, refl, sym, ap, ◌∙◌, arith}
-use Rattle.std.specs.Option.{option_map}
-use Rattle.pld_base.specs.Points.{Levels}
-use Rattle.pld_machine.specs.Exchanged.{exchanged_at}
-use Rattle.pld_machine.proofs.ExchangedPoints.{point_exchanged}
-use Rattle.pld_device.specs.Laws.{IsDevice}
-use Rattle.pld_device.specs.Table.{Table}
-use Rattle.bit_expr.specs.Formulas.{Formula, formula_value}
-use Rattle.abel_meaning.specs.Netlists.{PlainNetlist, Wanted, shared_function, wanted_at}
-use Rattle.netlist_laws.specs.ExchangedNets.{MayExchangeIn, formula_exchanged, netlist_exchanged, wanted_exchanged}
-use Rattle.netlist_laws.proofs.ExchangedCells.{shared_exchanged, wanted_at_exchanged}
-use Rattle.netlist_laws.proofs.ExchangedFormulas.{value_exchanged}
-use Rattle.netlist_laws.proofs.ExchangedLogic.{exchanged_means_so}
-use Rattle.netlist_laws.specs.RowCovers.{IsValuedFor}
-use Rattle.netlist_laws.specs.Fitting.{AreShared}
+use Rattle.fitter.proofs.Common.{option_map, Levels, exchanged_at, point_exchanged, IsDevice, Table, Formula, formula_value, PlainNetlist, Wanted, shared_function, wanted_at, MayExchangeIn, formula_exchanged, netlist_exchanged, wanted_exchanged, shared_exchanged, wanted_at_exchanged, value_exchanged, exchanged_means_so, IsValuedFor, AreShared}
 
 module _ (t : Table) (laws : IsDevice t) (net : PlainNetlist) (x : ℕ → Bool) (may : MayExchangeIn t net x) where
   -- a point whose nodes are valued under the choice has them valued for the netlist where it sees it

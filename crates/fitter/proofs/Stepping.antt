@@ -1,20 +1,7 @@
 -- One more value, node or wire.
 use Rattle.std.proofs.Common.{◌≡◌, ℕ, ◌+◌, ◌<◌, ◌≤◌, Bool, false, List, [], ◌∷◌, ◌++◌, length, get_or, set, refl, sym, ap, ◌∙◌, subst, arith, inl, inr, get_or-set_same, get_or-set_other}
-use Rattle.std.proofs.lemmas.Bool.{cases_lt}
-use Rattle.std.proofs.lemmas.List.{get_or_append_left, length-append}
-use Rattle.std.proofs.Math.Seq.{get_or-append_seam}
-use Rattle.pld_base.specs.Bits.{bits, is_on}
-use Rattle.pld_base.specs.Points.{Levels}
-use Rattle.pld_base.proofs.BitLemmas.{is_on-zero, length-bits}
-use Rattle.pld_device.specs.Macrocells.{complement_if}
-use Rattle.bit_expr.specs.declared.netlist.Function.{Function}
-use Rattle.bit_expr.specs.declared.netlist.Netlist.{Netlist}
+use Rattle.fitter.proofs.Common.{cases_lt, get_or_append_left, length-append, get_or-append_seam, bits, is_on, Levels, is_on-zero, length-bits, complement_if, Function, Netlist, arena, Const, formula_value, arena_count, function_of_node, node_formula, HasValues}
 use Rattle.bit_expr.specs.declared.node.Node.{Node}
-use Rattle.bit_expr.specs.Arena.{arena}
-use Rattle.bit_expr.specs.Formulas.{Const, formula_value}
-use Rattle.bit_expr.proofs.ArenaLists.{arena_count}
-use Rattle.sop_lowering.specs.Written.{function_of_node, node_formula}
-use Rattle.fitter.specs.Evaluating.{HasValues}
 
 -- what stands for a function past the last one
 abbrev pub no_function : Function

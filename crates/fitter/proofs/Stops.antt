@@ -1,27 +1,7 @@
 -- Faults that are handed on: what they say of the whole.
 use Rattle.std.proofs.Common.{◌≡◌, ℕ, ◌≤◌, true, List, length, slice_get, Option, Result, Err, sym, ap, ◌∙◌, subst, arith, inl, inr}
-use Rattle.std.specs.Option.{option_to_list}
-use Rattle.pld_device.specs.Laws.{IsDevice}
-use Rattle.pld_device.specs.Table.{Table}
-use Rattle.bit_expr.specs.declared.netlist.Netlist.{Netlist}
-use Rattle.bit_expr.specs.declared.node.ExprId.{ExprId}
-use Rattle.abel_meaning.specs.Netlists.{plain_netlist}
-use Rattle.abel_meaning.specs.SoundIds.{IsSoundNetlist}
-use Rattle.covers.specs.declared.cube.Cube.{Cube}
-use Rattle.fitter.specs.Plans.{IsTurnMask, PlansControl, PlansRows}
-use Rattle.fit_plans.specs.Covered.{control_function}
-use Rattle.fitter.specs.declared.shared.SharedControl.{SharedControl}
-use Rattle.fitter.specs.declared.shared.SharedControl.TheVariants.{Preset, Reset}
-use Rattle.fitter.specs.Sharing.{IsSharedBit}
-use Rattle.fitter.specs.declared.cell_covering.CellCovers.{CellCovers}
-use Rattle.fitter.specs.Width.{NoneWide}
-use Rattle.fitter.specs.declared.fault.FitFault.{FitFault}
+use Rattle.fitter.proofs.Common.{option_to_list, IsDevice, Table, Netlist, ExprId, plain_netlist, IsSoundNetlist, Cube, IsTurnMask, PlansControl, PlansRows, control_function, SharedControl, Preset, Reset, IsSharedBit, CellCovers, NoneWide, FitFault, SharedRows, FitAnswers, AreCovered, CoversBelow, ArePlanned, AreSharedRows, AreSingle, HasSharedRow, IsRowOf, IsSharedBitOf, SingleBelow, DifferIn}
 use Rattle.fitter.specs.declared.fault.FitFault.TheVariants.{EnableTooWide, NotShared, OutOfMemory, PresetTooWide, ResetTooWide, TooManyProducts, TooWide}
-use Rattle.fitter.specs.declared.shared_rows.SharedRows.{SharedRows}
-use Rattle.fitter.specs.Answers.{FitAnswers}
-use Rattle.fitter.specs.Covered.{AreCovered, CoversBelow}
-use Rattle.fitter.specs.Planned.{ArePlanned, AreSharedRows, AreSingle, HasSharedRow, IsRowOf, IsSharedBitOf, SingleBelow}
-use Rattle.fitter.specs.Products.{DifferIn}
 use Rattle.fitter.proofs.Answering.{first_sum, shared_product, too_many}
 use Rattle.fitter.proofs.Controls.{first_of_one}
 use Rattle.fitter.proofs.CoversInTurn.{none_wide}

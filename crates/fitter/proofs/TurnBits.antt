@@ -1,18 +1,7 @@
 -- Which pairs carry complements, bit by bit.
 use Rattle.std.proofs.Common.{◌≡◌, ℕ, ◌<◌, ◌≤◌, ◌^◌, length, get_or, slice_get, Some, sym, ap, ◌∙◌, arith}
-use Rattle.std.specs.Option.{option_map}
-use Rattle.std.proofs.lemmas.Option.{get_or_from_slice_get}
-use Rattle.pld_base.specs.Bits.{bits}
-use Rattle.pld_base.proofs.BitLemmas.{is_on-bits}
-use Rattle.pld_device.specs.declared.carry.Carry.{Carry}
+use Rattle.fitter.proofs.Common.{option_map, get_or_from_slice_get, bits, is_on-bits, Carry, IsDevice, Table, cell_at, Netlist, arena, PlainNetlist, plain_netlist, plain_wanted, netlist_stores, registers_as, IsTurnMask, carries_complement, cell_wanted}
 use Rattle.pld_device.specs.declared.carry.Carry.TheVariants as carry
-use Rattle.pld_device.specs.Laws.{IsDevice}
-use Rattle.pld_device.specs.Table.{Table, cell_at}
-use Rattle.bit_expr.specs.declared.netlist.Netlist.{Netlist}
-use Rattle.bit_expr.specs.Arena.{arena}
-use Rattle.abel_meaning.specs.Netlists.{PlainNetlist, plain_netlist, plain_wanted}
-use Rattle.abel_meaning.specs.NetlistLogic.{netlist_stores, registers_as}
-use Rattle.fitter.specs.Plans.{IsTurnMask, carries_complement, cell_wanted}
 use Rattle.fitter.proofs.WantedIds.{wanted_is}
 use Rattle.fitter.proofs.Stepping.{LevelsBelow}
 

@@ -1,15 +1,6 @@
 -- Covers over the columns under the mask of all registers are, turned, covers under the mask of the chosen forms.
 use Rattle.std.proofs.Common.{◌≡◌, ℕ, zero, suc, ◌+◌, ◌%◌, ◌<◌, ◌≤◌, ◌^◌, not, ◌==◌, if◌then◌else◌, List, Option, None, Some, refl, ap, ◌∙◌, arith}
-use Rattle.std.specs.Int.{bit_at}
-use Rattle.std.specs.Int.Bits.{bit_xor}
-use Rattle.std.specs.Option.{option_map, option_to_list}
-use Rattle.std.proofs.lemmas.List.{length-map}
-use Rattle.std.proofs.lemmas.Nat.{xor_lt}
-use Rattle.std.proofs.lemmas.Nat.Bits.{bit_at-lt, bit_at_xor}
-use Rattle.covers.specs.declared.cube.Cube.{Cube}
-use Rattle.sop_lowering.specs.Products.{Products}
-use Rattle.fit_plans.specs.Columns.{all_turned, turned}
-use Rattle.fit_plans.specs.Covering.{IsCoverBetween}
+use Rattle.fitter.proofs.Common.{bit_at, bit_xor, option_map, option_to_list, length-map, xor_lt, bit_at-lt, bit_at_xor, Cube, Products, all_turned, turned, IsCoverBetween}
 use Rattle.fit_plans.specs.TurnedCovers.{IsExchangedMask}
 use Rattle.fit_plans.proofs.TurnedRows.{turned_again}
 

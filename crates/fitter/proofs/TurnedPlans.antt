@@ -1,31 +1,8 @@
 -- The plan of all rows, once they are turned and put in order.
 use Rattle.std.proofs.Common.{◌≡◌, ℕ, ◌<◌, ◌≤◌, ◌^◌, Bool, true, false, not, ◌&&◌, if◌then◌else◌, List, [], ◌∷◌, ◌++◌, length, get_or, slice_get, Option, None, Some, refl, sym, ap, ap₂, ◌∙◌, subst, arith, inl, inr}
-use Rattle.std.specs.Int.Bits.{bit_xor}
-use Rattle.std.specs.Option.{option_map, option_to_list}
-use Rattle.std.proofs.lemmas.Bool.{cases_Bool, cases_lt}
-use Rattle.std.proofs.lemmas.List.{length-append, length-map}
-use Rattle.std.proofs.lemmas.List.Sorted.{length_permutation}
-use Rattle.std.proofs.lemmas.Nat.{xor_lt}
-use Rattle.std.proofs.lemmas.Option.{same_Some, slice_get-get_or, slice_get_within}
-use Rattle.std.proofs.Math.Seq.{get_or-append_seam}
-use Rattle.pld_device.specs.declared.carry.Carry.{Carry}
+use Rattle.fitter.proofs.Common.{bit_xor, option_map, option_to_list, cases_Bool, cases_lt, length-append, length-map, length_permutation, xor_lt, same_Some, slice_get-get_or, slice_get_within, get_or-append_seam, Carry, IsDevice, Table, cell_at, CellWanted, Netlist, get_kept, plain_netlist, netlist_stores, registers_as, IsSoundNetlist, Cube, all_turned, turned, IsChosenMask, IsTurnMask, PlansAs, PlansCell, PlansRows, carries_chosen, carries_complement, enable_bit, is_chosen, control_function, CellForm, CellPlan, AreTurned, IsChoiceMask, IsTurnedCell, carries_choice}
 use Rattle.pld_device.specs.declared.carry.Carry.TheVariants as carry
-use Rattle.pld_device.specs.Laws.{IsDevice}
-use Rattle.pld_device.specs.Table.{Table, cell_at}
-use Rattle.bit_expr.specs.declared.netlist.CellWanted.{CellWanted}
-use Rattle.bit_expr.specs.declared.netlist.Netlist.{Netlist}
-use Rattle.bit_expr.proofs.ArenaLists.{get_kept}
-use Rattle.abel_meaning.specs.Netlists.{plain_netlist}
-use Rattle.abel_meaning.specs.NetlistLogic.{netlist_stores, registers_as}
-use Rattle.abel_meaning.specs.SoundIds.{IsSoundNetlist}
-use Rattle.covers.specs.declared.cube.Cube.{Cube}
-use Rattle.fit_plans.specs.Columns.{all_turned, turned}
-use Rattle.fitter.specs.Plans.{IsChosenMask, IsTurnMask, PlansAs, PlansCell, PlansRows, carries_chosen, carries_complement, enable_bit, is_chosen}
 use Rattle.fitter.proofs.PlansFit.{may_choose}
-use Rattle.fit_plans.specs.Covered.{control_function}
-use Rattle.fit_plans.specs.declared.control_fuses.CellForm.{CellForm}
-use Rattle.fit_plans.specs.declared.plan.CellPlan.{CellPlan}
-use Rattle.fitter.specs.Turning.{AreTurned, IsChoiceMask, IsTurnedCell, carries_choice}
 use Rattle.fitter.proofs.RisenCovers.{risen_cover}
 use Rattle.fitter.proofs.TurnedCovers.{both_masks, one_turned, turned_cover}
 

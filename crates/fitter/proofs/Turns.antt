@@ -1,29 +1,11 @@
 -- Nodes that are valued turn by turn: after as many turns as there are nodes all are.
 use Rattle.std.proofs.Common.{◌≡◌, ℕ, ◌+◌, ◌<◌, ◌≤◌, Bool, true, false, List, length, map, refl, sym, ap, ◌∙◌, subst, arith, inl, inr}
-use Rattle.std.proofs.lemmas.Bool.{cases_lt, lt-ltb}
-use Rattle.pld_base.specs.declared.point.Point.{Point}
-use Rattle.pld_base.specs.Bits.{bits, is_on}
-use Rattle.pld_base.specs.Points.{IsPoint, Levels, levels_of}
-use Rattle.pld_base.proofs.BitLemmas.{is_on-zero, length-bits, same_levels}
-use Rattle.pld_device.specs.Macrocells.{complement_if}
-use Rattle.pld_device.specs.Table.{Table}
+use Rattle.fitter.proofs.Common.{cases_lt, lt-ltb, Point, bits, is_on, IsPoint, Levels, levels_of, is_on-zero, length-bits, same_levels, complement_if, Table, Ranked, Netlist, Leaf, formula_value, leaf_value, names, plain_netlist, IsSoundNetlist, IsReadable, IsSoundFormula, IsValuedFor, IsValuedOfFor, value_same, is_valued_of, valued, valued_past, function_of_node, node_formula, AreNext, CanEvaluate}
 use Rattle.pld_machine.proofs.OneRest.{levels_equal}
-use Rattle.pld_order.proofs.Ranks.{Ranked}
-use Rattle.bit_expr.specs.declared.netlist.Netlist.{Netlist}
-use Rattle.bit_expr.specs.declared.node.Leaf.{Leaf}
 use Rattle.bit_expr.specs.declared.node.Leaf.TheVariants as leaf
-use Rattle.bit_expr.specs.Formulas.{formula_value, leaf_value, names}
-use Rattle.abel_meaning.specs.Netlists.{plain_netlist}
-use Rattle.abel_meaning.specs.SoundIds.{IsSoundNetlist}
-use Rattle.abel_meaning.specs.Soundness.{IsReadable, IsSoundFormula}
-use Rattle.netlist_laws.specs.RowCovers.{IsValuedFor, IsValuedOfFor}
-use Rattle.netlist_laws.proofs.FormulaLeaves.{value_same}
-use Rattle.netlist_laws.proofs.Valuing.{is_valued_of, valued, valued_past}
-use Rattle.sop_lowering.specs.Written.{function_of_node, node_formula}
 use Rattle.fitter.proofs.CarriedPoints.{nodes_valued}
 use Rattle.fitter.proofs.NodeRanks.{node_names_node, node_ranks, signal_ranks}
 use Rattle.fitter.proofs.Reached.{node_is, nodes_count, one_sound}
-use Rattle.fitter.specs.Evaluating.{AreNext, CanEvaluate}
 
 pub can_evaluate : (t : Table) (net : Netlist) → IsSoundNetlist t net → CanEvaluate net
 can_evaluate t net sound = record { ids = sound.nodes; few = subst (λ n. n ≤ 128) (nodes_count net) sound.sound.few_nodes }

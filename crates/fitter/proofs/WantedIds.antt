@@ -1,26 +1,8 @@
 -- What is asked of a cell over the arena, and over formulas.
 use Rattle.std.proofs.Common.{◌≡◌, ℕ, ◌<◌, Bool, true, false, ◌==◌, List, [], ◌∷◌, length, map, get_or, Option, Some, None, refl, sym, ap, ◌∙◌, subst, arith, inl, inr}
 use Rattle.std.specs.Prelude.{All, find, unwrap_or}
-use Rattle.std.specs.Option.{option_map}
-use Rattle.std.proofs.lemmas.Bool.{cases_Bool, eqb-true, true≢false}
-use Rattle.std.proofs.lemmas.List.Elements.{All-head, All-tail}
-use Rattle.std.proofs.lemmas.Option.{same_Some}
-use Rattle.pld_device.specs.Table.{Table}
-use Rattle.bit_expr.specs.declared.netlist.CellWanted.{CellWanted}
-use Rattle.bit_expr.specs.declared.netlist.Control.{Control}
-use Rattle.bit_expr.specs.declared.netlist.Netlist.{Netlist}
-use Rattle.bit_expr.specs.declared.node.ExprId.{ExprId}
-use Rattle.bit_expr.specs.Arena.{arena, constants, formula_at}
-use Rattle.bit_expr.specs.Formulas.{Const, Formula}
-use Rattle.bit_expr.proofs.ArenaLists.{arena_count, first_formula}
-use Rattle.abel_meaning.specs.Netlists.{Wanted, plain_control, plain_netlist, plain_wanted, shared_function, wanted_at}
-use Rattle.abel_meaning.specs.NetlistLogic.{enable_of}
-use Rattle.abel_meaning.specs.SoundIds.{IsCellIn, IsControlIn, IsSoundNetlist}
-use Rattle.abel_meaning.specs.Soundness.{IsSoundCell, IsSoundFormula, IsSoundShared}
+use Rattle.fitter.proofs.Common.{option_map, cases_Bool, eqb-true, true≢false, All-head, All-tail, same_Some, Table, CellWanted, Control, Netlist, ExprId, arena, constants, formula_at, Const, Formula, arena_count, first_formula, Wanted, plain_control, plain_netlist, plain_wanted, shared_function, wanted_at, enable_of, IsCellIn, IsControlIn, IsSoundNetlist, IsSoundCell, IsSoundFormula, IsSoundShared, IsSoundAt, sound_at, IsSoundId, bit_or, cell_wanted, enable_bit}
 use Rattle.netlist_laws.proofs.SharedFunctions.{shared_has}
-use Rattle.netlist_laws.proofs.WantedCells.{IsSoundAt, sound_at}
-use Rattle.fitter.specs.Coverable.{IsSoundId}
-use Rattle.fitter.specs.Plans.{bit_or, cell_wanted, enable_bit}
 
 -- the search over formulas finds what that over the arena finds
 found_map : (fs : List Formula) (ws : List CellWanted) (c : ℕ)

@@ -1,18 +1,9 @@
 -- The order in which cells that are too wide are told.
 use Rattle.std.proofs.Common.{◌≡◌, ℕ, ◌+◌, true, false, None, Some, length, refl, sym, ap, ◌∙◌, subst, arith, inl, inr}
-use Rattle.std.proofs.lemmas.Bool.{cases_lt, true≢false}
-use Rattle.std.proofs.lemmas.Bool.Decides.{nat_tests}
-use Rattle.std.proofs.lemmas.Option.{none-some, same_Some}
+use Rattle.fitter.proofs.Common.{cases_lt, true≢false, nat_tests, none-some, same_Some, Table, CellWanted, Netlist, IsSoundNetlist, cell_wanted, IsFirstBelow, IsFirstNumber, IsFirstWide, IsTooWide, width_order}
 use Rattle.abel_tree.specs.FirstRefusal.{is_before, sooner}
 use Rattle.abel_tree.proofs.FirstRefusals.{before_trans}
-use Rattle.pld_device.specs.Table.{Table}
-use Rattle.bit_expr.specs.declared.netlist.CellWanted.{CellWanted}
-use Rattle.bit_expr.specs.declared.netlist.Netlist.{Netlist}
-use Rattle.abel_meaning.specs.SoundIds.{IsSoundNetlist}
-use Rattle.fitter.specs.Plans.{cell_wanted}
 use Rattle.fitter.proofs.WantedIds.{sound_id_at}
-use Rattle.fitter.specs.CellCovered.{IsFirstBelow, IsFirstNumber}
-use Rattle.fitter.specs.Width.{IsFirstWide, IsTooWide, width_order}
 use Rattle.fitter.proofs.Widths.{cell_low}
 
 pub before_by : (v w : CellWanted) → is_before width_order v w ≡ sooner v.place.line v.place.column v.cell w.place.line w.place.column w.cell

@@ -1,35 +1,9 @@
 -- Cells whose functions or controls have no written lists, and cells that have their covers.
 use Rattle.std.proofs.Common.{◌≡◌, ◌⊎◌, ℕ, ◌<◌, ◌≤◌, Bool, true, false, List, length, get_or, slice_get, Option, Some, None, Result, Err, refl, sym, ap, ◌∙◌, subst, arith, inl, inr}
-use Rattle.std.specs.Global.{Vec}
-use Rattle.std.proofs.lemmas.Bool.{cases_Bool}
-use Rattle.std.proofs.lemmas.Option.{get_or_from_slice_get}
-use Rattle.pld_device.specs.declared.cell.Cell.{Cell}
-use Rattle.pld_device.specs.declared.flip.Flip.{Flip}
-use Rattle.pld_device.specs.Laws.{IsDevice}
-use Rattle.pld_device.specs.Table.{Table, cell_at, no_cell}
-use Rattle.bit_expr.specs.declared.netlist.CellWanted.{CellWanted}
-use Rattle.bit_expr.specs.declared.netlist.Control.{Control}
-use Rattle.bit_expr.specs.declared.netlist.Function.{Function}
-use Rattle.bit_expr.specs.declared.netlist.Netlist.{Netlist}
-use Rattle.bit_expr.specs.declared.node.ExprId.{ExprId}
-use Rattle.abel_meaning.specs.SoundIds.{IsSoundNetlist}
-use Rattle.covers.specs.declared.cube.Cube.{Cube}
-use Rattle.sop_lowering.specs.declared.fault.LowerFault.{LowerFault}
+use Rattle.fitter.proofs.Common.{Vec, cases_Bool, get_or_from_slice_get, Cell, Flip, IsDevice, Table, cell_at, no_cell, CellWanted, Control, Function, Netlist, ExprId, IsSoundNetlist, Cube, LowerFault, Fails, Products, bit_list, Tried, FitsRoom, IsSoundId, PlansRows, cell_wanted, enable_bit, CanCover, HasNoLists, IsCoverOf, IsListedAs, IsTriedAs, IsTriedCell, control_function, may_be_inverted_as, rows_are_positive, CellCovers, CanCoverCell, HasChecked, HasCheckedAs, HasCovers, HasCoversAs, HasRows, IsChecked, IsCheckedAt, IsCovered, IsCoveredAt, IsListed, HasNoWeight, IsControlTooWide, IsFunctionTooWide, IsTooWide}
 use Rattle.sop_lowering.specs.declared.fault.LowerFault.TheVariants as lower
-use Rattle.sop_lowering.specs.Lowering.{Fails}
-use Rattle.sop_lowering.specs.Products.{Products}
-use Rattle.sop_lowering.specs.Written.{bit_list}
-use Rattle.fit_plans.specs.declared.choosing.Tried.{Tried}
-use Rattle.fit_plans.specs.Choices.{FitsRoom}
-use Rattle.fitter.specs.Coverable.{IsSoundId}
-use Rattle.fitter.specs.Plans.{PlansRows, cell_wanted, enable_bit}
 use Rattle.fitter.proofs.Coverable.{sound_cover}
 use Rattle.fitter.proofs.WantedIds.{enable_id, function_ids, preset_id, reset_id, sound_id_at, zero_sound}
-use Rattle.fit_plans.specs.Covered.{CanCover, HasNoLists, IsCoverOf, IsListedAs, IsTriedAs, IsTriedCell, control_function}
-use Rattle.fit_plans.specs.Forms.{may_be_inverted_as, rows_are_positive}
-use Rattle.fitter.specs.declared.cell_covering.CellCovers.{CellCovers}
-use Rattle.fitter.specs.CellCovered.{CanCoverCell, HasChecked, HasCheckedAs, HasCovers, HasCoversAs, HasRows, IsChecked, IsCheckedAt, IsCovered, IsCoveredAt, IsListed}
-use Rattle.fitter.specs.Width.{HasNoWeight, IsControlTooWide, IsFunctionTooWide, IsTooWide}
 use Rattle.fitter.proofs.ControlLists.{no_list}
 
 pub can_cover_cell : (t : Table) (net : Netlist) → IsSoundNetlist t net → (c : ℕ) (w : CellWanted) → cell_wanted net c ≡ Some w → CanCoverCell t net w

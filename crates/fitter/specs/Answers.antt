@@ -1,15 +1,9 @@
 -- What fitting a netlist answers, and when: the first refusal of these, in this order (this project's rule).
 use Rattle.std.specs.Prelude.{◌≡◌, ℕ, ◌<◌, Some, length, Result, Ok, Err}
-use Rattle.pld_device.specs.Table.{Table}
-use Rattle.bit_expr.specs.declared.netlist.CellWanted.{CellWanted}
-use Rattle.bit_expr.specs.declared.netlist.Netlist.{Netlist}
-use Rattle.abel_meaning.specs.Netlists.{plain_netlist}
-use Rattle.netlist_laws.specs.ExchangedNets.{netlist_shown}
-use Rattle.netlist_laws.specs.Fitting.{AreShared, IsFitted}
+use Rattle.fitter.specs.Prelude.{Table, CellWanted, Netlist, plain_netlist, netlist_shown, AreShared, IsFitted, Tried}
 use Rattle.fitter.specs.Plans.{IsTurnMask, cell_wanted}
 use Rattle.fitter.specs.declared.shared.SharedControl.TheVariants.{Preset, Reset}
 use Rattle.fitter.specs.Sharing.{own_formula}
-use Rattle.fit_plans.specs.declared.choosing.Tried.{Tried}
 use Rattle.fitter.specs.Width.{IsFirstWide, NoneWide}
 use Rattle.fitter.specs.declared.fault.FitFault.{FitFault}
 use Rattle.fitter.specs.declared.fault.FitFault.TheVariants.{EnableTooWide, NotShared, OutOfMemory, PresetTooWide, ResetTooWide, TooManyProducts, TooWide}

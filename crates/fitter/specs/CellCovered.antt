@@ -1,19 +1,10 @@
 -- The covers of a netlist's cell and controls, and cells that are too wide (this project's rule).
 use Rattle.std.specs.Prelude.{◌≡◌, ℕ, ◌<◌, true, Option, Some, None, length, Result, Ok, Err}
-use Rattle.std.specs.Global.{Vec}
-use Rattle.pld_device.specs.Table.{Table, cell_at}
-use Rattle.abel_tree.specs.FirstRefusal.{is_before}
-use Rattle.bit_expr.specs.declared.netlist.CellWanted.{CellWanted}
-use Rattle.bit_expr.specs.declared.netlist.Control.{Control}
-use Rattle.bit_expr.specs.declared.netlist.Netlist.{Netlist}
-use Rattle.bit_expr.specs.declared.node.ExprId.{ExprId}
-use Rattle.covers.specs.declared.cube.Cube.{Cube}
+use Rattle.fitter.specs.Prelude.{Vec, Table, cell_at, is_before, CellWanted, Control, Netlist, ExprId, Cube, bit_list, IsTriedCell, control_function}
 use Rattle.sop_lowering.specs.declared.fault.LowerFault.{LowerFault}
 use Rattle.sop_lowering.specs.declared.fault.LowerFault.TheVariants as lower
-use Rattle.sop_lowering.specs.Written.{bit_list}
 use Rattle.fitter.specs.Coverable.{IsSoundId}
 use Rattle.fitter.specs.Plans.{PlansRows, cell_wanted, enable_bit}
-use Rattle.fit_plans.specs.Covered.{IsTriedCell, control_function}
 use Rattle.fitter.specs.declared.cell_covering.CellCovers.{CellCovers}
 use Rattle.fitter.specs.Width.{IsControlTooWide, IsFunctionTooWide, IsTooWide, width_order}
 

@@ -1,15 +1,7 @@
 -- When a function over a sound netlist can be covered (this project's rule).
 use Rattle.std.specs.Prelude.{ℕ, ◌<◌, length}
-use Rattle.pld_device.specs.Laws.{IsDevice}
-use Rattle.pld_device.specs.Table.{Table}
-use Rattle.bit_expr.specs.declared.netlist.Function.{Function}
-use Rattle.bit_expr.specs.declared.netlist.Netlist.{Netlist}
-use Rattle.bit_expr.specs.declared.node.ExprId.{ExprId}
-use Rattle.bit_expr.specs.Arena.{arena, formula_at}
-use Rattle.abel_meaning.specs.Netlists.{plain_netlist}
-use Rattle.abel_meaning.specs.SoundIds.{IsSoundNetlist}
+use Rattle.fitter.specs.Prelude.{IsDevice, Table, Function, Netlist, ExprId, arena, formula_at, plain_netlist, IsSoundNetlist, CanCover}
 use Rattle.abel_meaning.specs.Soundness.{IsSoundFormula}
-use Rattle.fit_plans.specs.Covered.{CanCover}
 
 -- the id lies in the arena, and its formula names only what the device can read
 pub record IsSoundId (t : Table) (net : Netlist) (id : ExprId) : Type 0 where

@@ -1,8 +1,6 @@
 -- Private: the covers of all cells of a netlist (this project's rule).
 use Rattle.std.specs.Prelude.{◌≡◌, ℕ, ◌<◌, Option, None, List, length, get_or, Result, Ok, Err}
-use Rattle.std.specs.Global.{Vec}
-use Rattle.pld_device.specs.Table.{Table}
-use Rattle.bit_expr.specs.declared.netlist.Netlist.{Netlist}
+use Rattle.fitter.specs.Prelude.{Vec, Table, Netlist}
 use Rattle.fitter.specs.Plans.{cell_wanted}
 use Rattle.fitter.specs.declared.cell_covering.CellCovers.{CellCovers}
 use Rattle.fitter.specs.CellCovered.{HasCheckedAs, HasCoversAs}

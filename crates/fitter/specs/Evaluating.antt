@@ -1,16 +1,7 @@
 -- The point at which pairs have given levels, its nodes valued with any as 0 (this project's rule).
 use Rattle.std.specs.Prelude.{◌≡◌, ℕ, ◌<◌, ◌≤◌, Bool, false, List, length, get_or, All}
-use Rattle.pld_base.specs.declared.point.Point.{Point}
-use Rattle.pld_base.specs.Bits.{bits, is_on}
-use Rattle.pld_base.specs.Points.{Levels, levels_of}
-use Rattle.pld_device.specs.Macrocells.{complement_if}
-use Rattle.bit_expr.specs.declared.netlist.Netlist.{Netlist}
-use Rattle.bit_expr.specs.declared.node.ExprId.{ExprId}
+use Rattle.fitter.specs.Prelude.{Point, bits, is_on, Levels, levels_of, complement_if, Netlist, ExprId, arena, Const, formula_value, IsFunctionIn, function_of_node, node_formula}
 use Rattle.bit_expr.specs.declared.node.Node.{Node}
-use Rattle.bit_expr.specs.Arena.{arena}
-use Rattle.bit_expr.specs.Formulas.{Const, formula_value}
-use Rattle.abel_meaning.specs.SoundIds.{IsFunctionIn}
-use Rattle.sop_lowering.specs.Written.{function_of_node, node_formula}
 
 -- the values are those of the arena's formulas, from the first one on
 abbrev pub HasValues : List Node → Levels → List Bool → Type 0

@@ -1,12 +1,6 @@
 -- Private: fuses that were burned for the rows of all cells (this project's rule).
 use Rattle.std.specs.Prelude.{ℕ, List, length}
-use Rattle.std.specs.Option.{option_map}
-use Rattle.pld_device.specs.Table.{Table}
-use Rattle.bit_expr.specs.declared.netlist.Netlist.{Netlist}
-use Rattle.fit_plans.specs.Columns.{turned}
-use Rattle.fit_plans.specs.declared.plan.CellPlan.{CellPlan}
-use Rattle.fit_plans.specs.declared.plan.Plan.{Plan}
-use Rattle.fit_plans.specs.Controls.{IsBurned}
+use Rattle.fitter.specs.Prelude.{option_map, Table, Netlist, turned, CellPlan, Plan, IsBurned}
 use Rattle.fitter.specs.declared.answer.Fitted.{Fitted}
 use Rattle.fitter.specs.declared.planning.AllRows.{AllRows}
 use Rattle.fitter.specs.declared.shared_rows.SharedRows.{SharedRows}

@@ -8,6 +8,7 @@ pub mod Missing
 pub mod Order
 pub mod Planned
 pub mod Plans
+pub mod Prelude
 pub mod Products
 pub mod Rooms
 pub mod Rows

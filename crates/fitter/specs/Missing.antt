@@ -1,9 +1,6 @@
 -- Points at which two covers differ. A number says a point: bit v is the level of variable v (this project's rule).
 use Rattle.std.specs.Prelude.{◌≡◌, ◌≢◌, ℕ, ◌<◌, ◌^◌, true, false, List, Option, None, Some}
-use Rattle.pld_base.specs.Bits.{bits}
-use Rattle.covers.specs.declared.cube.Cube.{Cube}
-use Rattle.covers.specs.Cubes.{covers}
-use Rattle.covers.specs.Covers.{CoversList}
+use Rattle.fitter.specs.Prelude.{bits, Cube, covers, CoversList}
 
 -- the point is in the first cover and not in the second
 pub record IsMissed (rows cover : List Cube) (vars point : ℕ) : Type 0 where

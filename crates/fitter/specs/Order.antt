@@ -1,9 +1,6 @@
 -- The order in which the data rows of a cell are written (this project's rule).
 use Rattle.std.specs.Prelude.{◌≡◌, ℕ, zero, suc, ◌+◌, ◌*◌, ◌<◌, ◌≤◌, Bool, true, false, if◌then◌else◌, List}
-use Rattle.pld_base.specs.Bits.{is_on}
-use Rattle.pld_device.specs.Rows.{row_fuses}
-use Rattle.pld_device.specs.Table.{Table, cell_at}
-use Rattle.netlist_laws.specs.RowCovers.{is_used}
+use Rattle.fitter.specs.Prelude.{is_on, row_fuses, Table, cell_at, is_used}
 
 -- the first fuses of a row, read as a binary number: rows that rise as text rise by it
 unfoldable pub fuse_number : (columns : ℕ) → List Bool → ℕ

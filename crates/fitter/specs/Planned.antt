@@ -1,20 +1,7 @@
 -- Private: the rows and forms of cells, as they are chosen from their covers (this project's rule).
 use Rattle.std.specs.Prelude.{◌≡◌, ◌⊎◌, ℕ, ◌<◌, ◌≤◌, true, false, Option, Some, None, List, [], length, get_or, slice_get, All, AllPairs, Result, Ok, Err}
-use Rattle.std.specs.Global.{Vec}
-use Rattle.pld_device.specs.Macrocells.{pin_complements}
-use Rattle.pld_device.specs.Table.{Table, cell_at}
-use Rattle.bit_expr.specs.declared.netlist.CellWanted.{CellWanted}
-use Rattle.bit_expr.specs.declared.netlist.Netlist.{Netlist}
-use Rattle.bit_expr.specs.declared.node.ExprId.{ExprId}
-use Rattle.covers.specs.declared.cube.Cube.{Cube}
-use Rattle.fit_plans.specs.declared.choosing.Tried.{Tried}
-use Rattle.fit_plans.specs.Choices.{FitsRoom}
+use Rattle.fitter.specs.Prelude.{Vec, pin_complements, Table, cell_at, CellWanted, Netlist, ExprId, Cube, Tried, FitsRoom, CellForm, CellPlan, form_at, AreShared, plain_netlist}
 use Rattle.fitter.specs.Plans.{PlansControl, cell_wanted}
-use Rattle.fit_plans.specs.declared.control_fuses.CellForm.{CellForm}
-use Rattle.fit_plans.specs.declared.plan.CellPlan.{CellPlan}
-use Rattle.fit_plans.specs.Controls.{form_at}
-use Rattle.netlist_laws.specs.Fitting.{AreShared}
-use Rattle.abel_meaning.specs.Netlists.{plain_netlist}
 use Rattle.fitter.specs.declared.shared.SharedControl.{SharedControl}
 use Rattle.fitter.specs.declared.shared.SharedControl.TheVariants.{Preset, Reset}
 use Rattle.fitter.specs.Sharing.{AreNotShared, IsSharedBit, own_formula}

@@ -1,37 +1,9 @@
 -- What a plan of a device's rows owes a netlist: the covers of its functions, in forms that its cells may have (this
 -- project's rule).
 use Rattle.std.specs.Prelude.{◌≡◌, ℕ, ◌<◌, ◌≤◌, ◌^◌, ◌==◌, Bool, true, false, not, ◌&&◌, Option, None, Some, List, [], find, get_or, length, slice_get}
-use Rattle.std.specs.Int.{bit_at}
-use Rattle.std.specs.Option.{option_to_list}
-use Rattle.pld_base.specs.Points.{Levels}
-use Rattle.pld_device.specs.declared.carry.Carry.{Carry}
+use Rattle.fitter.specs.Prelude.{bit_at, option_to_list, Levels, Carry, IsDevice, pair_values, Table, cell_at, CellWanted, Control, Function, Netlist, ExprId, arena, formula_at, Formula, PlainNetlist, Wanted, plain_netlist, shared_function, netlist_stores, IsSoundNetlist, netlist_exchanged, netlist_shown, Cube, covers, allowed_of, needed_of, control_function, may_be_inverted_as, rows_are_positive, CellForm, CellPlan, Plan, IsBurned, form_at, IsValuedFor, AreShared, IsFitted}
 use Rattle.pld_device.specs.declared.carry.Carry.TheVariants as carry
-use Rattle.pld_device.specs.Laws.{IsDevice}
-use Rattle.pld_device.specs.Rows.{pair_values}
-use Rattle.pld_device.specs.Table.{Table, cell_at}
-use Rattle.bit_expr.specs.declared.netlist.CellWanted.{CellWanted}
-use Rattle.bit_expr.specs.declared.netlist.Control.{Control}
-use Rattle.bit_expr.specs.declared.netlist.Function.{Function}
-use Rattle.bit_expr.specs.declared.netlist.Netlist.{Netlist}
-use Rattle.bit_expr.specs.declared.node.ExprId.{ExprId}
-use Rattle.bit_expr.specs.Arena.{arena, formula_at}
-use Rattle.bit_expr.specs.Formulas.{Formula}
-use Rattle.abel_meaning.specs.Netlists.{PlainNetlist, Wanted, plain_netlist, shared_function}
-use Rattle.abel_meaning.specs.NetlistLogic.{netlist_stores}
-use Rattle.abel_meaning.specs.SoundIds.{IsSoundNetlist}
-use Rattle.netlist_laws.specs.ExchangedNets.{netlist_exchanged, netlist_shown}
-use Rattle.covers.specs.declared.cube.Cube.{Cube}
-use Rattle.covers.specs.Cubes.{covers}
 use Rattle.fit_plans.specs.Covering.{IsCoverBetween}
-use Rattle.fit_plans.specs.Tries.{allowed_of, needed_of}
-use Rattle.fit_plans.specs.Covered.{control_function}
-use Rattle.fit_plans.specs.Forms.{may_be_inverted_as, rows_are_positive}
-use Rattle.fit_plans.specs.declared.control_fuses.CellForm.{CellForm}
-use Rattle.fit_plans.specs.declared.plan.CellPlan.{CellPlan}
-use Rattle.fit_plans.specs.declared.plan.Plan.{Plan}
-use Rattle.fit_plans.specs.Controls.{IsBurned, form_at}
-use Rattle.netlist_laws.specs.RowCovers.{IsValuedFor}
-use Rattle.netlist_laws.specs.Fitting.{AreShared, IsFitted}
 
 -- ---- what the columns carry
 

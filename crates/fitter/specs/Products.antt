@@ -1,20 +1,10 @@
 -- Controls that one product makes, or none (sum-of-products form; that a control has one row is the devices').
 use Rattle.std.specs.Prelude.{◌≡◌, ℕ, ◌<◌, true, Bool, Option, Some, List, length}
-use Rattle.std.specs.Option.{option_to_list}
-use Rattle.pld_base.specs.declared.point.Point.{Point}
-use Rattle.pld_device.specs.Table.{Table}
-use Rattle.abel_meaning.specs.Netlists.{plain_netlist}
-use Rattle.bit_expr.specs.declared.netlist.CellWanted.{CellWanted}
-use Rattle.bit_expr.specs.declared.netlist.Netlist.{Netlist}
-use Rattle.bit_expr.specs.declared.node.ExprId.{ExprId}
-use Rattle.covers.specs.declared.cube.Cube.{Cube}
-use Rattle.covers.specs.Cubes.{covers}
-use Rattle.sop_lowering.specs.Written.{bit_list}
+use Rattle.fitter.specs.Prelude.{option_to_list, Point, Table, plain_netlist, CellWanted, Netlist, ExprId, Cube, covers, bit_list, AreShared}
 use Rattle.fitter.specs.Plans.{cell_wanted, enable_bit}
 use Rattle.fitter.specs.declared.shared.SharedControl.{SharedControl}
 use Rattle.fitter.specs.declared.shared.SharedControl.TheVariants.{Preset, Reset}
 use Rattle.fitter.specs.Sharing.{AreNotShared, IsSharedBit, own_formula}
-use Rattle.netlist_laws.specs.Fitting.{AreShared}
 
 -- the written products have the points of one product, or none
 abbrev pub IsOneProduct : (vars : ℕ) → List Cube → Type 0

@@ -1,23 +1,9 @@
 -- The data rows of cells, and the order in which they are written (this project's rule).
 use Rattle.std.specs.Prelude.{◌≡◌, ◌≢◌, ◌⊎◌, ℕ, zero, suc, ◌+◌, ◌*◌, ◌<◌, ◌≤◌, Bool, true, false, if◌then◌else◌, Option, Some, List, length, slice_get, All, AllPairs}
-use Rattle.std.specs.Global.{Vec}
-use Rattle.std.specs.List.Sorted.{IsNonDecreasingBy}
+use Rattle.fitter.specs.Prelude.{Vec, IsNonDecreasingBy, pin_complements, is_inverted, Table, cell_at, CellWanted, Netlist, Cube, Tried, FitsRoom, allowed_of, needed_of, plain_netlist, IsTriedAs, IsTriedCell, may_be_inverted_as, rows_are_positive, HoldsCubes, fuse_at}
 use Rattle.pld_device.specs.declared.flip.Flip.TheVariants.{Always}
-use Rattle.pld_device.specs.Macrocells.{pin_complements}
-use Rattle.pld_device.specs.Registers.{is_inverted}
-use Rattle.pld_device.specs.Table.{Table, cell_at}
-use Rattle.bit_expr.specs.declared.netlist.CellWanted.{CellWanted}
-use Rattle.bit_expr.specs.declared.netlist.Netlist.{Netlist}
-use Rattle.covers.specs.declared.cube.Cube.{Cube}
-use Rattle.fit_plans.specs.declared.choosing.Tried.{Tried}
-use Rattle.fit_plans.specs.Choices.{FitsRoom}
-use Rattle.fit_plans.specs.Tries.{allowed_of, needed_of}
 use Rattle.sop_lowering.specs.Products.{Products}
-use Rattle.abel_meaning.specs.Netlists.{plain_netlist}
 use Rattle.fitter.specs.Plans.{IsTurnMask, cell_wanted}
-use Rattle.fit_plans.specs.Covered.{IsTriedAs, IsTriedCell}
-use Rattle.fit_plans.specs.Forms.{may_be_inverted_as, rows_are_positive}
-use Rattle.fit_plans.specs.RowCubes.{HoldsCubes, fuse_at}
 use Rattle.fitter.specs.declared.answer.FittedCell.{FittedCell}
 
 -- the first fuses of the cube's row, read as a binary number: rows that rise as text rise by it

@@ -1,21 +1,6 @@
 -- The resets, or presets, of a device's registers: one for all, or two that differ (this project's rule).
 use Rattle.std.specs.Prelude.{◌≡◌, ◌≢◌, ℕ, ◌<◌, ◌≤◌, nat_lt, Bool, true, ◌&&◌, if◌then◌else◌, List, Option, Some, None, is_some, Result, Ok, Err, length}
-use Rattle.std.specs.Option.{option_map}
-use Rattle.pld_base.specs.declared.point.Point.{Point}
-use Rattle.pld_base.specs.Points.{Levels, levels_of}
-use Rattle.pld_device.specs.Table.{Table}
-use Rattle.bit_expr.specs.declared.netlist.CellWanted.{CellWanted}
-use Rattle.bit_expr.specs.declared.netlist.Control.{Control}
-use Rattle.bit_expr.specs.declared.netlist.Netlist.{Netlist}
-use Rattle.bit_expr.specs.declared.node.ExprId.{ExprId}
-use Rattle.bit_expr.specs.Arena.{arena, formula_at}
-use Rattle.bit_expr.specs.Formulas.{Formula, formula_value}
-use Rattle.abel_meaning.specs.Netlists.{PlainNetlist, Wanted, first_with, plain_netlist, plain_wanted, shared_function, wanted_at}
-use Rattle.covers.specs.declared.cube.Cube.{Cube}
-use Rattle.covers.specs.Covers.{CoversList}
-use Rattle.netlist_laws.specs.RowCovers.{IsValuedFor}
-use Rattle.netlist_laws.specs.Fitting.{AreShared}
-use Rattle.sop_lowering.specs.Written.{bit_list}
+use Rattle.fitter.specs.Prelude.{option_map, Point, Levels, levels_of, Table, CellWanted, Control, Netlist, ExprId, arena, formula_at, Formula, formula_value, PlainNetlist, Wanted, first_with, plain_netlist, plain_wanted, shared_function, wanted_at, Cube, CoversList, IsValuedFor, AreShared, bit_list}
 use Rattle.fitter.specs.Coverable.{IsSoundId}
 use Rattle.fitter.specs.Plans.{cell_wanted}
 use Rattle.fitter.specs.Missing.{IsApart}

@@ -1,16 +1,8 @@
 -- Private: the rows of all cells over what the columns carry once the forms are chosen (this project's rule).
 use Rattle.std.specs.Prelude.{◌≡◌, ℕ, ◌<◌, ◌^◌, ◌==◌, Bool, false, Some, List, get_or, length, slice_get}
-use Rattle.std.specs.Int.{bit_at}
-use Rattle.std.specs.List.Sorted.{IsPermutation}
-use Rattle.std.specs.Option.{option_map}
-use Rattle.pld_device.specs.declared.carry.Carry.{Carry}
+use Rattle.fitter.specs.Prelude.{bit_at, IsPermutation, option_map, Carry, Table, Netlist, all_turned, turned, CellForm, CellPlan}
 use Rattle.pld_device.specs.declared.carry.Carry.TheVariants as carry
-use Rattle.pld_device.specs.Table.{Table}
-use Rattle.bit_expr.specs.declared.netlist.Netlist.{Netlist}
-use Rattle.fit_plans.specs.Columns.{all_turned, turned}
 use Rattle.fitter.specs.Plans.{is_chosen}
-use Rattle.fit_plans.specs.declared.control_fuses.CellForm.{CellForm}
-use Rattle.fit_plans.specs.declared.plan.CellPlan.{CellPlan}
 use Rattle.fitter.specs.Rows.{Rises}
 
 -- a pair carries a cell that stores the complement in these forms

@@ -1,15 +1,7 @@
 -- Functions and controls whose written lists would pass 1,024 products (this project's rule).
 use Rattle.std.specs.Prelude.{◌≡◌, ◌⊎◌, ℕ, Bool, true, Option, Some, None}
-use Rattle.abel_tree.specs.FirstRefusal.{Ranks, is_before}
-use Rattle.pld_device.specs.Table.{Table}
-use Rattle.bit_expr.specs.declared.netlist.CellWanted.{CellWanted}
-use Rattle.bit_expr.specs.declared.netlist.Control.{Control}
-use Rattle.bit_expr.specs.declared.netlist.Function.{Function}
-use Rattle.bit_expr.specs.declared.netlist.Netlist.{Netlist}
-use Rattle.sop_lowering.specs.Written.{bit_list}
-use Rattle.fit_plans.specs.Tries.{allowed_of, needed_of}
+use Rattle.fitter.specs.Prelude.{Ranks, is_before, Table, CellWanted, Control, Function, Netlist, bit_list, allowed_of, needed_of, may_be_inverted_as, rows_are_positive}
 use Rattle.fitter.specs.Plans.{cell_wanted, enable_bit}
-use Rattle.fit_plans.specs.Forms.{may_be_inverted_as, rows_are_positive}
 
 -- a list on the way to one of the two lists of a function passes the limit: the function has no weight there
 abbrev pub HasNoWeight : Netlist → Function → (positive : Bool) → Type 0

@@ -1,7 +1,7 @@
 //! Points at which two covers differ.
 
 ghost use Rattle.std.specs.Prelude.{◌≡◌, ◌+◌, ◌-◌, ◌*◌, ◌≤◌, length};
-ghost use Rattle.covers.specs.Cubes.{AllAskBelow};
+ghost use Rattle.fitter.specs.Prelude.{AllAskBelow};
 ghost use Rattle.covers.specs.Pool.{cubes_in};
 ghost use Rattle.fitter.specs.Missing.{FindsApart, FindsMissed};
 

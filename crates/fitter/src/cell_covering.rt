@@ -1,8 +1,7 @@
 //! The covers of a cell and of its enable.
 
 ghost use Rattle.std.specs.Prelude.{◌≡◌, ◌≤◌, None, Ok, Some, false, true};
-ghost use Rattle.bit_expr.specs.declared.netlist.Control.{Control};
-ghost use Rattle.abel_meaning.specs.SoundIds.{IsSoundNetlist};
+ghost use Rattle.fitter.specs.Prelude.{Control, IsSoundNetlist};
 ghost use Rattle.fitter.specs.Coverable.{IsSoundId};
 ghost use Rattle.fitter.specs.Plans.{enable_bit};
 ghost use Rattle.fitter.specs.CellCovered.{CanCoverCell, HasRows, IsChecked, IsCheckedAt, IsCovered, IsCoveredAt, IsListed};

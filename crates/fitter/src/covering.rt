@@ -1,9 +1,8 @@
 //! The covers of the assigned cells and of their enables.
 
 ghost use Rattle.std.specs.Prelude.{◌≡◌, ◌⊎◌, ◌<◌, ◌≤◌, Ok, false, length, true};
-ghost use Rattle.abel_meaning.specs.SoundIds.{IsSoundNetlist};
+ghost use Rattle.fitter.specs.Prelude.{IsSoundNetlist, FitsRoom};
 ghost use Rattle.fitter.specs.CellCovered.{IsCheckedAt, IsCoveredAt};
-ghost use Rattle.fit_plans.specs.Choices.{FitsRoom};
 ghost use Rattle.fitter.specs.Covered.{AreCovered};
 ghost use Rattle.fitter.specs.Planned.{OneFitsAt};
 

@@ -1,14 +1,7 @@
 //! The point at which pairs have given levels, its nodes valued with any as 0.
 
 ghost use Rattle.std.specs.Prelude.{◌≡◌, ◌<◌, IfOk, false, get_or, length};
-ghost use Rattle.pld_base.specs.Bits.{bits, is_on};
-ghost use Rattle.pld_base.specs.Points.{levels_of};
-ghost use Rattle.pld_device.specs.Macrocells.{complement_if};
-ghost use Rattle.bit_expr.specs.Arena.{arena, formula_at};
-ghost use Rattle.bit_expr.specs.Formulas.{formula_value};
-ghost use Rattle.netlist_laws.specs.RowCovers.{IsValuedFor};
-ghost use Rattle.abel_meaning.specs.Netlists.{plain_netlist};
-ghost use Rattle.abel_meaning.specs.SoundIds.{IsSoundNetlist};
+ghost use Rattle.fitter.specs.Prelude.{bits, is_on, levels_of, complement_if, arena, formula_at, formula_value, IsValuedFor, plain_netlist, IsSoundNetlist};
 ghost use Rattle.fitter.specs.Evaluating.{AreNext, AreWired, CanEvaluate, HasValues, IsLastOf, IsWired};
 
 use bit_expr::{ExprId, Exprs, Function, Netlist, Node};

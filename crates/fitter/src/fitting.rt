@@ -1,11 +1,8 @@
 //! The whole fit: covers, shared controls, rows, fuses.
 
 ghost use Rattle.std.specs.Prelude.{◌≡◌, ◌+◌, ◌<◌, IfOk, length};
+ghost use Rattle.fitter.specs.Prelude.{device_logic, pin_complements, plain_netlist, IsSoundNetlist, logic_shown, values_shown};
 ghost use Rattle.pld_machine.specs.Comparison.{DoesTheSame};
-ghost use Rattle.pld_device.specs.Macrocells.{device_logic, pin_complements};
-ghost use Rattle.abel_meaning.specs.Netlists.{plain_netlist};
-ghost use Rattle.abel_meaning.specs.SoundIds.{IsSoundNetlist};
-ghost use Rattle.netlist_laws.specs.ExchangedNets.{logic_shown, values_shown};
 ghost use Rattle.fitter.specs.Answers.{FitAnswers};
 ghost use Rattle.fitter.specs.Fitting.{IsBurnedPlan};
 ghost use Rattle.fitter.specs.Planned.{EntriesBelow};

@@ -2,9 +2,7 @@
 
 ghost use Rattle.std.specs.Prelude.{◌≡◌, ◌<◌, false, get_or, length};
 ghost use Rattle.pld_device.specs.declared.carry.Carry.TheVariants as carry;
-ghost use Rattle.pld_device.specs.Registers.{stores_by};
-ghost use Rattle.abel_meaning.specs.Netlists.{plain_netlist};
-ghost use Rattle.abel_meaning.specs.NetlistLogic.{netlist_stores};
+ghost use Rattle.fitter.specs.Prelude.{stores_by, plain_netlist, netlist_stores};
 ghost use Rattle.fitter.specs.Plans.{IsTurnMask, carries_complement};
 
 use crate::shared::{cell_wanted, pair_count};

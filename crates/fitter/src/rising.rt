@@ -1,8 +1,7 @@
 //! Rows in rising order of their fuses as text.
 
 ghost use Rattle.std.specs.Prelude.{◌≡◌, ◌<◌, ◌≤◌, if◌then◌else◌};
-ghost use Rattle.std.specs.List.Sorted.{IsPermutation};
-ghost use Rattle.fit_plans.specs.RowCubes.{fuse_at};
+ghost use Rattle.fitter.specs.Prelude.{IsPermutation, fuse_at};
 ghost use Rattle.fitter.specs.Rows.{Rises, row_number};
 
 use covers::Cube;

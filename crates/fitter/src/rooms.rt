@@ -1,9 +1,8 @@
 //! The cells that are over their room, all of them.
 
 ghost use Rattle.std.specs.Prelude.{◌≡◌, ℕ, ◌<◌, ◌≤◌, IfOk, IfSome, length};
+ghost use Rattle.fitter.specs.Prelude.{IsSoundNetlist, FitsRoom};
 ghost use Rattle.std.specs.List.{All};
-ghost use Rattle.abel_meaning.specs.SoundIds.{IsSoundNetlist};
-ghost use Rattle.fit_plans.specs.Choices.{FitsRoom};
 ghost use Rattle.fitter.specs.Rooms.{IsOver};
 
 use crate::cell_covering::CellCovers;

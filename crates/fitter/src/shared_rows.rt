@@ -1,9 +1,8 @@
 //! The rows of the reset and the preset that all registers share.
 
 ghost use Rattle.std.specs.Prelude.{◌≡◌, ◌≤◌, None, true};
-ghost use Rattle.abel_meaning.specs.SoundIds.{IsSoundNetlist};
+ghost use Rattle.fitter.specs.Prelude.{IsSoundNetlist, bit_list};
 ghost use Rattle.fitter.specs.Coverable.{IsSoundId};
-ghost use Rattle.sop_lowering.specs.Written.{bit_list};
 ghost use Rattle.fitter.specs.Width.{NoneWide};
 ghost use Rattle.fitter.specs.Planned.{AreSharedRows, IsRowOf, IsSharedBitOf, no_product};
 ghost use Rattle.fitter.specs.Sharing.{AllListed};

@@ -1,8 +1,7 @@
 //! The reset, or the preset, that all registers share.
 
 ghost use Rattle.std.specs.Prelude.{◌≡◌, ◌≤◌, Contains, IfOk, IfSome, None, true, length};
-ghost use Rattle.abel_meaning.specs.SoundIds.{IsSoundNetlist};
-ghost use Rattle.sop_lowering.specs.Written.{bit_list};
+ghost use Rattle.fitter.specs.Prelude.{IsSoundNetlist, bit_list};
 ghost use Rattle.fitter.specs.Coverable.{IsSoundId};
 ghost use Rattle.fitter.specs.Sharing.{AllListed, FindsApartAt, IsFirstOf, IsFirstWith, IsListedBit, Shares, better_of};
 

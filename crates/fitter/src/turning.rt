@@ -4,11 +4,9 @@
 //! all forms are, each row that reads a free register which is inverted asks its pair of columns for the other level.
 
 ghost use Rattle.std.specs.Prelude.{◌≡◌, ◌<◌, IfOk, get_or, length};
-ghost use Rattle.std.specs.Option.{option_map};
+ghost use Rattle.fitter.specs.Prelude.{option_map, turned, form_at};
 ghost use Rattle.pld_device.specs.declared.carry.Carry.TheVariants as carry;
-ghost use Rattle.fit_plans.specs.Columns.{turned};
 ghost use Rattle.fitter.specs.Plans.{is_chosen};
-ghost use Rattle.fit_plans.specs.Controls.{form_at};
 ghost use Rattle.fitter.specs.Turning.{AreTurned, IsChoiceMask, IsTurnedCell, carries_choice};
 
 use crate::rising::risen;

@@ -1,8 +1,7 @@
 //! Which of the cells that are too wide is told.
 
 ghost use Rattle.std.specs.Prelude.{◌≡◌, ◌+◌, ◌≤◌, IfOk, Ok, false, true};
-ghost use Rattle.abel_tree.specs.FirstRefusal.{is_before};
-ghost use Rattle.abel_meaning.specs.SoundIds.{IsSoundNetlist};
+ghost use Rattle.fitter.specs.Prelude.{is_before, IsSoundNetlist};
 ghost use Rattle.fitter.specs.CellCovered.{CanCoverCell, IsFirstBelow, IsFirstNumber};
 ghost use Rattle.fitter.specs.Width.{IsFirstWide, IsTooWide, width_order};
 

@@ -1,5 +1,5 @@
 use Rattle.std.proofs.Common.{get_or, slice_range, refl, ap, ◌∙◌}
-use Rattle.covers.specs.Cubes.{full_cube}
+use Rattle.fitter.proofs.Common.{full_cube}
 use Rattle.covers.specs.Pool.{Pool}
 use Rattle.fitter.proofs.MissedPoints.{all_covered, missed_at, none_covered, one_covered}
 use Rattle.fitter.proofs.apart.missed_in.Goals as goal

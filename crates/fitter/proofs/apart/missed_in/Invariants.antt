@@ -1,6 +1,6 @@
 -- The rows so far lie in the cover.
 use Rattle.std.proofs.Common.{◌≡◌, take, slice_range}
-use Rattle.covers.specs.Covers.{CoversList}
+use Rattle.fitter.proofs.Common.{CoversList}
 use Rattle.fitter.proofs.apart.missed_in.Given as goal
 
 abbrev pub invariant-loop-row : goal.invariant-loop-row

@@ -1,9 +1,6 @@
 use Rattle.std.proofs.Common.{◌≡◌, ◌+◌, length, subst, arith, List, slice_range}
-use Rattle.std.proofs.lemmas.List.{length-append}
-use Rattle.covers.specs.declared.cube.Cube.{Cube}
-use Rattle.covers.specs.Cubes.{AllAskBelow}
+use Rattle.fitter.proofs.Common.{length-append, Cube, AllAskBelow, FindsMissed}
 use Rattle.covers.proofs.CofactorLists.{appended}
-use Rattle.fitter.specs.Missing.{FindsMissed}
 use Rattle.fitter.proofs.apart.point_missed.Goals as goal
 
 pub missed_in-found-requires-clause-below : goal.missed_in-found-requires-clause-below

@@ -1,5 +1,5 @@
 use Rattle.std.proofs.Common.{sym, ◌∙◌}
-use Rattle.std.proofs.lemmas.Result.{err_from_is_err_and}
+use Rattle.fitter.proofs.Common.{err_from_is_err_and}
 use Rattle.fitter.proofs.Widths.{can_cover_cell, check_fails, check_none, check_some}
 use Rattle.fitter.proofs.cell_covering.check_at.Goals as goal
 

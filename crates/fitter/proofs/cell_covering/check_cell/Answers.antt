@@ -1,10 +1,5 @@
 use Rattle.std.proofs.Common.{true, length, Bool, Err, Ok, ap, refl, sym, subst}
-use Rattle.std.proofs.lemmas.Result.{err_from_is_err_and}
-use Rattle.bit_expr.specs.declared.node.ExprId.{ExprId}
-use Rattle.fitter.specs.Coverable.{IsSoundId}
-use Rattle.fitter.specs.Plans.{PlansRows}
-use Rattle.fit_plans.specs.Covered.{control_function}
-use Rattle.fitter.specs.CellCovered.{HasRows}
+use Rattle.fitter.proofs.Common.{err_from_is_err_and, ExprId, IsSoundId, PlansRows, control_function, HasRows}
 use Rattle.fitter.proofs.Widths.{checked_handed, enable_fails, preset_fails, reset_fails}
 use Rattle.fitter.proofs.cell_covering.check_cell.Goals as goal
 

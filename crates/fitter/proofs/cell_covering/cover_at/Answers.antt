@@ -1,5 +1,5 @@
 use Rattle.std.proofs.Common.{sym, ◌∙◌}
-use Rattle.std.proofs.lemmas.Result.{err_from_is_err_and}
+use Rattle.fitter.proofs.Common.{err_from_is_err_and}
 use Rattle.fitter.proofs.Widths.{at_fails, at_none, at_some, can_cover_cell}
 use Rattle.fitter.proofs.cell_covering.cover_at.Goals as goal
 

@@ -1,11 +1,5 @@
 use Rattle.std.proofs.Common.{true, length, Err, inl, refl, sym, ◌∙◌, subst}
-use Rattle.std.proofs.lemmas.Result.{err_from_is_err_and}
-use Rattle.bit_expr.specs.declared.node.ExprId.{ExprId}
-use Rattle.pld_device.specs.Table.{cell_at}
-use Rattle.fitter.specs.Coverable.{IsSoundId}
-use Rattle.fitter.specs.Plans.{PlansRows}
-use Rattle.fit_plans.specs.Covered.{control_function}
-use Rattle.fitter.specs.CellCovered.{HasRows}
+use Rattle.fitter.proofs.Common.{err_from_is_err_and, ExprId, cell_at, IsSoundId, PlansRows, control_function, HasRows}
 use Rattle.fitter.proofs.Widths.{can_cover, cell_handed, enable_fails, function_wide, own_room, pairs_few, preset_fails, reset_fails, tried_over}
 use Rattle.fitter.proofs.cell_covering.cover_cell.Goals as goal
 

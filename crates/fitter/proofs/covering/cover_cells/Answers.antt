@@ -1,7 +1,5 @@
 use Rattle.std.proofs.Common.{◌+◌, List, inl, inr, refl, subst, sym, ◌∙◌, arith, Option}
-use Rattle.std.proofs.lemmas.Bool.{cases_Bool}
-use Rattle.fitter.specs.declared.cell_covering.CellCovers.{CellCovers}
-use Rattle.fitter.specs.Covered.{CoversBelow}
+use Rattle.fitter.proofs.Common.{cases_Bool, CellCovers, CoversBelow}
 use Rattle.fitter.proofs.CoversInTurn.{IsRefused, below_more, below_none, first_number, none_refused, refused_more}
 use Rattle.fitter.proofs.covering.cover_cells.Goals as goal
 

@@ -1,6 +1,6 @@
 -- The cells so far have their covers, or one of them is refused.
 use Rattle.std.proofs.Common.{◌≡◌}
-use Rattle.fitter.specs.Covered.{CoversBelow}
+use Rattle.fitter.proofs.Common.{CoversBelow}
 use Rattle.fitter.proofs.CoversInTurn.{IsRefused}
 use Rattle.fitter.proofs.covering.cover_cells.Given as goal
 

@@ -1,5 +1,5 @@
 use Rattle.std.proofs.Common.{arith}
-use Rattle.bit_expr.proofs.ArenaLists.{arena_count}
+use Rattle.fitter.proofs.Common.{arena_count}
 use Rattle.fitter.proofs.evaluating.last_of.Goals as goal
 
 pub loop-function-init : goal.loop-function-init

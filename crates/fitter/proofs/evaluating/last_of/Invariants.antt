@@ -1,7 +1,6 @@
 -- No function so far has a later id.
 use Rattle.std.proofs.Common.{◌≡◌, ◌<◌, ◌≤◌, ℕ, length}
-use Rattle.bit_expr.specs.Arena.{arena}
-use Rattle.sop_lowering.specs.Written.{function_of_node}
+use Rattle.fitter.proofs.Common.{arena, function_of_node}
 use Rattle.fitter.proofs.evaluating.last_of.Given as goal
 
 abbrev pub invariant-loop-function : goal.invariant-loop-function

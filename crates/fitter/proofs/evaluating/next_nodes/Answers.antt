@@ -1,8 +1,5 @@
 use Rattle.std.proofs.Common.{◌<◌, length, ap, subst, sym, List, arith}
-use Rattle.bit_expr.specs.declared.netlist.Function.{Function}
-use Rattle.pld_base.specs.Bits.{bits}
-use Rattle.pld_base.specs.Points.{levels_of}
-use Rattle.pld_base.proofs.BitLemmas.{length-bits}
+use Rattle.fitter.proofs.Common.{Function, bits, levels_of, length-bits}
 use Rattle.fitter.proofs.Stepping.{levels_more, next_value, no_levels}
 use Rattle.fitter.proofs.evaluating.next_nodes.Goals as goal
 

@@ -1,10 +1,6 @@
 -- The nodes so far have their next values, and the others 0.
 use Rattle.std.proofs.Common.{ℕ}
-use Rattle.pld_base.specs.Bits.{bits}
-use Rattle.pld_base.specs.Points.{levels_of}
-use Rattle.pld_device.specs.Macrocells.{complement_if}
-use Rattle.bit_expr.specs.Formulas.{formula_value}
-use Rattle.sop_lowering.specs.Written.{function_of_node, node_formula}
+use Rattle.fitter.proofs.Common.{bits, levels_of, complement_if, formula_value, function_of_node, node_formula}
 use Rattle.fitter.proofs.Stepping.{LevelsBelow}
 use Rattle.fitter.proofs.evaluating.next_nodes.Given as goal
 

@@ -1,6 +1,5 @@
 use Rattle.std.proofs.Common.{refl, ap, ◌∙◌, length, List, arith}
-use Rattle.pld_base.specs.Bits.{bits, is_on}
-use Rattle.bit_expr.specs.declared.netlist.Function.{Function}
+use Rattle.fitter.proofs.Common.{bits, is_on, Function}
 use Rattle.fitter.proofs.Turns.{can_evaluate, first_turn, last_turn, next_turn}
 use Rattle.fitter.proofs.evaluating.valued_point.Goals as goal
 

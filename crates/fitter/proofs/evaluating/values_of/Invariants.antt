@@ -1,7 +1,6 @@
 -- The values so far.
 use Rattle.std.proofs.Common.{◌≡◌, length}
-use Rattle.pld_base.specs.Points.{levels_of}
-use Rattle.fitter.specs.Evaluating.{HasValues}
+use Rattle.fitter.proofs.Common.{levels_of, HasValues}
 use Rattle.fitter.proofs.evaluating.values_of.Given as goal
 
 abbrev pub invariant-loop-id : goal.invariant-loop-id

@@ -1,6 +1,6 @@
 -- The places so far have their levels.
 use Rattle.std.proofs.Common.{◌≡◌, ◌<◌, ℕ, get_or}
-use Rattle.pld_base.specs.Bits.{bits, is_on}
+use Rattle.fitter.proofs.Common.{bits, is_on}
 use Rattle.fitter.proofs.evaluating.wired.Given as goal
 
 abbrev pub invariant-loop-place : goal.invariant-loop-place

@@ -1,8 +1,5 @@
 use Rattle.std.proofs.Common.{rules, ◌≡◌, length, refl, sym, ◌∙◌, subst}
-use Rattle.std.proofs.lemmas.Option.{slice_get_read}
-use Rattle.pld_device.specs.declared.flip.Flip.{Flip}
-use Rattle.pld_device.specs.Macrocells.{pin_complements}
-use Rattle.fit_plans.specs.Controls.{form_at}
+use Rattle.fitter.proofs.Common.{slice_get_read, Flip, pin_complements, form_at}
 use Rattle.fitter.proofs.Entries.{entry_more, entry_skipped}
 use Rattle.fitter.proofs.fitting.add_entry.Goals as goal
 

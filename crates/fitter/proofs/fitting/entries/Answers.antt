@@ -1,5 +1,5 @@
 use Rattle.std.proofs.Common.{subst, arith}
-use Rattle.fitter.specs.Planned.{EntriesBelow}
+use Rattle.fitter.proofs.Common.{EntriesBelow}
 use Rattle.fitter.proofs.Entries.{no_entries}
 use Rattle.fitter.proofs.fitting.entries.Goals as goal
 

@@ -1,5 +1,5 @@
 -- The cells so far have their entries.
-use Rattle.fitter.specs.Planned.{EntriesBelow}
+use Rattle.fitter.proofs.Common.{EntriesBelow}
 use Rattle.fitter.proofs.fitting.entries.Given as goal
 
 abbrev pub invariant-loop-cell : goal.invariant-loop-cell

@@ -1,9 +1,5 @@
 use Rattle.std.proofs.Common.{List, Option, Err, length, subst}
-use Rattle.std.proofs.lemmas.Result.{err_from_is_err_and}
-use Rattle.abel_meaning.specs.Netlists.{plain_netlist}
-use Rattle.fitter.specs.declared.cell_covering.CellCovers.{CellCovers}
-use Rattle.fitter.specs.Answers.{FitAnswers}
-use Rattle.fitter.specs.Planned.{AreSingle, SingleBelow}
+use Rattle.fitter.proofs.Common.{err_from_is_err_and, plain_netlist, CellCovers, FitAnswers, AreSingle, SingleBelow}
 use Rattle.fitter.proofs.Answering.{fit_of}
 use Rattle.fitter.proofs.Stops.{cover_stops, enable_stops, handed, plan_stops, shared_stops}
 use Rattle.fitter.proofs.CoversInTurn.{none_wide}

@@ -1,14 +1,6 @@
 use Rattle.std.proofs.Common.{false, sym, ap, ◌∙◌}
-use Rattle.std.specs.Option.{option_map}
+use Rattle.fitter.proofs.Common.{option_map, get_or_from_slice_get, Cell, stores_by, cell_at, no_cell, CellWanted, arena, plain_wanted, registers_as}
 use Rattle.std.specs.Prelude.{Option}
-use Rattle.std.proofs.lemmas.Option.{get_or_from_slice_get}
-use Rattle.pld_device.specs.declared.cell.Cell.{Cell}
-use Rattle.pld_device.specs.Registers.{stores_by}
-use Rattle.pld_device.specs.Table.{cell_at, no_cell}
-use Rattle.bit_expr.specs.declared.netlist.CellWanted.{CellWanted}
-use Rattle.bit_expr.specs.Arena.{arena}
-use Rattle.abel_meaning.specs.Netlists.{plain_wanted}
-use Rattle.abel_meaning.specs.NetlistLogic.{registers_as}
 use Rattle.fitter.proofs.TurnBits.{stores_is}
 use Rattle.fitter.proofs.masks.is_register.Goals as goal
 

@@ -1,8 +1,6 @@
 use Rattle.std.proofs.Common.{Some, sym, ap, ◌∙◌}
-use Rattle.pld_device.specs.declared.carry.Carry.{Carry}
+use Rattle.fitter.proofs.Common.{Carry, carry_in_range, plain_netlist}
 use Rattle.pld_device.specs.declared.carry.Carry.TheVariants as carry
-use Rattle.device_logic.proofs.Ranges.{carry_in_range}
-use Rattle.abel_meaning.specs.Netlists.{plain_netlist}
 use Rattle.fitter.proofs.TurnBits.{turned_is}
 use Rattle.fitter.proofs.masks.is_turned.Goals as goal
 

@@ -1,7 +1,5 @@
 use Rattle.std.proofs.Common.{arith}
-use Rattle.pld_base.specs.Bits.{bits}
-use Rattle.pld_base.proofs.BitLemmas.{length-bits}
-use Rattle.abel_meaning.specs.Netlists.{plain_netlist}
+use Rattle.fitter.proofs.Common.{bits, length-bits, plain_netlist}
 use Rattle.fitter.proofs.Stepping.{levels_more, no_levels}
 use Rattle.fitter.proofs.TurnBits.{is_mask}
 use Rattle.fitter.proofs.masks.turn_mask.Goals as goal

@@ -1,9 +1,7 @@
 -- The pairs so far have their bits.
 use Rattle.std.proofs.Common.{◌<◌, ◌^◌, get_or}
-use Rattle.pld_base.specs.Bits.{bits}
+use Rattle.fitter.proofs.Common.{bits, plain_netlist, carries_complement}
 use Rattle.pld_device.specs.declared.carry.Carry.TheVariants as carry
-use Rattle.abel_meaning.specs.Netlists.{plain_netlist}
-use Rattle.fitter.specs.Plans.{carries_complement}
 use Rattle.fitter.proofs.Stepping.{LevelsBelow}
 use Rattle.fitter.proofs.masks.turn_mask.Given as goal
 

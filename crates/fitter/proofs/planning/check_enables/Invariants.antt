@@ -1,5 +1,5 @@
 -- The enables so far have at most one row.
-use Rattle.fitter.specs.Planned.{SingleBelow}
+use Rattle.fitter.proofs.Common.{SingleBelow}
 use Rattle.fitter.proofs.planning.check_enables.Given as goal
 
 abbrev pub invariant-loop-cell : goal.invariant-loop-cell

@@ -1,8 +1,5 @@
 use Rattle.std.proofs.Common.{rules, ◌≤◌, length, refl, sym, subst}
-use Rattle.std.proofs.lemmas.Option.{get_or_from_slice_get}
-use Rattle.pld_device.specs.declared.cell.Cell.{Cell}
-use Rattle.pld_device.specs.Table.{no_cell}
-use Rattle.fit_plans.specs.Choices.{FitsRoom}
+use Rattle.fitter.proofs.Common.{get_or_from_slice_get, Cell, no_cell, FitsRoom}
 use Rattle.fitter.proofs.planning.chosen_rows.Goals as goal
 
 pub returns-in-Ok : goal.returns-in-Ok

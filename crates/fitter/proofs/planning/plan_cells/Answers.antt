@@ -1,7 +1,5 @@
 use Rattle.std.proofs.Common.{◌≡◌, Option, get_or, None, refl, ◌∙◌, subst, arith}
-use Rattle.std.proofs.lemmas.Result.{err_from_is_err_and}
-use Rattle.fitter.specs.declared.cell_covering.CellCovers.{CellCovers}
-use Rattle.fitter.specs.Planned.{ArePlanned, AreRowsOf, RowsBelow}
+use Rattle.fitter.proofs.Common.{err_from_is_err_and, CellCovers, ArePlanned, AreRowsOf, RowsBelow}
 use Rattle.fitter.proofs.CellPlans.{plans_stop, rows_more, rows_none}
 use Rattle.fitter.proofs.FittingCovers.{each_fits_below}
 use Rattle.fitter.proofs.Stops.{handed}

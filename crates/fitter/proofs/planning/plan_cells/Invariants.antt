@@ -1,6 +1,6 @@
 -- The cells so far have their rows, and the covers of the others are left.
 use Rattle.std.proofs.Common.{◌≡◌, ◌≤◌, ℕ, None, get_or, length}
-use Rattle.fitter.specs.Planned.{RowsBelow}
+use Rattle.fitter.proofs.Common.{RowsBelow}
 use Rattle.fitter.proofs.planning.plan_cells.Given as goal
 
 abbrev pub invariant-loop-cell : goal.invariant-loop-cell

@@ -1,6 +1,5 @@
 use Rattle.std.proofs.Common.{rules}
-use Rattle.std.proofs.lemmas.List.Sorted.{IsNonDecreasingBy-from_sort_by_key}
-use Rattle.fitter.specs.Rows.{row_number}
+use Rattle.fitter.proofs.Common.{IsNonDecreasingBy-from_sort_by_key, row_number}
 use Rattle.fitter.proofs.rising.risen.Goals as goal
 
 pub returns-clause-rise : goal.returns-clause-rise

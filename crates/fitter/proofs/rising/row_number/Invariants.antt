@@ -1,6 +1,6 @@
 -- The number of the columns so far.
 use Rattle.std.proofs.Common.{◌≡◌, ◌<◌, ◌^◌}
-use Rattle.fitter.specs.Rows.{row_number}
+use Rattle.fitter.proofs.Common.{row_number}
 use Rattle.fitter.proofs.rising.row_number.Given as goal
 
 abbrev pub invariant-loop-column : goal.invariant-loop-column

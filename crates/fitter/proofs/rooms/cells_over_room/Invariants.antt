@@ -1,6 +1,6 @@
 -- All covers are there, and each cell that is told is over its room.
 use Rattle.std.proofs.Common.{◌≡◌, length}
-use Rattle.std.specs.List.{All}
+use Rattle.fitter.proofs.Common.{All}
 use Rattle.fitter.specs.Rooms.{IsOver}
 use Rattle.fitter.proofs.rooms.cells_over_room.Given as goal
 

@@ -1,6 +1,6 @@
 -- Where neither cover fits the room, the smaller one is over it.
 use Rattle.std.proofs.Common.{◌<◌, arith, subst}
-use Rattle.fit_plans.specs.Choices.{FitsRoom}
+use Rattle.fitter.proofs.Common.{FitsRoom}
 use Rattle.fitter.proofs.rooms.overfull_at.Goals as goal
 
 pub returns : goal.returns

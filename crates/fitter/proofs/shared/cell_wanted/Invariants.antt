@@ -1,7 +1,7 @@
 -- None of the cells so far is the one.
 use Rattle.std.proofs.Common.{◌≡◌, ◌==◌, drop}
 use Rattle.std.specs.Prelude.{find}
-use Rattle.bit_expr.specs.declared.netlist.CellWanted.{CellWanted}
+use Rattle.fitter.proofs.Common.{CellWanted}
 use Rattle.fitter.proofs.shared.cell_wanted.Given as goal
 
 abbrev pub invariant-loop-wanted : goal.invariant-loop-wanted

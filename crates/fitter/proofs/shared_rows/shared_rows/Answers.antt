@@ -1,6 +1,4 @@
-use Rattle.std.proofs.lemmas.Result.{err_from_is_err_and}
-use Rattle.fitter.specs.declared.shared.SharedControl.TheVariants.{Preset, Reset}
-use Rattle.fitter.specs.Planned.{AreSharedRows}
+use Rattle.fitter.proofs.Common.{err_from_is_err_and, Preset, Reset, AreSharedRows}
 use Rattle.fitter.proofs.Stops.{handed, preset_row_stops, preset_stops, reset_row_stops, reset_stops}
 use Rattle.fitter.proofs.CoversInTurn.{all_listed}
 use Rattle.fitter.proofs.shared_rows.shared_rows.Goals as goal

@@ -1,6 +1,5 @@
 use Rattle.std.proofs.Common.{List, length, ap, arith}
-use Rattle.bit_expr.specs.declared.netlist.CellWanted.{CellWanted}
-use Rattle.bit_expr.specs.Arena.{arena}
+use Rattle.fitter.proofs.Common.{CellWanted, arena}
 use Rattle.fitter.proofs.FirstNames.{better_among, so_far_all, so_far_more}
 use Rattle.fitter.proofs.sharing.first_with.Goals as goal
 

@@ -1,6 +1,6 @@
 -- The best so far, with the rest, gives the first of all, and is one of the cells.
 use Rattle.std.specs.Prelude.{Contains, IfSome}
-use Rattle.bit_expr.specs.Arena.{arena}
+use Rattle.fitter.proofs.Common.{arena}
 use Rattle.fitter.proofs.FirstNames.{IsFirstSoFar}
 use Rattle.fitter.proofs.sharing.first_with.Given as goal
 

@@ -1,5 +1,5 @@
 use Rattle.std.proofs.Common.{length, refl, sym, ◌∙◌, subst, arith}
-use Rattle.fitter.specs.Sharing.{FindsApartAt, IsListedBit}
+use Rattle.fitter.proofs.Common.{FindsApartAt, IsListedBit}
 use Rattle.fitter.proofs.Alike.{below_more, is_shared, not_shared}
 use Rattle.fitter.proofs.sharing.same_for_all.Goals as goal
 

@@ -1,7 +1,6 @@
 -- The cells so far share the function.
 use Rattle.std.proofs.Common.{◌≡◌}
-use Rattle.abel_meaning.specs.Netlists.{plain_netlist}
-use Rattle.fitter.specs.Sharing.{AreSharedBelow, own_formula}
+use Rattle.fitter.proofs.Common.{plain_netlist, AreSharedBelow, own_formula}
 use Rattle.fitter.proofs.sharing.same_for_all.Given as goal
 
 abbrev pub invariant-loop-cell : goal.invariant-loop-cell

@@ -1,9 +1,6 @@
 use Rattle.std.proofs.Common.{sym, ap, ◌∙◌}
 use Rattle.std.specs.Prelude.{is_some}
-use Rattle.std.specs.Option.{option_map}
-use Rattle.std.proofs.lemmas.Bool.{true≢false}
-use Rattle.bit_expr.specs.Arena.{arena}
-use Rattle.abel_meaning.specs.Netlists.{plain_wanted}
+use Rattle.fitter.proofs.Common.{option_map, true≢false, arena, plain_wanted}
 use Rattle.fitter.proofs.WantedIds.{zero_is, zero_sound}
 use Rattle.fitter.proofs.Alike.{first_of, none_shared, zero_list}
 use Rattle.fitter.proofs.FirstNames.{has_first}

@@ -1,6 +1,5 @@
 use Rattle.std.proofs.Common.{arith}
-use Rattle.pld_base.specs.Bits.{bits}
-use Rattle.pld_base.proofs.BitLemmas.{length-bits}
+use Rattle.fitter.proofs.Common.{bits, length-bits}
 use Rattle.fitter.proofs.Stepping.{levels_more, no_levels}
 use Rattle.fitter.proofs.ChoiceBits.{is_choice_mask}
 use Rattle.fitter.proofs.turning.choice_mask.Goals as goal

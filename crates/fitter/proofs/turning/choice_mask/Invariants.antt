@@ -1,9 +1,8 @@
 -- The pairs so far have their bits.
 use Rattle.std.proofs.Common.{◌<◌, ◌^◌, get_or}
-use Rattle.pld_base.specs.Bits.{bits}
+use Rattle.fitter.proofs.Common.{bits, carries_choice}
 use Rattle.pld_device.specs.declared.carry.Carry.TheVariants as carry
 use Rattle.fitter.proofs.Stepping.{LevelsBelow}
-use Rattle.fitter.specs.Turning.{carries_choice}
 use Rattle.fitter.proofs.turning.choice_mask.Given as goal
 
 abbrev pub invariant-loop-pair : goal.invariant-loop-pair

@@ -1,7 +1,5 @@
 use Rattle.std.proofs.Common.{sym, ap, subst, ◌++◌, ◌∷◌, [], ◌∙◌, take}
-use Rattle.std.proofs.lemmas.List.{take_more}
-use Rattle.fit_plans.specs.declared.plan.CellPlan.{CellPlan}
-use Rattle.fitter.specs.Turning.{AreTurned}
+use Rattle.fitter.proofs.Common.{take_more, CellPlan, AreTurned}
 use Rattle.fitter.proofs.TurnedPlans.{none_turned, turned_more}
 use Rattle.fitter.proofs.turning.turned_plans.Goals as goal
 

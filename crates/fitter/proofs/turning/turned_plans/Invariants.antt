@@ -1,6 +1,6 @@
 -- The plans so far are turned.
 use Rattle.std.proofs.Common.{take}
-use Rattle.fitter.specs.Turning.{AreTurned}
+use Rattle.fitter.proofs.Common.{AreTurned}
 use Rattle.fitter.proofs.turning.turned_plans.Given as goal
 
 abbrev pub invariant-loop-plan : goal.invariant-loop-plan

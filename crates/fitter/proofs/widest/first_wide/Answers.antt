@@ -1,5 +1,5 @@
 use Rattle.std.proofs.Common.{refl, sym, ◌∙◌, subst, arith}
-use Rattle.fitter.specs.CellCovered.{IsFirstBelow}
+use Rattle.fitter.proofs.Common.{IsFirstBelow}
 use Rattle.fitter.proofs.Widths.{cell_low}
 use Rattle.fitter.proofs.WidthOrder.{first_begins, first_ends}
 use Rattle.fitter.proofs.widest.first_wide.Goals as goal

@@ -1,6 +1,6 @@
 -- The first of the cells so far.
 use Rattle.std.proofs.Common.{◌≡◌}
-use Rattle.fitter.specs.CellCovered.{IsFirstBelow}
+use Rattle.fitter.proofs.Common.{IsFirstBelow}
 use Rattle.fitter.proofs.widest.first_wide.Given as goal
 
 abbrev pub invariant-loop-later : goal.invariant-loop-later
