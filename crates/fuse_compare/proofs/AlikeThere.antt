@@ -1,14 +1,6 @@
 -- Two logics that answer the same where the first rests are alike there.
 use Rattle.std.proofs.Common.{◌≡◌, ℕ, ◌<◌, ◌≤◌, Bool, List, refl, sym, ◌∙◌, subst, inl, inr, le-ltb, lt-ltb}
-use Rattle.std.proofs.lemmas.Bool.{cases_lt, true≢false}
-use Rattle.pld_base.specs.Points.{Levels}
-use Rattle.pld_machine.specs.Lookups.{Lookups, logic_of}
-use Rattle.pld_machine.specs.Rest.{AtRest, q_at_rest}
-use Rattle.pld_machine.specs.Settling.{q_at_edge}
-use Rattle.pld_machine.specs.Steps.{IsTheRest}
-use Rattle.fuse_compare.specs.Cut.{AnswerSame}
-use Rattle.fuse_compare.specs.OneState.{AlikeAt}
-use Rattle.fuse_compare.specs.Told.{IsTold, SameShape}
+use Rattle.fuse_compare.proofs.Common.{cases_lt, true≢false, Levels, Lookups, logic_of, AtRest, q_at_rest, q_at_edge, IsTheRest, AnswerSame, AlikeAt, IsTold, SameShape}
 
 module _ (a b : Lookups) (shape : SameShape a b) (ta : IsTold a) (tb : IsTold b) (o s : List Bool) (at : Levels) (is : IsTheRest (logic_of a) o s at)
     (same : AnswerSame a b at) where

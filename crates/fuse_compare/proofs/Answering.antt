@@ -1,8 +1,6 @@
 -- What the search answers, from its two clauses.
 use Rattle.std.proofs.Common.{◌≡◌, Option, None, Some, IfSome, refl}
-use Rattle.pld_base.specs.Logic.{Logic}
-use Rattle.fuse_compare.specs.Alike.{AreAlike, FindsDifference, IsDifference}
-use Rattle.fuse_compare.specs.declared.difference.Difference.{Difference}
+use Rattle.fuse_compare.proofs.Common.{Logic, AreAlike, FindsDifference, IsDifference, Difference}
 
 pub finds : (a b : Logic) (r : Option Difference) → (r ≡ None → AreAlike a b) → IfSome r (IsDifference a b) → FindsDifference a b r
 finds a b None alike differ = alike refl

@@ -1,15 +1,6 @@
 -- The next variable of a list has its level, and what is decided then.
 use Rattle.std.proofs.Common.{◌≡◌, ◌⊎◌, ℕ, zero, suc, ◌<◌, Bool, true, false, not, ◌||◌, List, [], ◌∷◌, drop, set, Some, slice_get, refl, ap, sym, subst, inl, inr}
-use Rattle.std.proofs.lemmas.Bool.{cases_Bool}
-use Rattle.pld_base.specs.Bits.{is_on, same_level}
-use Rattle.pld_machine.specs.Lookups.{Lookups}
-use Rattle.pld_machine.specs.Steps.{IsWide}
-use Rattle.device_logic.specs.RowMasks.{HoldsWith}
-use Rattle.device_logic.specs.declared.row_mask.RowMask.{RowMask}
-use Rattle.fuse_compare.specs.Cut.{AreFreePins, AreKeptQs, AreOnce, IsDecided}
-use Rattle.fuse_compare.specs.States.{Varies, VariesAt, has_q}
-use Rattle.fuse_compare.specs.declared.variable.Variable.{Variable}
-use Rattle.fuse_compare.specs.declared.variable.Variable.TheVariants.{Pin, Q}
+use Rattle.fuse_compare.proofs.Common.{cases_Bool, is_on, same_level, Lookups, IsWide, HoldsWith, RowMask, AreFreePins, AreKeptQs, AreOnce, IsDecided, Varies, VariesAt, has_q, Variable, Pin, Q}
 use Rattle.fuse_compare.proofs.Decided.{kept_decided, pin_decided, pin_passed, q_passed, zero_decided}
 
 -- ---- the list from one variable on

@@ -1,17 +1,6 @@
 -- Masks that are gathered until two devices answer the same where none of them holds.
 use Rattle.std.proofs.Common.{◌≡◌, ℕ, ◌+◌, ◌<◌, ◌≤◌, Bool, true, false, ◌||◌, List, [], ◌∷◌, ◌++◌, length, refl, ap, sym, ◌∙◌, subst, inl, inr, arith}
-use Rattle.std.proofs.lemmas.Bool.{cases_lt, or_parts, true≢false}
-use Rattle.pld_base.specs.Points.{IsPoint, Levels}
-use Rattle.pld_device.specs.Macrocells.{is_enabled, or_value, row_if_any}
-use Rattle.pld_device.specs.Rows.{row_value}
-use Rattle.pld_device.specs.Table.{Table}
-use Rattle.device_logic.proofs.Runs.{one_of}
-use Rattle.device_logic.specs.DeviceLookups.{device_lookups}
-use Rattle.device_logic.specs.RowMasks.{IsMask, holds}
-use Rattle.device_logic.specs.declared.row_mask.RowMask.{RowMask}
-use Rattle.fuse_compare.specs.Cut.{DifferWithin, some_holds}
-use Rattle.fuse_compare.specs.OwnRows.{AreOwn, CoveredOutside, Covers, HoldsMore, MakesCell, MakesSame, SameCell, SameKind, SameOutside, some_row}
-use Rattle.fuse_compare.specs.declared.group.Group.{Group}
+use Rattle.fuse_compare.proofs.Common.{cases_lt, or_parts, true≢false, IsPoint, Levels, is_enabled, or_value, row_if_any, row_value, Table, one_of, device_lookups, IsMask, holds, RowMask, DifferWithin, some_holds, AreOwn, CoveredOutside, Covers, HoldsMore, MakesCell, MakesSame, SameCell, SameKind, SameOutside, some_row, Group}
 
 -- ---- one mask more
 

@@ -1,21 +1,7 @@
 -- What is decided where the first logic rests, variable by variable.
 use Rattle.std.proofs.Common.{◌≡◌, ℕ, suc, ◌<◌, Bool, true, false, not, ◌&&◌, ◌==◌, List, [], ◌∷◌, length, get_or, set, refl, ap, sym, ◌∙◌, subst, length-set, get_or-set_same, get_or-set_other, lt-ltb, arith}
 use Rattle.std.specs.Prelude.{nat_lt}
-use Rattle.std.proofs.lemmas.Bool.{eqb-false, or_parts, true≢false}
-use Rattle.pld_base.specs.Bits.{is_on, same_level}
-use Rattle.pld_base.specs.Points.{IsPoint, Levels}
-use Rattle.pld_machine.specs.Lookups.{Lookups}
-use Rattle.pld_machine.specs.Settling.{rest_of}
-use Rattle.pld_machine.specs.Steps.{IsWide}
-use Rattle.pld_machine.proofs.OneRun.{rests_once}
-use Rattle.device_logic.specs.RowMasks.{HoldsWith, holds}
-use Rattle.device_logic.specs.declared.row_mask.RowMask.{RowMask}
-use Rattle.fuse_compare.specs.Cut.{AreFreePins, AreKeptQs, DifferWithin, IsDecided, some_holds}
-use Rattle.fuse_compare.specs.OneState.{AlikeAt}
-use Rattle.fuse_compare.specs.States.{Varies, has_pin, has_q}
-use Rattle.fuse_compare.specs.Told.{IsTold, SameShape}
-use Rattle.fuse_compare.specs.declared.variable.Variable.{Variable}
-use Rattle.fuse_compare.specs.declared.variable.Variable.TheVariants.{Pin, Q}
+use Rattle.fuse_compare.proofs.Common.{eqb-false, or_parts, true≢false, is_on, same_level, IsPoint, Levels, Lookups, rest_of, IsWide, rests_once, HoldsWith, holds, RowMask, AreFreePins, AreKeptQs, DifferWithin, IsDecided, some_holds, AlikeAt, Varies, has_pin, has_q, IsTold, SameShape, Variable, Pin, Q}
 use Rattle.fuse_compare.proofs.AlikeThere.{alike_there}
 
 -- ---- states that vary some variables

@@ -1,22 +1,8 @@
 -- What the rows of a device read is known.
 use Rattle.std.proofs.Common.{◌≡◌, ℕ, zero, suc, ◌<◌, Bool, true, false, not, ◌&&◌, ◌==◌, List, [], ◌∷◌, length, get_or, Some, slice_get, refl, ap, sym, ◌∙◌, subst, arith, inl, inr, eq-eqb}
-use Rattle.std.specs.List.{list_any, range_with_len}
-use Rattle.std.proofs.lemmas.Bool.{and_parts, or_left, or_right, or_cases, true≢false, eqb-true, false_from_ne_true}
-use Rattle.std.proofs.lemmas.Option.{get_or_from_slice_get, slice_get_within}
-use Rattle.pld_device.specs.declared.carry.Carry.{Carry}
+use Rattle.fuse_compare.proofs.Common.{list_any, range_with_len, and_parts, or_left, or_right, or_cases, true≢false, eqb-true, false_from_ne_true, get_or_from_slice_get, slice_get_within, Carry, Cell, Enable, Row, PinLow, is_enable_pin, IsDevice, IsPair, stores, Table, cell_at, no_cell, own_pins, any_at, one_of, some_read, is_level_of, is_q_of, known_of, Knows, KnowsReads}
 use Rattle.pld_device.specs.declared.carry.Carry.TheVariants as carry
-use Rattle.pld_device.specs.declared.cell.Cell.{Cell}
-use Rattle.pld_device.specs.declared.enable.Enable.{Enable}
-use Rattle.pld_device.specs.declared.enable.Enable.TheVariants.{Row, PinLow}
-use Rattle.pld_device.specs.LawTests.Cells.{is_enable_pin}
-use Rattle.pld_device.specs.Laws.{IsDevice, IsPair}
 use Rattle.pld_device.specs.Reads.{row_reads}
-use Rattle.pld_device.specs.Registers.{stores}
-use Rattle.pld_device.specs.Table.{Table, cell_at, no_cell}
-use Rattle.pld_device.proofs.OwnPins.{own_pins}
-use Rattle.device_logic.proofs.Runs.{any_at, one_of}
-use Rattle.fuse_compare.specs.DeviceKnown.{some_read, is_level_of, is_q_of, known_of}
-use Rattle.fuse_compare.specs.DeviceReads.{Knows, KnowsReads}
 
 -- one of the cells passes
 pub any_cell : (test : Cell → Bool) (cells : List Cell) (c : ℕ) → c < length cells → test (get_or cells c no_cell) ≡ true → list_any test cells ≡ true

@@ -1,23 +1,10 @@
 -- The variables chosen for two fuse lists of one device suffice.
 use Rattle.std.proofs.Common.{◌≡◌, ℕ, ◌<◌, Bool, true, false, not, ◌==◌, List, [], ◌∷◌, map, length, get_or, refl, sym, ◌∙◌, subst, arith, inl, inr}
-use Rattle.std.specs.List.{list_any}
-use Rattle.std.proofs.lemmas.Bool.{cases_Bool, and_parts, or_left, or_right, or_cases, eqb-true}
-use Rattle.pld_device.specs.declared.carry.Carry.{Carry}
+use Rattle.fuse_compare.proofs.Common.{list_any, cases_Bool, and_parts, or_left, or_right, or_cases, eqb-true, Carry, Cell, is_enable_pin, IsDevice, IsPair, stores, Table, cell_at, no_cell, own_pins, sets_node, IsOrdered, device_lookups, some_read, is_level_of, known_of, QsChosen, AreChosen, QFixed, QsSuffice, Suffices, IsTold, Variable}
 use Rattle.pld_device.specs.declared.carry.Carry.TheVariants as carry
-use Rattle.pld_device.specs.declared.cell.Cell.{Cell}
-use Rattle.pld_device.specs.LawTests.Cells.{is_enable_pin}
-use Rattle.pld_device.specs.Laws.{IsDevice, IsPair}
-use Rattle.pld_device.specs.Registers.{stores}
-use Rattle.pld_device.specs.Table.{Table, cell_at, no_cell}
-use Rattle.pld_device.proofs.OwnPins.{own_pins}
 use Rattle.pld_machine.specs.declared.logic.Slot.TheVariants as slot
-use Rattle.pld_machine.specs.Lookups.{sets_node}
-use Rattle.pld_machine.specs.Order.{IsOrdered}
-use Rattle.device_logic.specs.DeviceLookups.{device_lookups}
-use Rattle.fuse_compare.specs.DeviceKnown.{some_read, is_level_of, known_of, QsChosen, AreChosen, SameKinds, OtherKinds}
-use Rattle.fuse_compare.specs.States.{QFixed, QsSuffice, Suffices, AtOne, AsPlain, AllFixed, Mixed}
-use Rattle.fuse_compare.specs.Told.{IsTold}
-use Rattle.fuse_compare.specs.declared.variable.Variable.{Variable}
+use Rattle.fuse_compare.specs.DeviceKnown.{SameKinds, OtherKinds}
+use Rattle.fuse_compare.specs.States.{AtOne, AsPlain, AllFixed, Mixed}
 use Rattle.fuse_compare.proofs.DeviceKnows.{some_of, one_cell, enables_is, knows_reads}
 use Rattle.fuse_compare.proofs.DeviceTold.{flips_of, device_told}
 

@@ -1,19 +1,6 @@
 -- What is found at a state is what it is to be alike there, or to differ.
 use Rattle.std.proofs.Common.{◌≡◌, ◌≢◌, ℕ, ◌<◌, Bool, true, false, not, ◌&&◌, ◌||◌, if◌then◌else◌, List, refl, ap, sym, ◌∙◌, subst}
-use Rattle.pld_base.specs.Bits.{is_on, same_level}
-use Rattle.pld_base.specs.Points.{Levels}
-use Rattle.pld_base.specs.Logic.{is_register}
-use Rattle.pld_base.proofs.BitLemmas.{same_levels}
-use Rattle.pld_machine.specs.Lookups.{Lookups, logic_of}
-use Rattle.pld_machine.specs.Steps.{IsTheRest, IsWide}
-use Rattle.pld_machine.specs.Rest.{AtRest}
-use Rattle.pld_machine.specs.Settling.{rest_of, q_at_edge}
-use Rattle.pld_machine.specs.Steps.{allows_q}
-use Rattle.pld_machine.proofs.OneRest.{levels_equal}
-use Rattle.pld_machine.proofs.OneRun.{rests_once}
-use Rattle.fuse_compare.specs.Alike.{ShowSame, DifferAtRest, DifferAtClock, SameEdge, AreAlike}
-use Rattle.fuse_compare.specs.OneState.{RestsToo, AlikeAt}
-use Rattle.fuse_compare.specs.Told.{IsTold, SameShape}
+use Rattle.fuse_compare.proofs.Common.{is_on, same_level, Levels, is_register, same_levels, Lookups, logic_of, IsTheRest, IsWide, AtRest, rest_of, q_at_edge, allows_q, levels_equal, rests_once, ShowSame, DifferAtRest, DifferAtClock, SameEdge, AreAlike, RestsToo, AlikeAt, IsTold, SameShape}
 
 -- what may be stored at the clock's edge is the one Q there
 edge_told : (register reset preset next q : Bool)

@@ -1,23 +1,12 @@
 -- The rows of a group as cubes over the column pairs, one after another, and what they have together.
 use Rattle.std.proofs.Common.{◌≡◌, ℕ, zero, suc, ◌+◌, Bool, true, false, ◌||◌, List, [], ◌∷◌, ◌++◌, map, length, slice_range, refl, ap, sym, ◌∙◌, subst, arith, length-append}
-use Rattle.std.specs.List.{list_any, range_with_len, All}
-use Rattle.std.proofs.lemmas.List.{length-map}
-use Rattle.std.proofs.lemmas.List.Elements.{All-head, All-nil, All-push, All-tail}
+use Rattle.fuse_compare.proofs.Common.{list_any, range_with_len, All, length-map, All-head, All-nil, All-push, All-tail, IsPoint, Levels, Carry, IsDevice, IsPair, carried, pair_values, row_value, Table, Cube, IsPairCube, IsGroupCover, StoreSame, some_row, Group}
 use Rattle.std.proofs.lemmas.List.Folds.{list_any-append}
 use Rattle.std.proofs.lemmas.Slice.{between_from_start}
 use Rattle.std.proofs.Math.Seq.{take-length}
-use Rattle.pld_base.specs.Points.{IsPoint, Levels}
-use Rattle.pld_device.specs.declared.carry.Carry.{Carry}
 use Rattle.pld_device.specs.declared.carry.Carry.TheVariants as carry
-use Rattle.pld_device.specs.Laws.{IsDevice, IsPair}
-use Rattle.pld_device.specs.Rows.{carried, pair_values, row_value}
-use Rattle.pld_device.specs.Table.{Table}
-use Rattle.covers.specs.declared.cube.Cube.{Cube}
 use Rattle.covers.specs.Covers.{CoversCube}
 use Rattle.covers.specs.Cubes.{AsksBelow, covers, has_point}
-use Rattle.device_logic.specs.PairCubes.{IsPairCube}
-use Rattle.fuse_compare.specs.OwnRows.{IsGroupCover, StoreSame, some_row}
-use Rattle.fuse_compare.specs.declared.group.Group.{Group}
 
 -- ---- a pair carries the same with both fuse lists
 

@@ -1,21 +1,6 @@
 -- Where two logics are alike at a state, they are alike at each state that it stands for.
 use Rattle.std.proofs.Common.{◌≡◌, ◌≢◌, ◌⊎◌, ℕ, zero, suc, ◌<◌, ◌≤◌, Bool, true, false, not, ◌&&◌, ◌==◌, nat_lt, List, refl, ap, sym, ◌∙◌, subst, arith, inl, inr, eq-eqb, le-ltb}
-use Rattle.std.proofs.lemmas.Bool.{cases_Bool, and_parts, true≢false, ltb-true, eqb-true, cases_lt, cases_eq}
-use Rattle.pld_base.specs.Bits.{is_on}
-use Rattle.pld_base.specs.Logic.{is_register}
-use Rattle.pld_base.proofs.BitLemmas.{same_levels}
-use Rattle.pld_device.specs.Macrocells.{complement_if}
-use Rattle.pld_machine.specs.Lookups.{Lookups, logic_of}
-use Rattle.pld_machine.specs.Steps.{IsWide}
-use Rattle.pld_machine.specs.Rest.{AtRest}
-use Rattle.pld_machine.specs.Settling.{rest_of, q_at_edge}
-use Rattle.pld_machine.proofs.OneRest.{levels_equal}
-use Rattle.pld_machine.proofs.Settled.{true_same}
-use Rattle.pld_machine.proofs.OneRun.{rests_once}
-use Rattle.fuse_compare.specs.OneState.{AlikeAt}
-use Rattle.fuse_compare.specs.States.{QCounts, StandsFor}
-use Rattle.fuse_compare.specs.Told.{AgreeOn, IsTold, SameShape}
-use Rattle.fuse_compare.specs.States.QCounts.{Same, Shown, Plain}
+use Rattle.fuse_compare.proofs.Common.{cases_Bool, and_parts, true≢false, ltb-true, eqb-true, cases_lt, cases_eq, is_on, is_register, same_levels, complement_if, Lookups, logic_of, IsWide, AtRest, rest_of, q_at_edge, levels_equal, true_same, rests_once, AlikeAt, QCounts, StandsFor, AgreeOn, IsTold, SameShape, Same, Shown, Plain}
 use Rattle.fuse_compare.proofs.Moving.{points_agree}
 
 -- a Q that is the same where it is stored as 1 is the same where it isn't

@@ -1,6 +1,7 @@
 pub mod AlikeThere
 pub mod Answering
 pub mod Branches
+pub mod Common
 pub mod Covered
 pub mod Decided
 pub mod DeviceKnows

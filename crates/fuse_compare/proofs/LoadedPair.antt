@@ -1,23 +1,8 @@
 -- Two loaded devices can be searched, and what is found is what comparing answers.
 use Rattle.std.proofs.Common.{◌≡◌, ℕ, Bool, List, length, Option, None, IfSome, refl, sym, subst}
-use Rattle.pld_base.specs.Bits.{bits}
-use Rattle.pld_machine.specs.Order.{IsOrdered}
-use Rattle.pld_machine.specs.Steps.{IsDetermined}
-use Rattle.pld_device.specs.Laws.{IsDevice}
-use Rattle.pld_device.specs.Macrocells.{device_logic}
-use Rattle.pld_device.specs.Table.{Table}
-use Rattle.pld_device.proofs.OwnPins.{own_pins}
-use Rattle.device_logic.specs.DeviceLookups.{device_lookups}
-use Rattle.fuse_compare.specs.Alike.{FindsDifference, RunsAlike}
-use Rattle.fuse_compare.specs.Choosing.{AreKnown, HoldsRegisters}
-use Rattle.fuse_compare.specs.Compared.{IsPlainState}
-use Rattle.fuse_compare.specs.Cut.{AreOnce}
-use Rattle.fuse_compare.specs.DeviceKnown.{AreChosen}
+use Rattle.fuse_compare.proofs.Common.{bits, IsOrdered, IsDetermined, IsDevice, device_logic, Table, own_pins, device_lookups, FindsDifference, RunsAlike, AreKnown, HoldsRegisters, IsPlainState, AreOnce, AreChosen, Suffices, Varies, Difference, Variable}
 use Rattle.fuse_compare.specs.Searching.{CanSearch, IsCut}
-use Rattle.fuse_compare.specs.States.{Suffices, Varies}
 use Rattle.fuse_compare.specs.declared.cut.Cut.{Cut}
-use Rattle.fuse_compare.specs.declared.difference.Difference.{Difference}
-use Rattle.fuse_compare.specs.declared.variable.Variable.{Variable}
 use Rattle.fuse_compare.proofs.Answering.{if_some}
 use Rattle.fuse_compare.proofs.DeviceSuffices.{sufficing}
 use Rattle.fuse_compare.proofs.Plain.{plain_state}

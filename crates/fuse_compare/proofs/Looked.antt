@@ -1,15 +1,6 @@
 -- What is looked at at a point at rest tells whether it is one of the second logic too.
 use Rattle.std.proofs.Common.{◌≡◌, ◌≢◌, ◌⊎◌, ℕ, ◌<◌, ◌≤◌, Bool, true, false, not, ◌&&◌, ◌==◌, List, refl, sym, ◌∙◌, subst, inl, inr, arith, le-ltb, ne_eqb}
-use Rattle.std.proofs.lemmas.Bool.{cases_Bool, cases_lt, and_parts, true≢false}
-use Rattle.pld_base.specs.Bits.{is_on, same_level}
-use Rattle.pld_base.specs.Points.{Levels}
-use Rattle.pld_machine.specs.Lookups.{Lookups, logic_of}
-use Rattle.pld_machine.specs.Steps.{IsTheRest}
-use Rattle.pld_machine.specs.Rest.{q_at_rest}
-use Rattle.pld_machine.specs.Settling.{q_at_edge}
-use Rattle.pld_machine.proofs.Settled.{true_same, same_true}
-use Rattle.fuse_compare.specs.OneState.{RestsToo, StoresToo, StoresOther, AllToo, AllEdgesToo, drives_so, clock_is_low}
-use Rattle.fuse_compare.specs.Told.{IsTold, SameShape}
+use Rattle.fuse_compare.proofs.Common.{cases_Bool, cases_lt, and_parts, true≢false, is_on, same_level, Levels, Lookups, logic_of, IsTheRest, q_at_rest, q_at_edge, true_same, same_true, RestsToo, StoresToo, StoresOther, AllToo, AllEdgesToo, drives_so, clock_is_low, IsTold, SameShape}
 
 module _ (a b : Lookups) (shape : SameShape a b) (ta : IsTold a) (tb : IsTold b) (o s : List Bool) (at : Levels) (is : IsTheRest (logic_of a) o s at) where
   above : (c : ℕ) → c < b.cells → c < a.cells

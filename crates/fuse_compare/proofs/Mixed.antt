@@ -1,15 +1,6 @@
 -- Where a cell is a register in one of two logics alone, they are alike only if both are always reset.
 use Rattle.std.proofs.Common.{◌≡◌, ◌≢◌, ◌⊎◌, ℕ, ◌<◌, Bool, true, false, not, ◌&&◌, List, refl, sym, ◌∙◌, subst, arith, inl, inr, le-ltb, lt-ltb}
-use Rattle.std.proofs.lemmas.Bool.{cases_Bool, cases_lt, true≢false}
-use Rattle.pld_base.specs.Bits.{is_on}
-use Rattle.pld_base.specs.Points.{Levels}
-use Rattle.pld_base.specs.Logic.{is_register}
-use Rattle.pld_machine.specs.Lookups.{Lookups, logic_of}
-use Rattle.pld_machine.specs.Steps.{IsWide}
-use Rattle.pld_machine.specs.Rest.{AtRest, q_at_rest}
-use Rattle.pld_machine.proofs.OneRun.{rests_once}
-use Rattle.fuse_compare.specs.OneState.{AlikeAt}
-use Rattle.fuse_compare.specs.Told.{IsTold, SameShape}
+use Rattle.fuse_compare.proofs.Common.{cases_Bool, cases_lt, true≢false, is_on, Levels, is_register, Lookups, logic_of, IsWide, AtRest, q_at_rest, rests_once, AlikeAt, IsTold, SameShape}
 
 -- a register whose Q is 0 though it is stored as 1 is reset; one of the two may be no register
 reset_of : (r x : Bool) → (r && (not x && true)) ≡ false → (r ≡ true) → x ≡ true

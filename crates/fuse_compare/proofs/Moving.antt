@@ -1,19 +1,9 @@
 -- States that have the same known pins and Qs come to rest at points that have them the same.
 use Rattle.std.proofs.Common.{◌≡◌, ◌≢◌, ◌⊎◌, ℕ, suc, ◌<◌, Bool, true, false, List, [], ◌∷◌, slice_get, set, Some, refl, ap, sym, ◌∙◌, subst, arith, inl, inr, get_or-set_same, get_or-set_other}
-use Rattle.std.proofs.lemmas.Bool.{cases_Bool, cases_eq, and_parts, true≢false, ltb-true}
-use Rattle.pld_base.specs.Bits.{is_on}
-use Rattle.pld_base.specs.Points.{Levels, IsPoint}
-use Rattle.pld_machine.specs.Lookups.{Lookups, logic_of}
-use Rattle.pld_machine.specs.Steps.{IsWide}
-use Rattle.pld_machine.specs.Order.{IsOrdered, InRange}
-use Rattle.pld_machine.specs.Rest.{AtRest, q_at_rest}
-use Rattle.pld_machine.specs.Settling.{settle_slot, settle, start, settled_of, filled, rest_of}
+use Rattle.fuse_compare.proofs.Common.{cases_Bool, cases_eq, and_parts, true≢false, ltb-true, is_on, Levels, IsPoint, Lookups, logic_of, IsWide, IsOrdered, InRange, AtRest, q_at_rest, settle_slot, settle, start, settled_of, filled, rest_of, rests_once, is_on-filled, length-filled, length-bits, Known, AgreeOn, IsToldBy}
 use Rattle.pld_machine.specs.declared.logic.Slot.{Slot}
 use Rattle.pld_machine.specs.declared.logic.Slot.TheVariants.{Cell, Node}
-use Rattle.pld_machine.proofs.OneRun.{rests_once, is_on-filled, length-filled}
 use Rattle.pld_machine.proofs.Settles.{slot_point}
-use Rattle.pld_base.proofs.BitLemmas.{length-bits}
-use Rattle.fuse_compare.specs.Told.{Known, AgreeOn, IsToldBy}
 
 -- the outside levels and Qs are the same, as far as they are known
 abbrev pub SameKnown : Known → (o o' q q' : List Bool) → Type 0

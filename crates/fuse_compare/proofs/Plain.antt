@@ -1,22 +1,8 @@
 -- The states of a search have no level where no pin is, and no Q where no register is.
 use Rattle.std.proofs.Common.{◌≡◌, ◌⊎◌, ℕ, ◌<◌, Bool, true, ◌||◌, ◌==◌, not, List, [], ◌∷◌, length, set, get_or, sym, ◌∙◌, ap, subst, inl, inr}
 use Rattle.std.specs.Prelude.{nat_lt}
-use Rattle.std.proofs.lemmas.Bool.{and_parts, eqb-true, ltb-true, or_cases, or_left, or_right}
-use Rattle.pld_base.specs.Bits.{bits, is_on}
-use Rattle.pld_device.specs.declared.carry.Carry.{Carry}
+use Rattle.fuse_compare.proofs.Common.{and_parts, eqb-true, ltb-true, or_cases, or_left, or_right, bits, is_on, Carry, Cell, is_enable_pin, IsDevice, IsPair, IsSignalPin, stores, Table, cell_at, no_cell, AreKnown, HoldsRegisters, IsPlainState, enables_some, is_level_of, known_of, some_read, Varies, has_pin, has_q, Difference, Variable, Pin, Q}
 use Rattle.pld_device.specs.declared.carry.Carry.TheVariants as carry
-use Rattle.pld_device.specs.declared.cell.Cell.{Cell}
-use Rattle.pld_device.specs.LawTests.Cells.{is_enable_pin}
-use Rattle.pld_device.specs.Laws.{IsDevice, IsPair, IsSignalPin}
-use Rattle.pld_device.specs.Registers.{stores}
-use Rattle.pld_device.specs.Table.{Table, cell_at, no_cell}
-use Rattle.fuse_compare.specs.Choosing.{AreKnown, HoldsRegisters}
-use Rattle.fuse_compare.specs.Compared.{IsPlainState}
-use Rattle.fuse_compare.specs.DeviceKnown.{enables_some, is_level_of, known_of, some_read}
-use Rattle.fuse_compare.specs.States.{Varies, has_pin, has_q}
-use Rattle.fuse_compare.specs.declared.difference.Difference.{Difference}
-use Rattle.fuse_compare.specs.declared.variable.Variable.{Variable}
-use Rattle.fuse_compare.specs.declared.variable.Variable.TheVariants.{Pin, Q}
 use Rattle.fuse_compare.proofs.Uncut.{no_level, set_on}
 use Rattle.fuse_compare.proofs.DeviceKnows.{enables_is, knows_reads, one_cell, some_of}
 

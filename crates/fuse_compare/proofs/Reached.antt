@@ -1,18 +1,8 @@
 -- Each state is stood for by one that varies the variables alone.
 use Rattle.std.proofs.Common.{◌≡◌, ◌≢◌, ◌⊎◌, ℕ, ◌<◌, Bool, true, false, ◌||◌, ◌==◌, List, [], ◌∷◌, length, set, refl, sym, ◌∙◌, subst, inl, inr, length-set, get_or-set_same, get_or-set_other}
-use Rattle.std.proofs.lemmas.Bool.{cases_Bool, cases_eq, or_cases, or_parts, true≢false, eqb-true, eqb-false}
-use Rattle.pld_base.specs.Bits.{bits, is_on}
-use Rattle.pld_base.proofs.BitLemmas.{is_on-zero, length-bits}
-use Rattle.pld_machine.specs.Lookups.{Lookups, logic_of}
-use Rattle.pld_machine.specs.Steps.{IsWide}
-use Rattle.fuse_compare.specs.Alike.{AreAlike}
-use Rattle.fuse_compare.specs.OneState.{AlikeAt}
-use Rattle.fuse_compare.specs.States.{QCounts, StandsFor, Varies, has_pin, has_q, AreVariables, QFixed, QsSuffice, Suffices}
-use Rattle.fuse_compare.specs.States.QCounts.{Same, Shown, Plain}
+use Rattle.fuse_compare.proofs.Common.{cases_Bool, cases_eq, or_cases, or_parts, true≢false, eqb-true, eqb-false, bits, is_on, is_on-zero, length-bits, Lookups, logic_of, IsWide, AreAlike, AlikeAt, QCounts, StandsFor, Varies, has_pin, has_q, AreVariables, QFixed, QsSuffice, Suffices, Same, Shown, Plain, Variable, Pin, Q}
 use Rattle.fuse_compare.specs.States.QFixed.{AtOne, AsPlain}
 use Rattle.fuse_compare.specs.States.QsSuffice.{AllFixed, Mixed}
-use Rattle.fuse_compare.specs.declared.variable.Variable.{Variable}
-use Rattle.fuse_compare.specs.declared.variable.Variable.TheVariants.{Pin, Q}
 use Rattle.fuse_compare.proofs.Kept.{alike_kept}
 use Rattle.fuse_compare.proofs.Mixed.{alike_mixed}
 use Rattle.fuse_compare.proofs.Differences.{all_alike}

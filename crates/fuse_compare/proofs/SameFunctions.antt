@@ -1,14 +1,8 @@
 -- Logics that allow the same at every point are alike.
 use Rattle.std.proofs.Common.{◌≡◌, ℕ, ◌<◌, ◌≤◌, Bool, true, false, List, refl, sym, ◌∙◌, subst, inl, inr, lt-ltb, le-ltb}
-use Rattle.std.proofs.lemmas.Bool.{cases_Bool, cases_lt}
-use Rattle.pld_base.specs.Points.{Levels}
-use Rattle.pld_base.specs.Logic.{Logic, is_register}
-use Rattle.pld_machine.specs.Steps.{IsWide, RestsOnce}
+use Rattle.fuse_compare.proofs.Common.{cases_Bool, cases_lt, Levels, Logic, is_register, IsWide, RestsOnce, AtRest, allows_q, ShowSame, SameEdge, AreAlike}
 use Rattle.pld_machine.specs.Refines.{Refines}
-use Rattle.pld_machine.specs.Rest.{AtRest}
-use Rattle.pld_machine.specs.Steps.{allows_q}
 use Rattle.pld_machine.proofs.Refined.{rest_refines}
-use Rattle.fuse_compare.specs.Alike.{ShowSame, SameEdge, AreAlike}
 
 -- each follows from the other
 both_ways : (x y : Bool) → (x ≡ true → y ≡ true) → (y ≡ true → x ≡ true) → x ≡ y

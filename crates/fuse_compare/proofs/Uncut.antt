@@ -1,14 +1,6 @@
 -- What is cut where nothing is known of two logics.
 use Rattle.std.proofs.Common.{◌≡◌, ◌⊎◌, ℕ, ◌<◌, Bool, true, false, ◌==◌, List, [], ◌∷◌, set, refl, sym, ◌∙◌, subst, inl, inr, arith, get_or-set_other}
-use Rattle.std.proofs.lemmas.Bool.{cases_eq, cases_lt, eq-eqb, eqb-true, true≢false}
-use Rattle.std.proofs.lemmas.List.{get_or_past}
-use Rattle.pld_base.specs.Bits.{bits, is_on}
-use Rattle.pld_base.specs.Points.{IsPoint, Levels}
-use Rattle.pld_base.proofs.BitLemmas.{is_on-zero, length-bits}
-use Rattle.pld_machine.specs.Lookups.{Lookups}
-use Rattle.device_logic.specs.RowMasks.{holds}
-use Rattle.device_logic.specs.declared.row_mask.RowMask.{RowMask}
-use Rattle.fuse_compare.specs.Cut.{AreFreePins, AreKeptQs, DifferWithin, some_holds}
+use Rattle.fuse_compare.proofs.Common.{cases_eq, cases_lt, eq-eqb, eqb-true, true≢false, get_or_past, bits, is_on, IsPoint, Levels, is_on-zero, length-bits, Lookups, holds, RowMask, AreFreePins, AreKeptQs, DifferWithin, some_holds}
 
 -- 0 has no level
 pub no_level : (k : ℕ) → is_on (bits 32 0) k ≡ true → ⊥

@@ -1,8 +1,6 @@
 -- The variables, one after another.
 use Rattle.std.proofs.Common.{◌≡◌, ◌⊎◌, ℕ, zero, suc, ◌<◌, Bool, true, false, List, [], ◌∷◌, length, drop, set, Some, slice_get, subst, arith, inl, inr}
-use Rattle.fuse_compare.specs.States.{AreVariables, Varies, VariesAt}
-use Rattle.fuse_compare.specs.declared.variable.Variable.{Variable}
-use Rattle.fuse_compare.specs.declared.variable.Variable.TheVariants.{Pin, Q}
+use Rattle.fuse_compare.proofs.Common.{AreVariables, Varies, VariesAt, Variable, Pin, Q}
 
 same_variable : (x y : Variable) → Some x ≡ Some y → x ≡ y
 same_variable x y e = cc

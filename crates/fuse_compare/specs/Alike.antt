@@ -1,11 +1,6 @@
 -- Whether two logics behave alike, from every state, also from one that no run reaches (this project's rule).
 use Rattle.std.specs.Prelude.{◌≡◌, ◌≢◌, ℕ, ◌<◌, Bool, true, false, List, [], ◌∷◌, Option, None, Some}
-use Rattle.std.specs.List.{All}
-use Rattle.pld_base.specs.Bits.{bits, is_on}
-use Rattle.pld_base.specs.Points.{Levels}
-use Rattle.pld_base.specs.Logic.{Logic}
-use Rattle.pld_machine.specs.Rest.{AtRest}
-use Rattle.pld_machine.specs.Steps.{IsWide, Run, allows_q}
+use Rattle.fuse_compare.specs.Prelude.{All, bits, is_on, Levels, Logic, AtRest, IsWide, Run, allows_q}
 use Rattle.fuse_compare.specs.declared.difference.Difference.{Difference}
 
 -- the first logic at one point and the second at the other show the same pins, Qs and enabled cells

@@ -1,8 +1,6 @@
 -- Private: how variables are gathered, pins first (this project's rule).
 use Rattle.std.specs.Prelude.{◌≡◌, ◌<◌, ℕ, ◌&&◌, ◌||◌, Bool, true, false, List, nat_lt}
-use Rattle.pld_base.specs.Bits.{is_on}
-use Rattle.pld_device.specs.Registers.{stores}
-use Rattle.pld_device.specs.Table.{Table}
+use Rattle.fuse_compare.specs.Prelude.{is_on, stores, Table}
 use Rattle.fuse_compare.specs.Cut.{AreOnce}
 use Rattle.fuse_compare.specs.DeviceKnown.{known_of}
 use Rattle.fuse_compare.specs.States.{AreVariables, has_pin, has_q}

@@ -1,12 +1,9 @@
 -- What comparing two fuse lists of one device gives, and why they aren't compared (this project's rule).
 use Rattle.std.specs.Prelude.{◌≡◌, ◌⊎◌, ℕ, ◌<◌, Bool, true, List, length}
-use Rattle.pld_base.specs.Bits.{bits, is_on}
+use Rattle.fuse_compare.specs.Prelude.{bits, is_on, stores, Table, IsLoadFault}
 use Rattle.pld_device.specs.Laws.{IsSignalPin}
-use Rattle.pld_device.specs.Registers.{stores}
-use Rattle.pld_device.specs.Table.{Table}
 use Rattle.pld_order.specs.Graphs.{HasNoLoop}
 use Rattle.device_logic.specs.CellReads.{cell_reads}
-use Rattle.device_logic.specs.LoadFaults.{IsLoadFault}
 use Rattle.device_logic.specs.ResetPaths.{HasNoResetPath}
 use Rattle.device_logic.specs.declared.fault.SimFault.{SimFault}
 use Rattle.fuse_compare.specs.declared.difference.Difference.{Difference}

@@ -1,13 +1,7 @@
 -- Private: the rows that one of two logics has alone, and the states at which none of them can be true (this project's
 -- rule).
 use Rattle.std.specs.Prelude.{◌≡◌, ℕ, ◌<◌, Bool, true, false, List, [], ◌∷◌}
-use Rattle.std.specs.List.{list_any}
-use Rattle.pld_base.specs.Bits.{is_on}
-use Rattle.pld_base.specs.Points.{IsPoint, Levels}
-use Rattle.pld_machine.specs.Lookups.{Lookups, logic_of}
-use Rattle.pld_machine.specs.Rest.{AtRest}
-use Rattle.device_logic.specs.RowMasks.{holds}
-use Rattle.device_logic.specs.declared.row_mask.RowMask.{RowMask}
+use Rattle.fuse_compare.specs.Prelude.{list_any, is_on, IsPoint, Levels, Lookups, logic_of, AtRest, holds, RowMask}
 use Rattle.fuse_compare.specs.States.{Varies, has_pin, has_q}
 use Rattle.fuse_compare.specs.declared.variable.Variable.{Variable}
 use Rattle.fuse_compare.specs.declared.variable.Variable.TheVariants.{Pin, Q}

@@ -1,15 +1,8 @@
 -- Private: the pins and Qs that a device with its fuses reads, and the variables of two fuse lists (this project's rule).
 use Rattle.std.specs.Prelude.{◌≡◌, ◌≢◌, ◌<◌, ℕ, ◌==◌, ◌&&◌, ◌||◌, not, Bool, true, false, List, length, get_or}
-use Rattle.std.specs.List.{list_any, range_with_len}
-use Rattle.pld_device.specs.declared.carry.Carry.{Carry}
+use Rattle.fuse_compare.specs.Prelude.{list_any, range_with_len, Carry, is_enable_pin, row_reads, stores, Table, cell_at, is_on, IsWide}
 use Rattle.pld_device.specs.declared.carry.Carry.TheVariants as carry
 use Rattle.pld_device.specs.declared.cell.Cell.{Cell}
-use Rattle.pld_device.specs.LawTests.Cells.{is_enable_pin}
-use Rattle.pld_device.specs.Reads.{row_reads}
-use Rattle.pld_device.specs.Registers.{stores}
-use Rattle.pld_device.specs.Table.{Table, cell_at}
-use Rattle.pld_base.specs.Bits.{is_on}
-use Rattle.pld_machine.specs.Steps.{IsWide}
 use Rattle.fuse_compare.specs.States.{AreVariables, has_pin, has_q}
 use Rattle.fuse_compare.specs.Told.{Known}
 use Rattle.fuse_compare.specs.declared.variable.Variable.{Variable}

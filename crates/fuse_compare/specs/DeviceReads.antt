@@ -1,11 +1,8 @@
 -- Private: which pins and Qs a device with its fuses reads (this project's rule).
 use Rattle.std.specs.Prelude.{◌≡◌, ℕ, ◌<◌, Bool, true, false, List, length, Some, slice_get}
-use Rattle.pld_device.specs.declared.carry.Carry.{Carry}
+use Rattle.fuse_compare.specs.Prelude.{Carry, row_reads, stores, Table, cell_at}
 use Rattle.pld_device.specs.declared.carry.Carry.TheVariants as carry
 use Rattle.pld_device.specs.declared.enable.Enable.TheVariants.{PinLow}
-use Rattle.pld_device.specs.Reads.{row_reads}
-use Rattle.pld_device.specs.Registers.{stores}
-use Rattle.pld_device.specs.Table.{Table, cell_at}
 use Rattle.fuse_compare.specs.Told.{Known}
 
 -- what a pair carries is known

@@ -6,6 +6,7 @@ pub mod DeviceKnown
 pub mod DeviceReads
 pub mod OneState
 pub mod OwnRows
+pub mod Prelude
 pub mod Searching
 pub mod States
 pub mod Told

@@ -1,11 +1,6 @@
 -- Private: what two logics that come to rest at one state are asked there (this project's rule).
 use Rattle.std.specs.Prelude.{◌≡◌, ◌≢◌, ℕ, ◌<◌, Bool, true, false, not, ◌&&◌, ◌||◌, ◌==◌, List}
-use Rattle.pld_base.specs.Bits.{is_on, same_level}
-use Rattle.pld_base.specs.Points.{Levels}
-use Rattle.pld_machine.specs.Lookups.{Lookups, logic_of}
-use Rattle.pld_machine.specs.Rest.{AtRest, q_at_rest}
-use Rattle.pld_machine.specs.Settling.{q_at_edge}
-use Rattle.pld_machine.specs.Steps.{IsTheRest}
+use Rattle.fuse_compare.specs.Prelude.{is_on, same_level, Levels, Lookups, logic_of, AtRest, q_at_rest, q_at_edge, IsTheRest}
 
 -- an enabled cell's pin has the level that the cell drives
 abbrev pub drives_so : Lookups → Levels → ℕ → (enabled : Bool) → Bool

@@ -1,15 +1,9 @@
 -- Private: rows that are true with one of two fuse lists where no row of their group is with the other, and masks of them
 -- (this project's rule).
 use Rattle.std.specs.Prelude.{◌≡◌, ℕ, ◌+◌, ◌<◌, ◌≤◌, Bool, true, false, List, length}
-use Rattle.std.specs.List.{list_any, range_with_len}
-use Rattle.pld_base.specs.Points.{IsPoint, Levels}
-use Rattle.pld_device.specs.Macrocells.{is_enabled, or_value, row_if_any}
-use Rattle.pld_device.specs.Registers.{is_inverted, stores}
+use Rattle.fuse_compare.specs.Prelude.{list_any, range_with_len, IsPoint, Levels, is_enabled, or_value, row_if_any, is_inverted, stores, Table, cell_at, AllAskBelow, covers, RowMask}
 use Rattle.pld_device.specs.Rows.{pair_values, row_value}
-use Rattle.pld_device.specs.Table.{Table, cell_at}
 use Rattle.covers.specs.declared.cube.Cube.{Cube}
-use Rattle.covers.specs.Cubes.{AllAskBelow, covers}
-use Rattle.device_logic.specs.declared.row_mask.RowMask.{RowMask}
 use Rattle.fuse_compare.specs.Cut.{some_holds}
 use Rattle.fuse_compare.specs.declared.group.Group.{Group}
 

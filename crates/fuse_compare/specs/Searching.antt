@@ -1,7 +1,6 @@
 -- Private: what a search for a difference stands on (this project's rule).
 use Rattle.std.specs.Prelude.{List}
-use Rattle.pld_base.specs.Bits.{bits}
-use Rattle.pld_machine.specs.Lookups.{Lookups}
+use Rattle.fuse_compare.specs.Prelude.{bits, Lookups}
 use Rattle.fuse_compare.specs.Cut.{AreFreePins, AreKeptQs, AreOnce, DifferWithin}
 use Rattle.fuse_compare.specs.States.{AreVariables}
 use Rattle.fuse_compare.specs.Told.{IsTold, SameShape}

@@ -1,9 +1,6 @@
 -- Private: which states stand for all (this project's rule).
 use Rattle.std.specs.Prelude.{◌≡◌, ◌≢◌, ℕ, ◌<◌, Bool, true, false, ◌||◌, ◌==◌, List, [], ◌∷◌, set}
-use Rattle.pld_base.specs.Bits.{is_on}
-use Rattle.pld_base.specs.Points.{Levels}
-use Rattle.pld_machine.specs.Lookups.{Lookups}
-use Rattle.pld_machine.specs.Steps.{IsWide}
+use Rattle.fuse_compare.specs.Prelude.{is_on, Levels, Lookups, IsWide}
 use Rattle.fuse_compare.specs.Told.{IsTold, Known, SameShape}
 use Rattle.fuse_compare.specs.declared.variable.Variable.{Variable}
 use Rattle.fuse_compare.specs.declared.variable.Variable.TheVariants.{Pin, Q}

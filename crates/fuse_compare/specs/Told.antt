@@ -1,11 +1,6 @@
 -- Private: by which pins and Qs a logic's answers are told (this project's rule).
 use Rattle.std.specs.Prelude.{◌≡◌, ℕ, ◌<◌, Bool, true, false}
-use Rattle.pld_base.specs.Bits.{is_on}
-use Rattle.pld_base.specs.Points.{Levels}
-use Rattle.pld_base.specs.Logic.{is_register}
-use Rattle.pld_device.specs.Macrocells.{complement_if}
-use Rattle.pld_machine.specs.Lookups.{Lookups, logic_of, sets_node}
-use Rattle.pld_machine.specs.Order.{IsOrdered}
+use Rattle.fuse_compare.specs.Prelude.{is_on, Levels, is_register, complement_if, Lookups, logic_of, sets_node, IsOrdered}
 
 -- pins and Qs
 pub record Known : Type 0 where

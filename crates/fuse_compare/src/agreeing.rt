@@ -1,12 +1,7 @@
 //! Whether a point at rest of one logic is one of another too, with the same Qs after the clock's edge.
 
 ghost use Rattle.std.specs.Prelude.{◌≡◌, ◌<◌, true, false};
-ghost use Rattle.pld_base.specs.Bits.{bits};
-ghost use Rattle.pld_base.specs.Points.{levels_of};
-ghost use Rattle.pld_machine.specs.Lookups.{logic_of};
-ghost use Rattle.pld_machine.specs.Order.{HasPins};
-ghost use Rattle.pld_machine.specs.Rest.{q_at_rest};
-ghost use Rattle.pld_machine.specs.Settling.{q_at_edge};
+ghost use Rattle.fuse_compare.specs.Prelude.{bits, levels_of, logic_of, HasPins, q_at_rest, q_at_edge};
 ghost use Rattle.fuse_compare.specs.OneState.{AllToo, AllEdgesToo, cell_too, drives_so, edge_too};
 ghost use Rattle.fuse_compare.specs.Told.{SameShape};
 

@@ -6,8 +6,7 @@
 //! always reset, whatever is stored.
 
 ghost use Rattle.std.specs.Prelude.{◌≡◌, ◌≢◌, ◌<◌, ◌||◌, ℕ, IfOk, false, length, true};
-ghost use Rattle.pld_base.specs.Bits.{bits};
-ghost use Rattle.pld_device.specs.Registers.{stores};
+ghost use Rattle.fuse_compare.specs.Prelude.{bits, stores};
 ghost use Rattle.fuse_compare.specs.Choosing.{AreKnown, HasKnownPins, HasKnownQs, HoldsRegisters};
 ghost use Rattle.fuse_compare.specs.Choosing.{knows_pin, knows_q};
 ghost use Rattle.fuse_compare.specs.Cut.{AreOnce};

@@ -1,7 +1,7 @@
 //! Comparing two fuse lists of one device.
 
 ghost use Rattle.std.specs.Prelude.{◌≡◌, IfErr, IfOk, IfSome, None, Ok, length};
-ghost use Rattle.pld_device.specs.Macrocells.{device_logic};
+ghost use Rattle.fuse_compare.specs.Prelude.{device_logic};
 ghost use Rattle.fuse_compare.specs.Alike.{FindsDifference, RunsAlike};
 ghost use Rattle.fuse_compare.specs.Compared.{CanBeCompared, IsCompareFault, IsPlainState};
 

@@ -5,9 +5,7 @@
 //! can drive it, and a stored 0 rests as 0; a stored 1 rests as 1 in a register that is never reset.
 
 ghost use Rattle.std.specs.Prelude.{◌≡◌, ◌<◌, ◌||◌, false, not, slice_set, true};
-ghost use Rattle.pld_base.specs.Bits.{bits, is_on, same_level};
-ghost use Rattle.pld_base.specs.Points.{IsPoint, Levels};
-ghost use Rattle.device_logic.specs.RowMasks.{HoldsWith, holds};
+ghost use Rattle.fuse_compare.specs.Prelude.{bits, is_on, same_level, IsPoint, Levels, HoldsWith, holds};
 ghost use Rattle.fuse_compare.specs.Cut.{some_holds};
 
 use crate::state::State;

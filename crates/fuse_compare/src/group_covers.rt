@@ -5,8 +5,8 @@
 //! of the row's cube. A group has few rows, so that this is soon decided.
 
 ghost use Rattle.std.specs.Prelude.{◌≡◌, ◌+◌, ◌*◌, ◌≤◌, ◌↔◌, IfOk, IsTrue, length};
+ghost use Rattle.fuse_compare.specs.Prelude.{AllAskBelow, AsksBelow};
 ghost use Rattle.covers.specs.Covers.{CoversCube};
-ghost use Rattle.covers.specs.Cubes.{AllAskBelow, AsksBelow};
 ghost use Rattle.fuse_compare.specs.OwnRows.{InArray, IsGroupCover};
 
 use crate::group::Group;

@@ -1,11 +1,7 @@
 //! What is known of two loaded devices before they are searched.
 
 ghost use Rattle.std.specs.Prelude.{◌≡◌, ◌<◌, ℕ, IfOk, false, length};
-ghost use Rattle.pld_base.specs.Bits.{bits};
-ghost use Rattle.pld_base.specs.Points.{IsPoint, Levels};
-ghost use Rattle.pld_device.specs.Macrocells.{enabled_by};
-ghost use Rattle.device_logic.specs.Array.{EnableInRange};
-ghost use Rattle.device_logic.specs.DeviceLookups.{device_lookups};
+ghost use Rattle.fuse_compare.specs.Prelude.{bits, IsPoint, Levels, enabled_by, EnableInRange, device_lookups};
 ghost use Rattle.fuse_compare.specs.Cut.{AreFreePins, AreKeptQs, DifferWithin};
 ghost use Rattle.fuse_compare.specs.OwnRows.{NeverDrives, NeverResets};
 ghost use Rattle.fuse_compare.specs.Searching.{IsCut};

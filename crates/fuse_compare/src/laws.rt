@@ -1,8 +1,7 @@
 //! Laws of logics that are alike, as the contracts of calls that do nothing.
 
 ghost use Rattle.std.specs.Prelude.{◌≡◌, ◌<◌};
-ghost use Rattle.pld_base.specs.Logic.{Logic};
-ghost use Rattle.pld_machine.specs.Steps.{RestsOnce};
+ghost use Rattle.fuse_compare.specs.Prelude.{Logic, RestsOnce};
 ghost use Rattle.pld_machine.specs.Refines.{Refines};
 ghost use Rattle.pld_machine.specs.Comparison.{HasNoNodes};
 ghost use Rattle.fuse_compare.specs.Alike.{AreAlike, RunsAlike};

@@ -1,14 +1,8 @@
 //! A device with its fuses as a logic whose rows are masks.
 
 ghost use Rattle.std.specs.Prelude.{◌≡◌, ◌<◌, IfErr, IfOk, length};
-ghost use Rattle.pld_device.specs.Macrocells.{device_logic};
-ghost use Rattle.pld_machine.specs.Lookups.{logic_of};
-ghost use Rattle.pld_machine.specs.Order.{IsOrdered};
-ghost use Rattle.pld_machine.specs.Steps.{IsDetermined};
-ghost use Rattle.device_logic.specs.DeviceLookups.{device_lookups};
-ghost use Rattle.device_logic.specs.LoadFaults.{IsLoadFault};
+ghost use Rattle.fuse_compare.specs.Prelude.{device_logic, logic_of, IsOrdered, IsDetermined, device_lookups, IsLoadFault, IsMask};
 ghost use Rattle.device_logic.specs.PairCubes.{IsPairCube};
-ghost use Rattle.device_logic.specs.RowMasks.{IsMask};
 ghost use Rattle.fuse_compare.specs.Compared.{CanBeLoaded};
 
 use covers::Cube;

@@ -5,8 +5,7 @@
 //! it, be it together. So none is left where the groups say the same by other rows.
 
 ghost use Rattle.std.specs.Prelude.{◌≡◌, ◌<◌, ℕ, IfOk, IfSome, length, true};
-ghost use Rattle.pld_device.specs.Macrocells.{enabled_by, row_if_any};
-ghost use Rattle.device_logic.specs.Array.{EnableInRange};
+ghost use Rattle.fuse_compare.specs.Prelude.{enabled_by, row_if_any, EnableInRange};
 ghost use Rattle.fuse_compare.specs.OwnRows.{AreOwn, Covers, InArray, MakesCell, MakesSame};
 ghost use Rattle.fuse_compare.specs.OwnRows.{SameKind, StoreSame, some_row};
 

@@ -1,8 +1,7 @@
 //! Which pins and Qs the rows of a device read.
 
 ghost use Rattle.std.specs.Prelude.{◌≡◌, ◌<◌, length};
-ghost use Rattle.pld_device.specs.LawTests.Cells.{is_enable_pin};
-ghost use Rattle.device_logic.specs.Array.{CarryInRange};
+ghost use Rattle.fuse_compare.specs.Prelude.{is_enable_pin, CarryInRange};
 ghost use Rattle.fuse_compare.specs.DeviceKnown.{carries, enables_some, is_level_of, is_q_of, known_of};
 ghost use Rattle.fuse_compare.specs.DeviceKnown.{reads_at, row_reads_some, some_read};
 

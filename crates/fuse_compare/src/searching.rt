@@ -8,9 +8,7 @@
 
 ghost use Rattle.std.specs.Prelude.{◌≡◌, ◌<◌, ◌≤◌, IfSome, List, Bool, None, Some, drop, false};
 ghost use Rattle.std.specs.Prelude.{length, slice_get, true};
-ghost use Rattle.pld_base.specs.Bits.{bits};
-ghost use Rattle.pld_base.specs.Points.{levels_of};
-ghost use Rattle.pld_machine.specs.Lookups.{logic_of};
+ghost use Rattle.fuse_compare.specs.Prelude.{bits, levels_of, logic_of};
 ghost use Rattle.fuse_compare.specs.Alike.{FindsDifference, IsDifference};
 ghost use Rattle.fuse_compare.specs.Cut.{IsDecided};
 ghost use Rattle.fuse_compare.specs.Searching.{CanSearch};

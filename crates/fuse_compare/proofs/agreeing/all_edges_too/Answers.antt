@@ -1,6 +1,5 @@
 use Rattle.std.proofs.Common.{◌≡◌, true, sym, ◌∙◌, below_more}
-use Rattle.pld_base.specs.Points.{levels_of}
-use Rattle.fuse_compare.specs.OneState.{edge_too}
+use Rattle.fuse_compare.proofs.Common.{levels_of, edge_too}
 use Rattle.fuse_compare.proofs.agreeing.all_edges_too.Goals as goal
 
 pub loop-cell-preserved : goal.loop-cell-preserved

@@ -1,6 +1,5 @@
 use Rattle.std.proofs.Common.{◌≡◌, ℕ, ◌<◌, true}
-use Rattle.pld_base.specs.Points.{levels_of}
-use Rattle.fuse_compare.specs.OneState.{edge_too}
+use Rattle.fuse_compare.proofs.Common.{levels_of, edge_too}
 use Rattle.fuse_compare.proofs.agreeing.all_edges_too.Given as goal
 
 abbrev pub invariant-loop-cell : goal.invariant-loop-cell

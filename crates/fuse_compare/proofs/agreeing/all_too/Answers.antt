@@ -1,7 +1,5 @@
 use Rattle.std.proofs.Common.{◌≡◌, true, sym, ◌∙◌, below_more}
-use Rattle.pld_base.specs.Bits.{bits}
-use Rattle.pld_base.specs.Points.{levels_of}
-use Rattle.fuse_compare.specs.OneState.{cell_too}
+use Rattle.fuse_compare.proofs.Common.{bits, levels_of, cell_too}
 use Rattle.fuse_compare.proofs.agreeing.all_too.Goals as goal
 
 pub loop-cell-preserved : goal.loop-cell-preserved

@@ -1,7 +1,5 @@
 use Rattle.std.proofs.Common.{◌≡◌, ℕ, ◌<◌, true}
-use Rattle.pld_base.specs.Bits.{bits}
-use Rattle.pld_base.specs.Points.{levels_of}
-use Rattle.fuse_compare.specs.OneState.{cell_too}
+use Rattle.fuse_compare.proofs.Common.{bits, levels_of, cell_too}
 use Rattle.fuse_compare.proofs.agreeing.all_too.Given as goal
 
 abbrev pub invariant-loop-cell : goal.invariant-loop-cell

@@ -1,5 +1,4 @@
-use Rattle.pld_base.specs.Bits.{bits}
-use Rattle.pld_base.proofs.BitLemmas.{length-bits}
+use Rattle.fuse_compare.proofs.Common.{bits, length-bits}
 use Rattle.fuse_compare.proofs.Gathered.{chosen_other, chosen_same}
 use Rattle.fuse_compare.proofs.choosing.choose.Goals as goal
 

@@ -1,5 +1,5 @@
 use Rattle.std.proofs.Common.{◌≡◌, ℕ, ◌<◌}
-use Rattle.pld_device.specs.Registers.{stores}
+use Rattle.fuse_compare.proofs.Common.{stores}
 use Rattle.fuse_compare.proofs.choosing.has_same_registers.Given as goal
 
 abbrev pub invariant-loop-cell : goal.invariant-loop-cell

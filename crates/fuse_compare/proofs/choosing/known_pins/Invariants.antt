@@ -1,4 +1,4 @@
-use Rattle.fuse_compare.specs.Choosing.{HasKnownPins}
+use Rattle.fuse_compare.proofs.Common.{HasKnownPins}
 use Rattle.fuse_compare.proofs.choosing.known_pins.Given as goal
 
 abbrev pub invariant-loop-pin : goal.invariant-loop-pin

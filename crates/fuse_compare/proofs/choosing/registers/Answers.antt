@@ -1,6 +1,5 @@
 use Rattle.std.proofs.Common.{sym, ◌∙◌, arith}
-use Rattle.pld_base.specs.Bits.{bits}
-use Rattle.pld_base.proofs.BitLemmas.{length-bits}
+use Rattle.fuse_compare.proofs.Common.{bits, length-bits}
 use Rattle.fuse_compare.proofs.Gathered.{register_in, register_out, registers_none}
 use Rattle.fuse_compare.proofs.choosing.registers.Goals.{then-either_stores, else-either_stores}
 use Rattle.fuse_compare.proofs.choosing.registers.Goals as goal

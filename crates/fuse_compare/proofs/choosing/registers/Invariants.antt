@@ -1,5 +1,4 @@
-use Rattle.pld_base.specs.Bits.{bits}
-use Rattle.fuse_compare.specs.Choosing.{HoldsRegisters}
+use Rattle.fuse_compare.proofs.Common.{bits, HoldsRegisters}
 use Rattle.fuse_compare.proofs.choosing.registers.Given as goal
 
 abbrev pub invariant-loop-cell : goal.invariant-loop-cell

@@ -1,4 +1,4 @@
-use Rattle.fuse_compare.specs.Choosing.{HasKnownQs}
+use Rattle.fuse_compare.proofs.Common.{HasKnownQs}
 use Rattle.fuse_compare.proofs.choosing.with_known_qs.Given as goal
 
 abbrev pub invariant-loop-cell : goal.invariant-loop-cell

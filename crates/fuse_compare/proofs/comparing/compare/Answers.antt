@@ -1,9 +1,6 @@
 use Rattle.std.proofs.Common.{◌≡◌, Option, None, Result, Ok, length, refl, ◌∙◌}
-use Rattle.pld_base.specs.Bits.{bits}
+use Rattle.fuse_compare.proofs.Common.{bits, AreKnown, HoldsRegisters, AreChosen, Difference}
 use Rattle.device_logic.specs.declared.fault.SimFault.{SimFault}
-use Rattle.fuse_compare.specs.Choosing.{AreKnown, HoldsRegisters}
-use Rattle.fuse_compare.specs.DeviceKnown.{AreChosen}
-use Rattle.fuse_compare.specs.declared.difference.Difference.{Difference}
 use Rattle.fuse_compare.proofs.LoadedPair.{can_search, enough, plain_found, runs_found}
 use Rattle.fuse_compare.proofs.comparing.compare.Goals as goal
 

@@ -1,7 +1,5 @@
 use Rattle.std.proofs.Common.{◌≡◌, true, get_or, ap, subst, ◌∙◌, arith, inl, inr}
-use Rattle.std.proofs.lemmas.Bool.{cases_lt, false_from_ne_true}
-use Rattle.std.proofs.lemmas.List.{get_or_default}
-use Rattle.device_logic.specs.RowMasks.{holds}
+use Rattle.fuse_compare.proofs.Common.{cases_lt, false_from_ne_true, get_or_default, holds}
 use Rattle.fuse_compare.proofs.Decided.{none_holds}
 use Rattle.fuse_compare.proofs.cut.some_meets.Goals as goal
 

@@ -1,7 +1,5 @@
 use Rattle.std.proofs.Common.{◌≡◌, ℕ, ◌<◌, true, false, get_or}
-use Rattle.pld_base.specs.Points.{IsPoint, Levels}
-use Rattle.device_logic.specs.RowMasks.{holds}
-use Rattle.device_logic.specs.declared.row_mask.RowMask.{RowMask}
+use Rattle.fuse_compare.proofs.Common.{IsPoint, Levels, holds, RowMask}
 use Rattle.fuse_compare.proofs.cut.some_meets.Given as goal
 
 abbrev pub invariant-loop-mask : goal.invariant-loop-mask

@@ -1,4 +1,4 @@
-use Rattle.device_logic.specs.DeviceLookups.{device_lookups}
+use Rattle.fuse_compare.proofs.Common.{device_lookups}
 use Rattle.fuse_compare.proofs.Uncut.{no_free}
 use Rattle.fuse_compare.proofs.knowing.free_pins.Goals as goal
 

@@ -1,6 +1,4 @@
-use Rattle.pld_base.specs.Bits.{bits}
-use Rattle.device_logic.specs.DeviceLookups.{device_lookups}
-use Rattle.fuse_compare.specs.Cut.{AreFreePins}
+use Rattle.fuse_compare.proofs.Common.{bits, device_lookups, AreFreePins}
 use Rattle.fuse_compare.proofs.knowing.free_pins.Given as goal
 
 abbrev pub invariant-loop-pin : goal.invariant-loop-pin

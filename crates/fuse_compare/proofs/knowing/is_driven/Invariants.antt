@@ -1,5 +1,5 @@
 use Rattle.std.proofs.Common.{ℕ, ◌<◌}
-use Rattle.fuse_compare.specs.OwnRows.{NeverDrives}
+use Rattle.fuse_compare.proofs.Common.{NeverDrives}
 use Rattle.fuse_compare.proofs.knowing.is_driven.Given as goal
 
 abbrev pub invariant-loop-cell : goal.invariant-loop-cell

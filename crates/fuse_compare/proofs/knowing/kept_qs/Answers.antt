@@ -1,4 +1,4 @@
-use Rattle.device_logic.specs.DeviceLookups.{device_lookups}
+use Rattle.fuse_compare.proofs.Common.{device_lookups}
 use Rattle.fuse_compare.proofs.Uncut.{no_kept}
 use Rattle.fuse_compare.proofs.knowing.kept_qs.Goals as goal
 

@@ -1,6 +1,4 @@
-use Rattle.pld_base.specs.Bits.{bits}
-use Rattle.device_logic.specs.DeviceLookups.{device_lookups}
-use Rattle.fuse_compare.specs.Cut.{AreKeptQs}
+use Rattle.fuse_compare.proofs.Common.{bits, device_lookups, AreKeptQs}
 use Rattle.fuse_compare.proofs.knowing.kept_qs.Given as goal
 
 abbrev pub invariant-loop-cell : goal.invariant-loop-cell

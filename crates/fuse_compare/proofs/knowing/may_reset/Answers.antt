@@ -1,5 +1,5 @@
 use Rattle.std.proofs.Common.{sym, ◌∙◌}
-use Rattle.device_logic.proofs.Ranges.{reset_in}
+use Rattle.fuse_compare.proofs.Common.{reset_in}
 use Rattle.fuse_compare.proofs.knowing.may_reset.Goals as goal
 
 pub mask-requires : goal.mask-requires

@@ -1,8 +1,5 @@
 use Rattle.std.proofs.Common.{refl}
-use Rattle.std.proofs.lemmas.Result.{IfOk-weaker}
-use Rattle.device_logic.specs.DeviceLookups.{device_lookups}
-use Rattle.fuse_compare.specs.Cut.{DifferWithin}
-use Rattle.fuse_compare.specs.OwnRows.{AreOwn}
+use Rattle.fuse_compare.proofs.Common.{IfOk-weaker, device_lookups, DifferWithin, AreOwn}
 use Rattle.fuse_compare.proofs.Covered.{within_own}
 use Rattle.fuse_compare.proofs.Uncut.{within_full}
 use Rattle.fuse_compare.proofs.knowing.own_masks.Goals as goal

@@ -1,5 +1,5 @@
 use Rattle.std.proofs.Common.{ℕ, ◌<◌}
-use Rattle.fuse_compare.specs.OwnRows.{SameKind}
+use Rattle.fuse_compare.proofs.Common.{SameKind}
 use Rattle.fuse_compare.proofs.own_rows.has_same_kinds.Given as goal
 
 abbrev pub invariant-loop-cell : goal.invariant-loop-cell

@@ -1,9 +1,5 @@
-use Rattle.std.proofs.lemmas.Result.{IfOk-weaker}
-use Rattle.pld_device.specs.Macrocells.{row_if_any}
+use Rattle.fuse_compare.proofs.Common.{IfOk-weaker, row_if_any, cases_lt, preset_if_any, reset_if_any, AreOwn, MakesSame, SameCell}
 use Rattle.std.proofs.Common.{◌≡◌, ℕ, ◌<◌, length, subst, sym, ◌∙◌, arith, inl, inr}
-use Rattle.std.proofs.lemmas.Bool.{cases_lt}
-use Rattle.device_logic.proofs.Ranges.{preset_if_any, reset_if_any}
-use Rattle.fuse_compare.specs.OwnRows.{AreOwn, MakesSame, SameCell}
 use Rattle.fuse_compare.proofs.Covered.{all_own, cell_longer}
 use Rattle.fuse_compare.proofs.own_rows.own_rows.Goals as goal
 

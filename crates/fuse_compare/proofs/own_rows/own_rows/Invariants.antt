@@ -1,5 +1,5 @@
 use Rattle.std.proofs.Common.{ℕ, ◌<◌}
-use Rattle.fuse_compare.specs.OwnRows.{SameCell}
+use Rattle.fuse_compare.proofs.Common.{SameCell}
 use Rattle.fuse_compare.proofs.own_rows.own_rows.Given as goal
 
 abbrev pub invariant-loop-cell : goal.invariant-loop-cell

@@ -1,9 +1,5 @@
-use Rattle.std.proofs.lemmas.Result.{IfOk-weaker}
+use Rattle.fuse_compare.proofs.Common.{IfOk-weaker, Cell, enabled_by, MakesCell, MakesSame, some_row, Group}
 use Rattle.std.proofs.Common.{subst}
-use Rattle.pld_device.specs.declared.cell.Cell.{Cell}
-use Rattle.pld_device.specs.Macrocells.{enabled_by}
-use Rattle.fuse_compare.specs.OwnRows.{MakesCell, MakesSame, some_row}
-use Rattle.fuse_compare.specs.declared.group.Group.{Group}
 use Rattle.fuse_compare.proofs.Covered.{makes_cell}
 use Rattle.fuse_compare.proofs.own_rows.with_cell.Goals as goal
 

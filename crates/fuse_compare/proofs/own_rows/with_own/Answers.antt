@@ -1,6 +1,6 @@
 use Rattle.std.proofs.Common.{◌≡◌, ◌≤◌, ◌+◌, ◌*◌, length, subst, sym, arith}
+use Rattle.fuse_compare.proofs.Common.{IsGroupCover}
 use Rattle.covers.specs.Pool.{Pool}
-use Rattle.fuse_compare.specs.OwnRows.{IsGroupCover}
 use Rattle.fuse_compare.proofs.Covered.{covers_all, covers_none, covers_passed, covers_taken}
 use Rattle.fuse_compare.proofs.GroupCovers.{covered_row}
 use Rattle.fuse_compare.proofs.own_rows.with_own.Goals.{then-not-has_cube+in_ok-push, else-not-has_cube}

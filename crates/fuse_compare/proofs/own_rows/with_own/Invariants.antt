@@ -1,5 +1,5 @@
 use Rattle.std.proofs.Common.{◌+◌, ◌*◌, ◌≤◌, length}
-use Rattle.fuse_compare.specs.OwnRows.{IsGroupCover}
+use Rattle.fuse_compare.proofs.Common.{IsGroupCover}
 use Rattle.fuse_compare.proofs.Covered.{CoversBelow}
 use Rattle.fuse_compare.proofs.own_rows.with_own.Given as goal
 

@@ -1,6 +1,4 @@
-use Rattle.std.proofs.lemmas.Result.{IfOk-weaker}
-use Rattle.pld_device.specs.Rows.{row_value}
-use Rattle.fuse_compare.specs.OwnRows.{MakesSame, some_row}
+use Rattle.fuse_compare.proofs.Common.{IfOk-weaker, row_value, MakesSame, some_row}
 use Rattle.fuse_compare.proofs.Covered.{one_row}
 use Rattle.fuse_compare.proofs.own_rows.with_row_if_any.Goals as goal
 

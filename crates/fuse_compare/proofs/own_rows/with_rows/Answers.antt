@@ -1,5 +1,4 @@
-use Rattle.std.proofs.lemmas.Result.{IfOk-weaker}
-use Rattle.fuse_compare.specs.OwnRows.{Covers, MakesSame, some_row}
+use Rattle.fuse_compare.proofs.Common.{IfOk-weaker, Covers, MakesSame, some_row}
 use Rattle.fuse_compare.proofs.Covered.{covers_both}
 use Rattle.fuse_compare.proofs.own_rows.with_rows.Goals as goal
 

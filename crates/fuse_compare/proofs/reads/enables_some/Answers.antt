@@ -1,7 +1,5 @@
 use Rattle.std.proofs.Common.{◌≡◌, false, sym, ap, ◌∙◌, below_more, arith}
-use Rattle.pld_device.specs.declared.cell.Cell.{Cell}
-use Rattle.pld_device.specs.LawTests.Cells.{is_enable_pin}
-use Rattle.pld_device.specs.Table.{cell_at}
+use Rattle.fuse_compare.proofs.Common.{Cell, is_enable_pin, cell_at}
 use Rattle.fuse_compare.proofs.DeviceKnows.{any_cell, no_cell_passes}
 use Rattle.fuse_compare.proofs.reads.enables_some.Goals as goal
 

@@ -1,6 +1,5 @@
 use Rattle.std.proofs.Common.{◌≡◌, ℕ, ◌<◌, false}
-use Rattle.pld_device.specs.LawTests.Cells.{is_enable_pin}
-use Rattle.pld_device.specs.Table.{cell_at}
+use Rattle.fuse_compare.proofs.Common.{is_enable_pin, cell_at}
 use Rattle.fuse_compare.proofs.reads.enables_some.Given as goal
 
 abbrev pub invariant-loop-cell : goal.invariant-loop-cell

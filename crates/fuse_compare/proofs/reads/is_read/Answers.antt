@@ -1,6 +1,5 @@
 use Rattle.std.proofs.Common.{◌≡◌, false, sym, ◌∙◌, below_more, arith}
-use Rattle.device_logic.proofs.Runs.{any_at, any_none}
-use Rattle.fuse_compare.specs.DeviceKnown.{carries, row_reads_some}
+use Rattle.fuse_compare.proofs.Common.{any_at, any_none, carries, row_reads_some}
 use Rattle.fuse_compare.proofs.reads.is_read.Goals as goal
 
 pub returns-then-row_reads : goal.returns-then-row_reads

@@ -1,5 +1,5 @@
 use Rattle.std.proofs.Common.{◌≡◌, ℕ, ◌<◌, false}
-use Rattle.fuse_compare.specs.DeviceKnown.{carries, row_reads_some}
+use Rattle.fuse_compare.proofs.Common.{carries, row_reads_some}
 use Rattle.fuse_compare.proofs.reads.is_read.Given as goal
 
 abbrev pub invariant-loop-row : goal.invariant-loop-row

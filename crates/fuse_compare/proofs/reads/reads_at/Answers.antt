@@ -1,7 +1,6 @@
 use Rattle.std.proofs.Common.{ap, sym, ◌∙◌, refl}
-use Rattle.std.proofs.lemmas.Option.{get_or_from_slice_get}
+use Rattle.fuse_compare.proofs.Common.{get_or_from_slice_get, carries}
 use Rattle.pld_device.specs.declared.carry.Carry.TheVariants as carry
-use Rattle.fuse_compare.specs.DeviceKnown.{carries}
 use Rattle.fuse_compare.proofs.reads.reads_at.Goals as goal
 
 pub returns-then-row_reads : goal.returns-then-row_reads

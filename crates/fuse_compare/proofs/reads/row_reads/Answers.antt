@@ -1,6 +1,5 @@
 use Rattle.std.proofs.Common.{◌≡◌, ◌<◌, length, false, sym, ◌∙◌, below_more, arith}
-use Rattle.device_logic.proofs.Runs.{any_at, any_none}
-use Rattle.fuse_compare.specs.DeviceKnown.{carries, reads_at}
+use Rattle.fuse_compare.proofs.Common.{any_at, any_none, carries, reads_at}
 use Rattle.fuse_compare.proofs.reads.row_reads.Goals as goal
 
 pub returns-then-reads_at : goal.returns-then-reads_at

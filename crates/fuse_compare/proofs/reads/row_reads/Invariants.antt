@@ -1,5 +1,5 @@
 use Rattle.std.proofs.Common.{◌≡◌, ℕ, ◌<◌, false}
-use Rattle.fuse_compare.specs.DeviceKnown.{carries, reads_at}
+use Rattle.fuse_compare.proofs.Common.{carries, reads_at}
 use Rattle.fuse_compare.proofs.reads.row_reads.Given as goal
 
 abbrev pub invariant-loop-pair : goal.invariant-loop-pair

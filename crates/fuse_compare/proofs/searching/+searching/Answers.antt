@@ -1,8 +1,5 @@
 use Rattle.std.proofs.Common.{◌≡◌, ◌+◌, ◌<◌, false, length, drop, subst, add-one, arith, inl, inr}
-use Rattle.pld_base.specs.Bits.{bits}
-use Rattle.pld_base.proofs.BitLemmas.{length-bits}
-use Rattle.fuse_compare.specs.Cut.{IsDecided, some_holds}
-use Rattle.fuse_compare.specs.States.{Varies, VariesAt}
+use Rattle.fuse_compare.proofs.Common.{bits, length-bits, IsDecided, some_holds, Varies, VariesAt}
 use Rattle.fuse_compare.proofs.Answering.{if_some}
 use Rattle.fuse_compare.proofs.Branches.{pin_branch, pin_state, q_branch, q_state}
 use Rattle.fuse_compare.proofs.Decided.{alike_past}

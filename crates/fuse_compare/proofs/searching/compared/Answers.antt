@@ -1,5 +1,4 @@
-use Rattle.pld_base.specs.Bits.{bits}
-use Rattle.pld_machine.specs.Lookups.{logic_of}
+use Rattle.fuse_compare.proofs.Common.{bits, logic_of}
 use Rattle.fuse_compare.proofs.Answering.{finds}
 use Rattle.fuse_compare.proofs.Reached.{alike_everywhere}
 use Rattle.fuse_compare.proofs.searching.compared.Goals as goal

@@ -1,6 +1,4 @@
-use Rattle.pld_base.specs.Bits.{bits}
-use Rattle.pld_base.specs.Points.{levels_of}
-use Rattle.pld_base.proofs.BitLemmas.{length-bits}
+use Rattle.fuse_compare.proofs.Common.{bits, levels_of, length-bits}
 use Rattle.fuse_compare.proofs.Differences.{rest_differs, clock_differs}
 use Rattle.fuse_compare.proofs.Looked.{too_from, too_gives}
 use Rattle.fuse_compare.proofs.searching.difference_at.Goals as goal

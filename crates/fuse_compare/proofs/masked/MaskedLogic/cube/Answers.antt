@@ -1,7 +1,5 @@
 use Rattle.std.proofs.Common.{get_or, sym, subst, ◌∙◌, ap}
-use Rattle.covers.specs.declared.cube.Cube.{Cube}
-use Rattle.device_logic.specs.DeviceLookups.{Loaded}
-use Rattle.device_logic.specs.PairCubes.{IsPairCube}
+use Rattle.fuse_compare.proofs.Common.{Cube, Loaded, IsPairCube}
 use Rattle.fuse_compare.proofs.masked.MaskedLogic.cube.Goals as goal
 
 pub returns : goal.returns
