@@ -1,12 +1,7 @@
 -- Lines of pins that were given, with that of one name more.
 use Rattle.std.proofs.Common.{◌≡◌, ℕ, ◌+◌, ◌<◌, ◌≤◌, Option, None, Some, List, [], ◌∷◌, ◌++◌, map, take, flat_map, length, get_or, min, refl, sym, ap, ◌∙◌, append-nil, arith}
 use Rattle.std.specs.Prelude.{slice_get, option_map, zip}
-use Rattle.std.proofs.lemmas.Grind.{flat_map-append}
-use Rattle.std.proofs.lemmas.List.{length-map, length-take, map-append, take_more}
-use Rattle.std.proofs.lemmas.Option.{slice_get-get_or, slice_get-map, slice_get_past}
-use Rattle.abel_tree.specs.declared.names.Declared.{Declared}
-use Rattle.abel_tree.specs.Entries.{Entry, view_declared}
-use Rattle.fuse_listing.specs.Listing.{given_line, given_lines}
+use Rattle.fuse_listing.proofs.Common.{flat_map-append, length-map, length-take, map-append, take_more, slice_get-get_or, slice_get-map, slice_get_past, Declared, Entry, view_declared, given_line, given_lines}
 use Rattle.fuse_listing.proofs.Joined.{one_more}
 
 -- a name with its like, if there is one

@@ -1,3 +1,4 @@
+pub mod Common
 pub mod GivenLines
 pub mod Joined
 pub mod Ranges

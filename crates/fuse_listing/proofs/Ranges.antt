@@ -1,13 +1,10 @@
 -- What a device's laws say of the numbers that its look-ups answer.
 use Rattle.std.proofs.Common.{◌≡◌, ℕ, ◌+◌, ◌*◌, ◌≤◌, Some, slice_get, sym, subst, arith}
-use Rattle.std.proofs.Math.Nat.{le-mul_of_pos_right, mul_comm}
-use Rattle.std.proofs.lemmas.Option.{get_or_from_slice_get, slice_get_within}
+use Rattle.fuse_listing.proofs.Common.{le-mul_of_pos_right, mul_comm, get_or_from_slice_get, slice_get_within, Table, cell_at, no_cell, CarryIsThere}
 use Rattle.pld_device.specs.declared.carry.Carry.{Carry}
 use Rattle.pld_device.specs.declared.carry.Carry.TheVariants as carry
 use Rattle.pld_device.specs.declared.cell.Cell.{Cell}
-use Rattle.pld_device.specs.Table.{Table, cell_at, no_cell}
 use Rattle.pld_device.specs.Laws.{IsPair, IsCell, IsDevice}
-use Rattle.fuse_listing.specs.Listing.{CarryIsThere}
 
 module _ (t : Table) (laws : IsDevice t) where
   pub carry_is_there : (pair : ℕ) (x : Carry) → slice_get t.pairs pair ≡ Some x → CarryIsThere t x

@@ -1,9 +1,7 @@
 -- Five pieces were appended, one behind the other.
 use Rattle.std.proofs.Common.{◌++◌, refl}
-use Rattle.std.proofs.lemmas.Result.{on_ok_weaker}
+use Rattle.fuse_listing.proofs.Common.{on_ok_weaker, view_declared, chosen_text, kind_text, pin_text, polarity_text, use_text}
 use Rattle.std.specs.Prelude.{codes}
-use Rattle.abel_tree.specs.Entries.{view_declared}
-use Rattle.fuse_listing.specs.Listing.{chosen_text, kind_text, pin_text, polarity_text, use_text}
 use Rattle.fuse_listing.proofs.Joined.{one_more}
 use Rattle.fuse_listing.proofs.cells.put_head.Goals as goal
 

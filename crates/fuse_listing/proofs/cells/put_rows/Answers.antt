@@ -1,6 +1,5 @@
 use Rattle.std.proofs.Common.{◌∙◌}
-use Rattle.abel_tree.specs.Entries.{entries_of}
-use Rattle.fuse_listing.specs.Listing.{line_if_used}
+use Rattle.fuse_listing.proofs.Common.{entries_of, line_if_used}
 use Rattle.fuse_listing.proofs.Joined.{next_row_at}
 use Rattle.fuse_listing.proofs.cells.put_rows.Goals as goal
 

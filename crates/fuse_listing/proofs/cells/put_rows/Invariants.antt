@@ -1,7 +1,5 @@
 use Rattle.std.proofs.Common.{◌≡◌, ◌++◌, flat_map}
-use Rattle.std.specs.List.{range_with_len}
-use Rattle.abel_tree.specs.Entries.{entries_of}
-use Rattle.fuse_listing.specs.Listing.{line_if_used}
+use Rattle.fuse_listing.proofs.Common.{range_with_len, entries_of, line_if_used}
 use Rattle.fuse_listing.proofs.cells.put_rows.Given as goal
 
 abbrev pub invariant-loop-offset : goal.invariant-loop-offset

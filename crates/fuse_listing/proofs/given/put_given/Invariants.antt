@@ -1,7 +1,6 @@
 -- The names so far.
 use Rattle.std.proofs.Common.{◌≡◌, ◌++◌, map, take}
-use Rattle.abel_tree.specs.Entries.{view_declared}
-use Rattle.fuse_listing.specs.Listing.{given_lines}
+use Rattle.fuse_listing.proofs.Common.{view_declared, given_lines}
 use Rattle.fuse_listing.proofs.given.put_given.Given as goal
 
 abbrev pub invariant-loop-place : goal.invariant-loop-place

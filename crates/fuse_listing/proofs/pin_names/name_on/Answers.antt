@@ -1,6 +1,5 @@
 use Rattle.std.proofs.Common.{◌≡◌, ◌∙◌, sym, false, true}
-use Rattle.abel_tree.specs.Entries.{view_declared}
-use Rattle.fuse_listing.specs.Listing.{is_on_pin}
+use Rattle.fuse_listing.proofs.Common.{view_declared, is_on_pin}
 use Rattle.fuse_listing.proofs.Joined.{next_name, found_name, no_name_left}
 use Rattle.fuse_listing.proofs.pin_names.name_on.Goals as goal
 

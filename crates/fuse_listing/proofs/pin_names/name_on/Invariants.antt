@@ -1,6 +1,5 @@
 use Rattle.std.proofs.Common.{◌≡◌, drop, map}
-use Rattle.abel_tree.specs.Entries.{view_declared}
-use Rattle.fuse_listing.specs.Listing.{name_on}
+use Rattle.fuse_listing.proofs.Common.{view_declared, name_on}
 use Rattle.fuse_listing.proofs.pin_names.name_on.Given as goal
 
 abbrev pub invariant-loop-declared : goal.invariant-loop-declared

@@ -1,6 +1,5 @@
 use Rattle.std.proofs.Common.{◌≡◌, ◌∙◌, ℕ, Bool, not, ap, sym, arith}
-use Rattle.abel_tree.specs.Entries.{entries_of}
-use Rattle.fuse_listing.specs.Listing.{column_literal, is_opened}
+use Rattle.fuse_listing.proofs.Common.{entries_of, column_literal, is_opened}
 use Rattle.fuse_listing.proofs.Joined.{none_joined, one_joined, one_passed, all_joined}
 use Rattle.fuse_listing.proofs.rows.put_product.Goals as goal
 use Rattle.fuse_listing.proofs.rows.put_product.Goals.{then-not-is_opened+in_ok-put_literal, else-not-is_opened}

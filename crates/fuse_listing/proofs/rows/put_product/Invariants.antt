@@ -1,6 +1,5 @@
 use Rattle.std.proofs.Common.{not}
-use Rattle.abel_tree.specs.Entries.{entries_of}
-use Rattle.fuse_listing.specs.Listing.{column_literal, is_opened}
+use Rattle.fuse_listing.proofs.Common.{entries_of, column_literal, is_opened}
 use Rattle.fuse_listing.proofs.Joined.{HasJoined}
 use Rattle.fuse_listing.proofs.rows.put_product.Given as goal
 

@@ -1,6 +1,5 @@
 use Rattle.std.proofs.Common.{◌∙◌}
-use Rattle.abel_tree.specs.Entries.{entries_of}
-use Rattle.fuse_listing.specs.Listing.{assigned_text}
+use Rattle.fuse_listing.proofs.Common.{entries_of, assigned_text}
 use Rattle.fuse_listing.proofs.Joined.{next_cell}
 use Rattle.fuse_listing.proofs.whole.put_cells.Goals as goal
 
