@@ -2,37 +2,18 @@
 -- says of all.
 use Rattle.std.proofs.Common.{◌≡◌, ℕ, ◌<◌, ◌≤◌, ◌-◌, Bool, true, false, not, ◌&&◌, ◌||◌, List, [], ◌∷◌, ◌++◌, length, get_or, take, drop, Option, Some, None, refl, sym, ap, ap₂, ◌∙◌, arith, inl, inr}
 use Rattle.std.specs.Prelude.{filter, fold, is_some, if◌then◌else◌}
-use Rattle.std.specs.List.{list_any, list_all}
-use Rattle.std.proofs.lemmas.Bool.{cases_Bool}
-use Rattle.std.proofs.lemmas.List.{map-append, take_all}
-use Rattle.std.proofs.lemmas.List.Elements.{filter-append}
+use Rattle.gathering.proofs.Common.{list_any, list_all, cases_Bool, map-append, take_all, filter-append, Control, ExprId, formula_at, Made, make_not, make_or, Formula, Const, Extension, is_control, is_the_control, control_by, control_of, Context, formulas, is_data_to, is_data_in, is_free_elsewhere, is_both, is_complement, is_raw_signal, both_function, single_function, function_of, view_contribution, Contribution, Totals, contributions_in, first_target, target_place, IsFunctionGiven, IsControlGiven, AreGiven, is_for, is_to, is_data_of, is_data_of_polarity, is_free_one, Stands, part_sum, bit_of, IsFunctionIn}
 use Rattle.std.proofs.lemmas.List.Sums.{fold-append}
-use Rattle.bit_expr.specs.declared.netlist.Control.{Control}
-use Rattle.bit_expr.specs.declared.node.ExprId.{ExprId}
-use Rattle.bit_expr.specs.Arena.{formula_at}
-use Rattle.bit_expr.specs.Folding.{Made, make_not, make_or}
-use Rattle.bit_expr.specs.Formulas.{Formula, Const}
 use Rattle.bit_expr.proofs.FoldingCases.{or_zero_right}
-use Rattle.abel_tree.specs.declared.words.Extension.{Extension}
 use Rattle.abel_tree.specs.declared.words.Extension.TheVariants as extension
 use Rattle.abel_tree.specs.Extensions.{is_data, is_raw}
 use Rattle.abel_meaning.specs.Contributions as meant
-use Rattle.abel_meaning.specs.Controls.{is_control, is_the_control, control_by, control_of}
-use Rattle.abel_meaning.specs.Designs.{Context}
-use Rattle.abel_meaning.specs.FormulaBits.{formulas}
-use Rattle.abel_meaning.specs.Functions.{is_data_to, is_data_in, is_free_elsewhere, is_both, is_complement, is_raw_signal, both_function, single_function, function_of}
 use Rattle.abel_meaning.specs.Functions as meant_function
-use Rattle.set_expr.specs.Given.{view_contribution}
-use Rattle.set_expr.specs.declared.contributions.Contribution.{Contribution}
 use Rattle.set_expr.specs.declared.contributions.Gives.TheVariants as gives
 use Rattle.gathering.specs.declared.parts.Part.{Part}
 use Rattle.gathering.specs.declared.parts.Part.TheVariants as part
-use Rattle.gathering.specs.declared.signal.Totals.{Totals}
 use Rattle.gathering.specs.declared.sums.Step.{Step}
 use Rattle.gathering.specs.declared.sums.Step.TheVariants as step
-use Rattle.gathering.specs.Amounts.{contributions_in, first_target, target_place, IsFunctionGiven, IsControlGiven, AreGiven}
-use Rattle.gathering.specs.Parts.{is_for, is_to, is_data_of, is_data_of_polarity, is_free_one, Stands, part_sum, bit_of}
-use Rattle.abel_meaning.specs.SoundIds.{IsFunctionIn}
 use Rattle.gathering.proofs.SeenLists.{any_map, all_map, filter_own, any_own, all_own, find_own}
 use Rattle.gathering.proofs.Standing.{same_seen}
 

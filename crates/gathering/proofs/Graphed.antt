@@ -1,28 +1,13 @@
 -- The graph of links is that of a design's signals.
 use Rattle.std.proofs.Common.{◌≡◌, ℕ, ◌<◌, ◌==◌, Bool, true, false, not, ◌&&◌, ◌||◌, List, length, get_or, map, Option, Some, None, eqb, refl, sym, ap, ◌∙◌, subst, arith}
 use Rattle.std.specs.Prelude.{All, is_some, IsSome, option_map, position, unwrap_or, if◌then◌else◌}
-use Rattle.std.proofs.lemmas.Bool.{and_parts, eq-eqb, eqb-true}
+use Rattle.gathering.proofs.Common.{and_parts, eq-eqb, eqb-true, has, eqb_same, Table, Leaf, Reads, IsLeaf, AreReads, Kind, APin, ANode, AConstant, ADeviceName, Entry, is_stored, Design, name_at, no_name, given_formulas, leaf_by, leaf_of, settles, settles_by, signal_names, signal_reads, is_one_of, reset_equation_reads, is_stored_signal, IsSignalLoop, HasNoSignalLoop, IsSignalPath, HasNoSignalPath, cell_by, Link, has_leaf, has_if_any, leaf_in, is_read_by, link_reads, is_stored_in, AreLeaves, IsFirstChain, HasNoChain, IsRegisterPath, HasNoRegisterPath, is_node_kind, is_linked, IsLinkOf, AreLinks, AssignedHaveCells, reset_names}
 use Rattle.std.proofs.lemmas.List.Folds.{list_any_at}
 use Rattle.std.proofs.lemmas.List.Quantifiers.{position-Some}
-use Rattle.pld_order.specs.Graphs.{has}
-use Rattle.pld_order.proofs.Lists.{eqb_same}
-use Rattle.pld_device.specs.Table.{Table}
-use Rattle.bit_expr.specs.declared.node.Leaf.{Leaf}
 use Rattle.bit_expr.specs.declared.node.Leaf.TheVariants as leaf
-use Rattle.bit_expr.specs.declared.reads.Reads.{Reads}
-use Rattle.bit_expr.specs.Arena.{IsLeaf}
-use Rattle.bit_expr.specs.Reading.{AreReads}
-use Rattle.abel_tree.specs.Entries.{Kind, APin, ANode, AConstant, ADeviceName, Entry, is_stored}
 use Rattle.pld_device.specs.Pins.{cell_on}
-use Rattle.abel_meaning.specs.Designs.{Design, name_at, no_name}
-use Rattle.abel_meaning.specs.SignalReads.{given_formulas, leaf_by, leaf_of, settles, settles_by, signal_names, signal_reads, is_one_of, reset_equation_reads, is_stored_signal, IsSignalLoop, HasNoSignalLoop, IsSignalPath, HasNoSignalPath}
-use Rattle.netlist_laws.specs.Gathered.{cell_by}
 use Rattle.netlist_laws.proofs.SoundLeaves.{some_place}
-use Rattle.gathering.specs.declared.link.Link.{Link}
-use Rattle.gathering.specs.Links.{has_leaf, has_if_any, leaf_in, is_read_by, link_reads, is_stored_in, AreLeaves, IsFirstChain, HasNoChain, IsRegisterPath, HasNoRegisterPath}
 use Rattle.gathering.proofs.LinkSets.{leaf_there, stored_there, reads_there}
-use Rattle.gathering.specs.Linked.{is_node_kind, is_linked, IsLinkOf, AreLinks}
-use Rattle.gathering.specs.Resets.{AssignedHaveCells, reset_names}
 use Rattle.gathering.proofs.LinkFacts.{Facts, facts}
 use Rattle.gathering.proofs.Renamed.{no_loop_up, least_up, path_up, no_path_up}
 

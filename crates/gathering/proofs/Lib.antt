@@ -1,9 +1,10 @@
+pub mod Common
 pub mod GivenAmounts
 pub mod Graphed
 pub mod LinkFacts
 pub mod LinkSets
-pub mod SeenLists
 mod Pushed
 mod Renamed
 pub mod SameChains
+pub mod SeenLists
 pub mod Standing

@@ -1,12 +1,7 @@
 -- What the links of a design say of its signals, by their places among the links.
 use Rattle.std.proofs.Common.{◌≡◌, ℕ, zero, suc, ◌+◌, ◌<◌, true, false, List, [], ◌∷◌, length, get_or, refl, sym, ◌∙◌, subst, arith, inl, inr}
-use Rattle.std.proofs.lemmas.Bool.{cases_Bool, true≢false}
-use Rattle.bit_expr.specs.Formulas.{Formula}
-use Rattle.abel_tree.specs.Entries.{Entry}
+use Rattle.gathering.proofs.Common.{cases_Bool, true≢false, Formula, Entry, Context, no_name, Link, is_linked, IsLinkOf, StartsIf, AreLinksFrom}
 use Rattle.abel_meaning.specs.Contributions as meant
-use Rattle.abel_meaning.specs.Designs.{Context, no_name}
-use Rattle.gathering.specs.declared.link.Link.{Link}
-use Rattle.gathering.specs.Linked.{is_linked, IsLinkOf, StartsIf, AreLinksFrom}
 
 module _ (d : Context) (cs : List (meant.Contribution Formula)) where
   -- the link at a place is that of a name of the list that is linked

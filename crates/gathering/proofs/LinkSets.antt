@@ -1,11 +1,6 @@
 -- Sets of signals, filled one after another.
 use Rattle.std.proofs.Common.{◌≡◌, ℕ, zero, suc, ◌+◌, ◌<◌, Bool, true, false, ◌==◌, ◌&&◌, ◌||◌, nat_lt, List, [], ◌∷◌, ◌++◌, length, get_or, refl, sym, ap, ◌∙◌, inl, inr, arith}
-use Rattle.std.proofs.lemmas.Bool.{cases_lt, cases_eq, eq-eqb, ne_eqb, lt-ltb, le-ltb}
-use Rattle.std.proofs.lemmas.List.{get_or_append_left, get_or_push}
-use Rattle.pld_base.specs.Bits.{is_on}
-use Rattle.pld_order.specs.Sets.{reads_of}
-use Rattle.gathering.specs.declared.link.Link.{Link}
-use Rattle.gathering.specs.Links.{leaf_in, is_read_by, reads_in, is_stored_in}
+use Rattle.gathering.proofs.Common.{cases_lt, cases_eq, eq-eqb, ne_eqb, lt-ltb, le-ltb, get_or_append_left, get_or_push, is_on, reads_of, Link, leaf_in, is_read_by, reads_in, is_stored_in}
 
 -- the parts of a signal by its number
 pub leaf_there : (rs : List Link) (v : ℕ) (d : Link) → v < length rs → leaf_in rs v ≡ (get_or rs v d).leaf

@@ -1,33 +1,14 @@
 -- One name more asks what it asks, over an arena that grows.
 use Rattle.std.proofs.Common.{◌≡◌, ℕ, suc, Bool, true, false, List, [], ◌∷◌, ◌++◌, length, map, append_assoc, Option, Some, None, refl, sym, ap, ◌∙◌, subst}
 use Rattle.std.specs.Prelude.{All, option_map, unwrap_or}
-use Rattle.std.proofs.lemmas.List.Elements.{All-nil, All-push}
-use Rattle.std.proofs.lemmas.List.{map-append, append-nil}
+use Rattle.gathering.proofs.Common.{All-nil, All-push, map-append, append-nil, Table, cell_at, Control, Formula, Extension, Kind, APin, ANode, AConstant, ADeviceName, Entry, is_stored, control_of, control_if_stored, Context, formulas, function_of, is_raw_signal, IsFunctionIn, IsControlIn, IsCellIn, Contribution, Totals, contributions_in, AreGiven, first_target, target_place, control_place, by_row, wanted_for, cell_of, cell_by, and_cell, cells_from, and_node, nodes_from, Link, is_node_kind, is_linked, IsLinkOf, AreLinksFrom, control_by_row, control_if, asked_cell, Asks, AsksBefore, IsControlPlaced, IsPlaced}
 use Rattle.pld_device.specs.declared.enable.Enable.{Enable}
 use Rattle.pld_device.specs.declared.enable.Enable.TheVariants.{Row, PinLow}
-use Rattle.pld_device.specs.Table.{Table, cell_at}
-use Rattle.bit_expr.specs.declared.netlist.Control.{Control}
-use Rattle.bit_expr.specs.Formulas.{Formula}
-use Rattle.abel_tree.specs.declared.words.Extension.{Extension}
 use Rattle.abel_tree.specs.declared.words.Extension.TheVariants as extension
-use Rattle.abel_tree.specs.Entries.{Kind, APin, ANode, AConstant, ADeviceName, Entry, is_stored}
 use Rattle.abel_meaning.specs.Contributions as meant
-use Rattle.abel_meaning.specs.Controls.{control_of, control_if_stored}
-use Rattle.abel_meaning.specs.Designs.{Context}
-use Rattle.abel_meaning.specs.FormulaBits.{formulas}
-use Rattle.abel_meaning.specs.Functions.{function_of, is_raw_signal}
 use Rattle.abel_meaning.specs.Functions as meant_function
 use Rattle.abel_meaning.specs.Netlists.{plain_function, plain_control, plain_wanted}
-use Rattle.abel_meaning.specs.SoundIds.{IsFunctionIn, IsControlIn, IsCellIn}
-use Rattle.set_expr.specs.declared.contributions.Contribution.{Contribution}
-use Rattle.gathering.specs.declared.signal.Totals.{Totals}
-use Rattle.gathering.specs.Amounts.{contributions_in, AreGiven, first_target, target_place, control_place}
-use Rattle.netlist_laws.specs.Gathered.{by_row, wanted_for, cell_of, cell_by, and_cell, cells_from, and_node, nodes_from}
 use Rattle.gathering.specs.declared.asked.Asked.{Asked}
-use Rattle.gathering.specs.declared.link.Link.{Link}
-use Rattle.gathering.specs.Linked.{is_node_kind, is_linked, IsLinkOf, AreLinksFrom}
-use Rattle.gathering.specs.Asking.{control_by_row, control_if, asked_cell, Asks, AsksBefore}
-use Rattle.gathering.specs.Placed.{IsControlPlaced, IsPlaced}
 
 -- ---- a cell of a signal
 

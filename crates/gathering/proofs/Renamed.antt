@@ -1,11 +1,7 @@
 -- Vertices by other names: a graph and a larger one, of whose vertices only those of the first graph read or are read, have
 -- the same loops and paths.
 use Rattle.std.proofs.Common.{◌≡◌, ◌≢◌, ℕ, ◌<◌, ◌≤◌, Bool, true, false, eqb, List, [], ◌∷◌, ◌++◌, map, get_or, refl, ap, ap₂, sym, ◌∙◌, subst, arith, eqb-true, ne_eqb, inl, inr}
-use Rattle.std.specs.List.{IsDistinct, AllByRecursion}
-use Rattle.std.proofs.lemmas.Bool.{true≢false, cases_eq, cases_lt, eq-eqb, or_cases, or_left, or_right}
-use Rattle.std.proofs.lemmas.List.{map-append}
-use Rattle.pld_order.specs.Graphs.{has, IsChain, IsLoop, IsLeastLoop, HasNoLoop, IsPath, HasNoPath}
-use Rattle.pld_order.proofs.Lists.{eqb_same, has_push}
+use Rattle.gathering.proofs.Common.{IsDistinct, AllByRecursion, true≢false, cases_eq, cases_lt, eq-eqb, or_cases, or_left, or_right, map-append, has, IsChain, IsLoop, IsLeastLoop, HasNoLoop, IsPath, HasNoPath, eqb_same, has_push}
 
 first_in : (x : ℕ) (xs : List ℕ) → has (x ∷ xs) x ≡ true
 first_in x xs = or_left (eqb x x) (has xs x) (eqb_same x)

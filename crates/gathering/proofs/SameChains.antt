@@ -1,7 +1,6 @@
 -- What is found in the sets that signals read is so of the signals.
 use Rattle.std.proofs.Common.{◌≡◌, ℕ, ◌<◌, Bool, List, length, sym, subst}
-use Rattle.pld_order.specs.Graphs.{IsOrder, IsLeastLoop, HasNoLoop, IsPath, HasNoPath}
-use Rattle.pld_order.specs.Sets.{reads_of}
+use Rattle.gathering.proofs.Common.{IsOrder, IsLeastLoop, HasNoLoop, IsPath, HasNoPath, reads_of}
 use Rattle.pld_order.proofs.SameGraphs.{order_same, no_loop_same, least_same, path_same, no_path_same}
 
 module _ (n : ℕ) (r : ℕ → ℕ → Bool) (items sets : List (List Bool)) (is : sets ≡ items) (count : length items ≡ n) (same : (v w : ℕ) → v < n → w < n → reads_of items v w ≡ r v w) where

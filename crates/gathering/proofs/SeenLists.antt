@@ -1,8 +1,7 @@
 -- Tests of what is seen of a list, and of a part of the list outside of which nothing passes.
 use Rattle.std.proofs.Common.{◌≡◌, Bool, true, false, ◌&&◌, ◌||◌, cond, List, [], ◌∷◌, map, Some, refl, ap, inl, inr}
 use Rattle.std.specs.Prelude.{filter, find}
-use Rattle.std.specs.List.{list_any, list_all}
-use Rattle.std.proofs.lemmas.Bool.{cases_Bool}
+use Rattle.gathering.proofs.Common.{list_any, list_all, cases_Bool}
 
 module _ {X Y : Type 0} (f : X → Y) (p : Y → Bool) where
   pub any_map : (xs : List X) → list_any p (map f xs) ≡ list_any (λ x. p (f x)) xs

@@ -1,15 +1,8 @@
 -- What stands in an arena that grows.
 use Rattle.std.proofs.Common.{◌≡◌, ℕ, ◌<◌, false, List, [], ◌∷◌, length, get_or, Result, Ok, Err, IfOk, refl, ap₂, ◌∙◌, arith}
-use Rattle.std.proofs.lemmas.List.Elements.{All-head, All-tail}
+use Rattle.gathering.proofs.Common.{All-head, All-tail, ExprId, formula_at, Formula, Const, view_contribution, Contribution, contributions_in, AllLieIn, Stands, Throughout}
 use Rattle.std.proofs.lemmas.Option.{slice_get-get_or, get_or_from_slice_get}
 use Rattle.pld_base.specs.declared.out_of_memory.OutOfMemory.{OutOfMemory}
-use Rattle.bit_expr.specs.declared.node.ExprId.{ExprId}
-use Rattle.bit_expr.specs.Arena.{formula_at}
-use Rattle.bit_expr.specs.Formulas.{Formula, Const}
-use Rattle.set_expr.specs.Given.{view_contribution}
-use Rattle.set_expr.specs.declared.contributions.Contribution.{Contribution}
-use Rattle.gathering.specs.Amounts.{contributions_in}
-use Rattle.gathering.specs.Parts.{AllLieIn, Stands, Throughout}
 
 pub stands_same : (fs : List Formula) → Stands fs fs
 stands_same fs = record { keeps = λ i f e. e; longer = omega arith }

@@ -1,22 +1,10 @@
 -- What all contributions to a signal amount to, in the terms of the language (ABEL-HDL Reference Manual, equations).
 use Rattle.std.specs.Prelude.{◌≡◌, ℕ, ◌&&◌, Option, List, length, find, map}
+use Rattle.gathering.specs.Prelude.{Place, Control, Formula, Extension, is_data, is_the_control, control_of, Context, formulas, function_of, is_raw_signal, plain_function, plain_control, IsFunctionIn, IsControlIn, view_contribution, Contribution}
 use Rattle.std.specs.Option.{option_map}
-use Rattle.pld_base.specs.declared.place.Place.{Place}
-use Rattle.bit_expr.specs.declared.netlist.Control.{Control}
 use Rattle.bit_expr.specs.declared.netlist.Function.{Function}
-use Rattle.bit_expr.specs.Formulas.{Formula}
-use Rattle.abel_tree.specs.declared.words.Extension.{Extension}
 use Rattle.abel_tree.specs.declared.words.Extension.TheVariants as extension
-use Rattle.abel_tree.specs.Extensions.{is_data}
 use Rattle.abel_meaning.specs.Contributions as meant
-use Rattle.abel_meaning.specs.Controls.{is_the_control, control_of}
-use Rattle.abel_meaning.specs.Designs.{Context}
-use Rattle.abel_meaning.specs.FormulaBits.{formulas}
-use Rattle.abel_meaning.specs.Functions.{function_of, is_raw_signal}
-use Rattle.abel_meaning.specs.Netlists.{plain_function, plain_control}
-use Rattle.abel_meaning.specs.SoundIds.{IsFunctionIn, IsControlIn}
-use Rattle.set_expr.specs.Given.{view_contribution}
-use Rattle.set_expr.specs.declared.contributions.Contribution.{Contribution}
 use Rattle.gathering.specs.Parts.{is_to}
 use Rattle.gathering.specs.declared.signal.Totals.{Totals}
 

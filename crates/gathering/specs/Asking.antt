@@ -1,21 +1,11 @@
 -- Private: what names ask of nodes and cells, as ids of an arena that grows (this project's rule).
 use Rattle.std.specs.Prelude.{◌≡◌, ℕ, Bool, true, false, ◌&&◌, Option, None, List, ◌++◌, All, length, map, unwrap_or}
+use Rattle.gathering.specs.Prelude.{Table, cell_at, CellWanted, Control, Formula, Entry, is_stored, follows_q, is_free, Context, plain_function, plain_wanted, IsFunctionIn, IsCellIn, Contribution, cells_from, nodes_from}
 use Rattle.pld_device.specs.declared.enable.Enable.{Enable}
 use Rattle.pld_device.specs.declared.enable.Enable.TheVariants.{Row, PinLow}
-use Rattle.pld_device.specs.Table.{Table, cell_at}
-use Rattle.bit_expr.specs.declared.netlist.CellWanted.{CellWanted}
-use Rattle.bit_expr.specs.declared.netlist.Control.{Control}
-use Rattle.bit_expr.specs.Formulas.{Formula}
-use Rattle.abel_tree.specs.Entries.{Entry, is_stored, follows_q}
-use Rattle.abel_meaning.specs.Choices.{is_free}
-use Rattle.abel_meaning.specs.Designs.{Context}
-use Rattle.abel_meaning.specs.Netlists.{plain_function, plain_wanted}
-use Rattle.abel_meaning.specs.SoundIds.{IsFunctionIn, IsCellIn}
 use Rattle.abel_meaning.specs.SourceLogic.{is_negated}
-use Rattle.set_expr.specs.declared.contributions.Contribution.{Contribution}
 use Rattle.gathering.specs.declared.signal.Totals.{Totals}
 use Rattle.gathering.specs.Amounts.{contributions_in}
-use Rattle.netlist_laws.specs.Gathered.{cells_from, nodes_from}
 use Rattle.gathering.specs.declared.asked.Asked.{Asked}
 use Rattle.gathering.specs.declared.link.Link.{Link}
 use Rattle.gathering.specs.Linked.{AreLinksFrom}

@@ -1,13 +1,7 @@
 -- The signals of nodes and cells, as others read them (this project's rule).
 use Rattle.std.specs.Prelude.{◌≡◌, ℕ, suc, Bool, true, false, ◌&&◌, ◌||◌, is_some, List, [], ◌∷◌}
-use Rattle.pld_device.specs.Table.{Table}
-use Rattle.bit_expr.specs.Formulas.{Formula}
-use Rattle.bit_expr.specs.Reading.{AreReads}
-use Rattle.abel_tree.specs.Entries.{Kind, ANode, Entry, is_stored}
+use Rattle.gathering.specs.Prelude.{Table, Formula, AreReads, Kind, ANode, Entry, is_stored, Context, leaf_by, settles, signal_names, cell_of}
 use Rattle.abel_meaning.specs.Contributions.{Contribution}
-use Rattle.abel_meaning.specs.Designs.{Context}
-use Rattle.abel_meaning.specs.SignalReads.{leaf_by, settles, signal_names}
-use Rattle.netlist_laws.specs.Gathered.{cell_of}
 use Rattle.gathering.specs.declared.link.Link.{Link}
 
 -- the name is a node

@@ -1,6 +1,6 @@
 -- Private: what is given to a signal that is read by others (this project's rule).
 use Rattle.std.specs.Prelude.{ℕ}
-use Rattle.abel_meaning.specs.SoundIds.{IsControlIn, IsFunctionIn}
+use Rattle.gathering.specs.Prelude.{IsControlIn, IsFunctionIn}
 use Rattle.gathering.specs.declared.signal.Totals.{Totals}
 
 -- the ids of a function and an enable lie in an arena of that many formulas

@@ -1,11 +1,9 @@
 -- Signals that read one another, as a graph (this project's rule).
 use Rattle.std.specs.Prelude.{ℕ, Bool, false, Option, None, Some, List, slice_get, length, ◌≡◌}
-use Rattle.pld_base.specs.Bits.{bits, is_on}
+use Rattle.gathering.specs.Prelude.{bits, is_on, Leaf, IsLeaf}
 use Rattle.pld_order.specs.Graphs.{IsOrder, IsLeastLoop, HasNoLoop, IsPath, HasNoPath}
-use Rattle.bit_expr.specs.declared.node.Leaf.{Leaf}
 use Rattle.bit_expr.specs.declared.node.Leaf.TheVariants as leaf
 use Rattle.bit_expr.specs.declared.reads.Reads.{Reads}
-use Rattle.bit_expr.specs.Arena.{IsLeaf}
 use Rattle.gathering.specs.declared.link.Link.{Link}
 
 -- the leaf is one of those

@@ -1,15 +1,8 @@
 -- The contributions to a signal, sorted by what they are for, and the bits that are made of them (ABEL-HDL Reference
 -- Manual, equations).
 use Rattle.std.specs.Prelude.{◌≡◌, ℕ, ◌<◌, ◌≤◌, Bool, false, not, if◌then◌else◌, ◌&&◌, ◌||◌, ◌==◌, Some, is_some, List, [], ◌∷◌, fold, filter, length, All, slice_get}
-use Rattle.pld_base.specs.Bits.{same_level}
-use Rattle.bit_expr.specs.Folding.{make_not, make_or}
-use Rattle.bit_expr.specs.Formulas.{Formula, Const}
-use Rattle.abel_tree.specs.Extensions.{is_data}
+use Rattle.gathering.specs.Prelude.{same_level, make_not, make_or, Formula, Const, is_data, is_control, is_data_to, is_data_in, is_free_elsewhere, same_gives, view_gives, Contribution}
 use Rattle.abel_meaning.specs.Contributions as meant
-use Rattle.abel_meaning.specs.Controls.{is_control}
-use Rattle.abel_meaning.specs.Functions.{is_data_to, is_data_in, is_free_elsewhere, same_gives}
-use Rattle.set_expr.specs.Given.{view_gives}
-use Rattle.set_expr.specs.declared.contributions.Contribution.{Contribution}
 use Rattle.set_expr.specs.declared.contributions.Gives.TheVariants as gives
 use Rattle.gathering.specs.declared.parts.Part.{Part}
 use Rattle.gathering.specs.declared.parts.Part.TheVariants as part

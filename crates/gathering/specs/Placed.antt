@@ -1,14 +1,8 @@
 -- Where the ids of a netlist lie, and where its cells and controls stand in the source (this project's rule).
 use Rattle.std.specs.Prelude.{◌≡◌, ℕ, Option, Some, List, All, length}
-use Rattle.pld_base.specs.declared.place.Place.{Place}
-use Rattle.bit_expr.specs.declared.netlist.CellWanted.{CellWanted}
-use Rattle.bit_expr.specs.declared.netlist.Control.{Control}
+use Rattle.gathering.specs.Prelude.{Place, CellWanted, Control, arena, Extension, IsFunctionIn, IsCellIn, Contribution}
 use Rattle.bit_expr.specs.declared.netlist.Netlist.{Netlist}
-use Rattle.bit_expr.specs.Arena.{arena}
-use Rattle.abel_tree.specs.declared.words.Extension.{Extension}
 use Rattle.abel_tree.specs.declared.words.Extension.TheVariants as extension
-use Rattle.abel_meaning.specs.SoundIds.{IsFunctionIn, IsCellIn}
-use Rattle.set_expr.specs.declared.contributions.Contribution.{Contribution}
 use Rattle.gathering.specs.Amounts.{first_data, first_target, target_place}
 
 -- all ids of a netlist lie in its arena

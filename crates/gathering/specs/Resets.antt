@@ -1,13 +1,8 @@
 -- What a reset names, and what holds of a design whose targets were accepted (this project's rule).
 use Rattle.std.specs.Prelude.{◌≡◌, ℕ, Bool, true, IsSome}
-use Rattle.bit_expr.specs.declared.node.Leaf.{Leaf}
+use Rattle.gathering.specs.Prelude.{Leaf, APin, control_of, Context, Design, name_at, formulas, given_formulas, names_if_any}
 use Rattle.abel_tree.specs.declared.words.Extension.TheVariants as extension
-use Rattle.abel_tree.specs.Entries.{APin}
 use Rattle.pld_device.specs.Pins.{cell_on}
-use Rattle.abel_meaning.specs.Controls.{control_of}
-use Rattle.abel_meaning.specs.Designs.{Context, Design, name_at}
-use Rattle.abel_meaning.specs.FormulaBits.{formulas}
-use Rattle.abel_meaning.specs.SignalReads.{given_formulas, names_if_any}
 
 -- the reset equation of a signal names the leaf
 abbrev pub reset_names : Design → (s : ℕ) → Leaf → Bool

@@ -1,11 +1,8 @@
 //! What signals ask of nodes and cells.
 
 ghost use Rattle.std.specs.Prelude.{◌≡◌, ◌<◌, ◌∷◌, suc, List, length, OnOk, None};
-ghost use Rattle.bit_expr.specs.Arena.{arena};
-ghost use Rattle.bit_expr.specs.Formulas.{Formula};
-ghost use Rattle.abel_tree.specs.Entries.{Entry, view_declared};
-ghost use Rattle.gathering.specs.Parts.{AllLieIn, Stands, Throughout};
-ghost use Rattle.gathering.specs.Asking.{AsksBefore, asked_cell, control_by_row, control_if};
+ghost use Rattle.gathering.specs.Prelude.{arena, Formula, Entry, view_declared};
+ghost use Rattle.gathering.specs.{AllLieIn, Stands, Throughout, AsksBefore, asked_cell, control_by_row, control_if};
 
 use crate::link::Link;
 use crate::links::link_of;

@@ -1,7 +1,7 @@
 //! Orders, loops, and paths to registers.
 
 ghost use Rattle.std.specs.Prelude.{◌≤◌, IfOk, IfSome, IfNone, length};
-ghost use Rattle.gathering.specs.Links.{AreLeaves, HasNoChain, IsReadOrder, IsFirstChain, IsRegisterPath, HasNoRegisterPath};
+ghost use Rattle.gathering.specs.{AreLeaves, HasNoChain, IsReadOrder, IsFirstChain, IsRegisterPath, HasNoRegisterPath};
 
 use crate::graph::{read_by, read_sets, registers};
 use crate::link::Link;

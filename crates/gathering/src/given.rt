@@ -1,11 +1,9 @@
 //! The contributions to one signal.
 
 ghost use Rattle.std.specs.Prelude.{◌≡◌, ◌&&◌, true, false, IfOk, filter, find};
+ghost use Rattle.gathering.specs.Prelude.{is_raw, Contribution};
 ghost use Rattle.std.specs.List.{list_any, list_all};
-ghost use Rattle.abel_tree.specs.Extensions.{is_raw};
-ghost use Rattle.set_expr.specs.declared.contributions.Contribution.{Contribution};
-ghost use Rattle.gathering.specs.Amounts.{first_data, first_target, target_place};
-ghost use Rattle.gathering.specs.Parts.{is_to, is_data_of, is_data_of_polarity, is_free_one};
+ghost use Rattle.gathering.specs.{first_data, first_target, target_place, is_to, is_data_of, is_data_of_polarity, is_free_one};
 
 use crate::parts::{is_control, is_data_to};
 use abel_tree::Extension;

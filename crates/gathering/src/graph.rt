@@ -1,9 +1,9 @@
 //! The graph of signals that read one another.
 
 ghost use Rattle.std.specs.Prelude.{◌≡◌, ◌<◌, ◌≤◌, ℕ, IfOk, length};
-ghost use Rattle.pld_base.specs.Bits.{is_on};
+ghost use Rattle.gathering.specs.Prelude.{is_on};
 ghost use Rattle.pld_order.specs.Sets.{reads_of};
-ghost use Rattle.gathering.specs.Links.{AreLeaves, is_read_by, link_reads, is_stored_in};
+ghost use Rattle.gathering.specs.{AreLeaves, is_read_by, link_reads, is_stored_in};
 
 use crate::link::{Link, has_if_any};
 use bit_expr::Reads;

@@ -1,9 +1,8 @@
 //! A signal as others read it, and what it reads.
 
 ghost use Rattle.std.specs.Prelude.{◌≡◌, ◌<◌, IfSome};
-ghost use Rattle.pld_base.specs.Bits.{bits, is_on};
-ghost use Rattle.bit_expr.specs.Arena.{IsLeaf};
-ghost use Rattle.gathering.specs.Links.{has_if_any};
+ghost use Rattle.gathering.specs.Prelude.{bits, is_on, IsLeaf};
+ghost use Rattle.gathering.specs.{has_if_any};
 
 use bit_expr::{Leaf, Reads};
 use pld_base::level_at;

@@ -1,15 +1,8 @@
 //! Signals as others read them, and what they read.
 
 ghost use Rattle.std.specs.Prelude.{◌≡◌, ℕ, List, length};
-ghost use Rattle.bit_expr.specs.Arena.{arena};
-ghost use Rattle.bit_expr.specs.Formulas.{Formula};
-ghost use Rattle.abel_tree.specs.Entries.{view_declared, view_meaning};
-ghost use Rattle.abel_meaning.specs.Designs.{Context};
-ghost use Rattle.abel_meaning.specs.SignalReads.{leaf_by, settles};
-ghost use Rattle.set_expr.specs.declared.contributions.Contribution.{Contribution};
-ghost use Rattle.gathering.specs.Amounts.{AreGiven, contributions_in};
-ghost use Rattle.gathering.specs.Linked.{IsLinkOf};
-ghost use Rattle.gathering.specs.Linking.{AreTotalsIn};
+ghost use Rattle.gathering.specs.Prelude.{arena, Formula, view_declared, view_meaning, Context, leaf_by, settles, Contribution};
+ghost use Rattle.gathering.specs.{AreGiven, contributions_in, IsLinkOf, AreTotalsIn};
 
 use crate::link::Link;
 use crate::reads::{both, control_reads, function_reads, nothing};

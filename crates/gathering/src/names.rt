@@ -1,10 +1,8 @@
 //! What is declared of a name.
 
 ghost use Rattle.std.specs.Prelude.{◌≡◌, ◌<◌, IfSome, length};
-ghost use Rattle.abel_tree.specs.Entries.{view_declared, view_meaning};
-ghost use Rattle.abel_meaning.specs.Choices.{is_free};
-ghost use Rattle.netlist_laws.specs.Gathered.{cell_of};
-ghost use Rattle.gathering.specs.Linked.{is_node_kind};
+ghost use Rattle.gathering.specs.Prelude.{view_declared, view_meaning, is_free, cell_of};
+ghost use Rattle.gathering.specs.{is_node_kind};
 
 use abel_tree::{Attributes, Declared, Meaning};
 use bitflags::Flags;

@@ -1,18 +1,9 @@
 //! The netlist of all names.
 
 ghost use Rattle.std.specs.Prelude.{◌≡◌, ◌<◌, ◌+◌, All, ℕ, length, IfOk, get_or};
-ghost use Rattle.bit_expr.specs.Arena.{arena};
-ghost use Rattle.abel_tree.specs.Entries.{entries_of};
-ghost use Rattle.abel_meaning.specs.Designs.{Context};
-ghost use Rattle.abel_meaning.specs.Netlists.{plain_netlist};
-ghost use Rattle.abel_meaning.specs.SoundIds.{no_pair, pair_of_cell, pair_of_pin};
+ghost use Rattle.gathering.specs.Prelude.{arena, entries_of, Context, plain_netlist, no_pair, pair_of_cell, pair_of_pin, given, gathered_from};
 ghost use Rattle.set_expr.specs.Answer.{IsContextOf};
-ghost use Rattle.set_expr.specs.Given.{given};
-ghost use Rattle.gathering.specs.Parts.{AllLieIn};
-ghost use Rattle.netlist_laws.specs.Gathered.{gathered_from};
-ghost use Rattle.gathering.specs.Asking.{Asks};
-ghost use Rattle.gathering.specs.Linked.{AreLinks};
-ghost use Rattle.gathering.specs.Placed.{AreIdsIn, IsPlaced};
+ghost use Rattle.gathering.specs.{AllLieIn, Asks, AreLinks, AreIdsIn, IsPlaced};
 
 use crate::asked::{Asked, Named, ask};
 use crate::link::Link;

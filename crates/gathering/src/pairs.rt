@@ -1,7 +1,7 @@
 //! Which pairs of columns carry pins and cells.
 
 ghost use Rattle.std.specs.Prelude.{◌≡◌, ◌<◌, ℕ, IfSome, get_or, unwrap_or};
-ghost use Rattle.abel_meaning.specs.SoundIds.{no_pair};
+ghost use Rattle.gathering.specs.Prelude.{no_pair};
 ghost use Rattle.abel_meaning.specs.SoundIds as sound;
 
 use pld_device::{Device, pair_of_cell, pair_of_pin};

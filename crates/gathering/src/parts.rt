@@ -1,12 +1,8 @@
 //! What a contribution is for.
 
 ghost use Rattle.std.specs.Prelude.{◌≡◌, ◌==◌, ◌&&◌, List};
-ghost use Rattle.bit_expr.specs.Formulas.{Formula};
-ghost use Rattle.abel_tree.specs.Extensions.{is_data};
-ghost use Rattle.abel_meaning.specs.Controls.{is_the_control};
-ghost use Rattle.abel_meaning.specs.Functions.{same_gives};
-ghost use Rattle.set_expr.specs.Given.{view_contribution, view_gives};
-ghost use Rattle.gathering.specs.Parts.{is_for};
+ghost use Rattle.gathering.specs.Prelude.{Formula, is_data, is_the_control, same_gives, view_contribution, view_gives};
+ghost use Rattle.gathering.specs.{is_for};
 
 use abel_tree::Extension;
 use set_expr::{Contribution, Gives};

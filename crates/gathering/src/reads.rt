@@ -1,12 +1,7 @@
 //! What functions and controls read.
 
 ghost use Rattle.std.specs.Prelude.{◌≡◌, ◌||◌, Bool, false, length};
-ghost use Rattle.bit_expr.specs.declared.node.Leaf.{Leaf};
-ghost use Rattle.bit_expr.specs.Arena.{arena};
-ghost use Rattle.bit_expr.specs.Reading.{AreReads};
-ghost use Rattle.abel_meaning.specs.Netlists.{plain_control, plain_function};
-ghost use Rattle.abel_meaning.specs.SignalReads.{function_names, names_if_any};
-ghost use Rattle.abel_meaning.specs.SoundIds.{IsControlIn, IsFunctionIn};
+ghost use Rattle.gathering.specs.Prelude.{Leaf, arena, AreReads, plain_control, plain_function, function_names, names_if_any, IsControlIn, IsFunctionIn};
 
 use bit_expr::{Control, Exprs, Function, Reads};
 

@@ -1,10 +1,9 @@
 //! What all contributions to a signal amount to.
 
 ghost use Rattle.std.specs.Prelude.{length, IfOk, OnOk};
-ghost use Rattle.bit_expr.specs.Arena.{arena};
+ghost use Rattle.gathering.specs.Prelude.{arena};
 ghost use Rattle.abel_tree.specs.declared.words.Extension.TheVariants as extension;
-ghost use Rattle.gathering.specs.Amounts.{AreGiven, IsControlGiven, IsFunctionGiven};
-ghost use Rattle.gathering.specs.Parts.{AllLieIn, Stands, Throughout};
+ghost use Rattle.gathering.specs.{AreGiven, IsControlGiven, IsFunctionGiven, AllLieIn, Stands, Throughout};
 
 use crate::given::{first_for, first_place, given_to, has_raw, is_both, is_complement};
 use crate::parts::Part::{self, Data, DataIn};

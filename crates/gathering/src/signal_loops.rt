@@ -1,12 +1,8 @@
 //! Loops of signals, and paths from a reset to a register, by the numbers of their names.
 
 ghost use Rattle.std.specs.Prelude.{◌≡◌, ◌<◌, ◌≤◌, ℕ, All, length, map, get_or, IfOk, IfSome, IfNone};
-ghost use Rattle.bit_expr.specs.Reading.{AreReads};
-ghost use Rattle.abel_meaning.specs.Designs.{Design};
-ghost use Rattle.abel_meaning.specs.SignalReads.{given_formulas, IsSignalLoop, HasNoSignalLoop, IsSignalPath, HasNoSignalPath};
-ghost use Rattle.gathering.specs.Links.{AreLeaves};
-ghost use Rattle.gathering.specs.Linked.{AreLinks};
-ghost use Rattle.gathering.specs.Resets.{AssignedHaveCells, reset_names};
+ghost use Rattle.gathering.specs.Prelude.{AreReads, Design, given_formulas, IsSignalLoop, HasNoSignalLoop, IsSignalPath, HasNoSignalPath};
+ghost use Rattle.gathering.specs.{AreLeaves, AreLinks, AssignedHaveCells, reset_names};
 
 use crate::chains::{first_loop, path_to_register};
 use crate::link::Link;

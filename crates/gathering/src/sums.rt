@@ -1,11 +1,8 @@
 //! Bits that are made of the contributions to a signal.
 
 ghost use Rattle.std.specs.Prelude.{◌≡◌, ◌<◌, length, IfOk, OnOk, if◌then◌else◌};
-ghost use Rattle.bit_expr.specs.Arena.{arena, formula_at};
-ghost use Rattle.bit_expr.specs.Folding.{make_or};
-ghost use Rattle.set_expr.specs.Given.{view_contribution};
-ghost use Rattle.gathering.specs.Amounts.{contributions_in};
-ghost use Rattle.gathering.specs.Parts.{is_for, AllLieIn, Stands, Throughout, part_sum, bit_of};
+ghost use Rattle.gathering.specs.Prelude.{arena, formula_at, make_or, view_contribution};
+ghost use Rattle.gathering.specs.{contributions_in, is_for, AllLieIn, Stands, Throughout, part_sum, bit_of};
 
 use crate::given::is_free;
 use crate::parts::{Part, is_for};

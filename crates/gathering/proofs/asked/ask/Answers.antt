@@ -1,9 +1,6 @@
 use Rattle.std.proofs.Common.{◌≡◌, true, ◌++◌, ◌∷◌, [], refl, ap, sym, ◌∙◌}
 use Rattle.std.specs.Prelude.{is_some, not}
-use Rattle.std.proofs.lemmas.Bool.{true≢false}
-use Rattle.bit_expr.specs.Arena.{arena}
-use Rattle.abel_tree.specs.Entries.{view_declared}
-use Rattle.gathering.specs.Linked.{is_node_kind}
+use Rattle.gathering.proofs.Common.{true≢false, arena, view_declared, is_node_kind}
 use Rattle.gathering.proofs.Pushed.{asks_node, asks_cell}
 use Rattle.gathering.proofs.Standing.{stands_same}
 use Rattle.gathering.proofs.asked.ask.Goals.{else-is_none-via-then-is_none+else-not-is_node, else-is_none-via-else-is_none}

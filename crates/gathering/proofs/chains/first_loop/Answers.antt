@@ -1,5 +1,5 @@
 use Rattle.std.proofs.Common.{length}
-use Rattle.gathering.specs.Links.{link_reads}
+use Rattle.gathering.proofs.Common.{link_reads}
 use Rattle.gathering.proofs.SameChains.{loop_of_sets, no_loop_of_sets}
 use Rattle.gathering.proofs.chains.first_loop.Goals as goal
 

@@ -1,6 +1,5 @@
 use Rattle.std.proofs.Common.{◌<◌, ◌||◌, ◌==◌, ◌∙◌, ap, sym, length, arith}
-use Rattle.pld_base.specs.Bits.{is_on}
-use Rattle.gathering.specs.Links.{has_if_any, is_read_by}
+use Rattle.gathering.proofs.Common.{is_on, has_if_any, is_read_by}
 use Rattle.gathering.proofs.LinkSets.{leaf_there, one_more, none_more}
 use Rattle.gathering.proofs.graph.read_by.Goals.{then-has_if_any, else-has_if_any}
 use Rattle.gathering.proofs.graph.read_by.Goals as goal

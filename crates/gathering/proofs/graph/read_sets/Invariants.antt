@@ -1,6 +1,5 @@
 use Rattle.std.proofs.Common.{◌≡◌, ℕ, ◌<◌, length}
-use Rattle.pld_order.specs.Sets.{reads_of}
-use Rattle.gathering.specs.Links.{link_reads}
+use Rattle.gathering.proofs.Common.{reads_of, link_reads}
 use Rattle.gathering.proofs.graph.read_sets.Given as goal
 
 abbrev pub invariant-loop-link : goal.invariant-loop-link

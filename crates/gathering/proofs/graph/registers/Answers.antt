@@ -1,6 +1,5 @@
 use Rattle.std.proofs.Common.{◌<◌, ◌||◌, ◌==◌, ◌∙◌, ap, length, arith}
-use Rattle.pld_base.specs.Bits.{is_on}
-use Rattle.gathering.specs.Links.{is_stored_in}
+use Rattle.gathering.proofs.Common.{is_on, is_stored_in}
 use Rattle.gathering.proofs.LinkSets.{stored_there, one_more, none_more}
 use Rattle.gathering.proofs.graph.registers.Goals.{then-links-v, else-links-v}
 use Rattle.gathering.proofs.graph.registers.Goals as goal

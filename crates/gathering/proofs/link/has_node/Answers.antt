@@ -1,6 +1,6 @@
 use Rattle.std.proofs.Common.{sym}
+use Rattle.gathering.proofs.Common.{is_on-bits}
 use Rattle.std.proofs.lemmas.Nat.Bits.{shr_and_one}
-use Rattle.pld_base.proofs.BitLemmas.{is_on-bits}
 use Rattle.gathering.proofs.link.has_node.Goals as goal
 
 pub returns : goal.returns

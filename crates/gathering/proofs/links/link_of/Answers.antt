@@ -1,10 +1,6 @@
 use Rattle.std.proofs.Common.{◌≡◌, Bool, ◌&&◌, ◌||◌, sym, ap, ap₂, ◌∙◌, subst}
-use Rattle.bit_expr.specs.declared.node.Leaf.{Leaf}
+use Rattle.gathering.proofs.Common.{Leaf, Reads, AreReads, function_names, names_if_any, signal_names, contributions_in}
 use Rattle.bit_expr.specs.declared.node.Leaf.TheVariants as leaf
-use Rattle.bit_expr.specs.declared.reads.Reads.{Reads}
-use Rattle.bit_expr.specs.Reading.{AreReads}
-use Rattle.abel_meaning.specs.SignalReads.{function_names, names_if_any, signal_names}
-use Rattle.gathering.specs.Amounts.{contributions_in}
 use Rattle.gathering.proofs.links.link_of.Goals.{then-settles, else-settles}
 use Rattle.gathering.proofs.links.link_of.Goals as goal
 

@@ -1,11 +1,8 @@
 use Rattle.std.proofs.Common.{◌≡◌, suc, ◌+◌, ◌∷◌, map, drop, sym, ap, subst, ◌∙◌, arith}
+use Rattle.gathering.proofs.Common.{drop_all, arena, view_declared, Asks, AsksBefore}
 use Rattle.std.proofs.Math.Seq.{drop-cons}
-use Rattle.std.proofs.lemmas.List.{drop_all}
-use Rattle.bit_expr.specs.Arena.{arena}
-use Rattle.abel_tree.specs.Entries.{view_declared}
 use Rattle.gathering.proofs.Pushed.{none_asked, all_asked}
 use Rattle.gathering.proofs.Standing.{stands_same, stands_on}
-use Rattle.gathering.specs.Asking.{Asks, AsksBefore}
 use Rattle.gathering.proofs.netlist.ask_all.Goals as goal
 
 pub loop-declared-init : goal.loop-declared-init

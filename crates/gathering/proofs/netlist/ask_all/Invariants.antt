@@ -1,10 +1,6 @@
 -- With what the names ask that are left, all of them ask what they ask.
 use Rattle.std.proofs.Common.{List, map, drop}
-use Rattle.bit_expr.specs.Arena.{arena}
-use Rattle.bit_expr.specs.Formulas.{Formula}
-use Rattle.abel_tree.specs.Entries.{view_declared}
-use Rattle.gathering.specs.Parts.{Stands}
-use Rattle.gathering.specs.Asking.{AsksBefore}
+use Rattle.gathering.proofs.Common.{arena, Formula, view_declared, Stands, AsksBefore}
 use Rattle.gathering.proofs.netlist.ask_all.Given as goal
 
 abbrev pub invariant-loop-declared : goal.invariant-loop-declared

@@ -1,6 +1,6 @@
 use Rattle.std.proofs.Common.{sym, subst}
 use Rattle.std.specs.Prelude.{All}
-use Rattle.gathering.specs.Placed.{IsPlaced}
+use Rattle.gathering.proofs.Common.{IsPlaced}
 use Rattle.gathering.proofs.netlist.gather_up.Goals as goal
 
 pub returns-clause-places : goal.returns-clause-places

@@ -1,6 +1,6 @@
 -- The pairs so far stand there.
 use Rattle.std.proofs.Common.{◌≡◌, ◌<◌, ℕ, get_or, length}
-use Rattle.abel_meaning.specs.SoundIds.{no_pair, pair_of_pin}
+use Rattle.gathering.proofs.Common.{no_pair, pair_of_pin}
 use Rattle.gathering.proofs.pairs.pairs_of_pins.Given as goal
 
 abbrev pub invariant-loop-pin : goal.invariant-loop-pin

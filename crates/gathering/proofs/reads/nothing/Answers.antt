@@ -1,4 +1,4 @@
-use Rattle.pld_base.proofs.BitLemmas.{is_on-zero}
+use Rattle.gathering.proofs.Common.{is_on-zero}
 use Rattle.gathering.proofs.reads.nothing.Goals as goal
 
 pub returns : goal.returns

@@ -1,5 +1,5 @@
 use Rattle.std.proofs.Common.{Some, ap, sym, ◌∙◌, arith}
-use Rattle.gathering.specs.Amounts.{target_place}
+use Rattle.gathering.proofs.Common.{target_place}
 use Rattle.gathering.proofs.GivenAmounts.{no_control, some_control}
 use Rattle.gathering.proofs.signal.control_of.Goals as goal
 

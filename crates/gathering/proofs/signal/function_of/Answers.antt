@@ -1,6 +1,5 @@
 use Rattle.std.proofs.Common.{false, subst, sym, ◌∙◌, arith}
-use Rattle.bit_expr.specs.Arena.{arena}
-use Rattle.gathering.specs.Amounts.{contributions_in}
+use Rattle.gathering.proofs.Common.{arena, contributions_in}
 use Rattle.gathering.proofs.GivenAmounts.{both_one, both_any, single_one, single_any, IsMade, both_made, single_made, both_seen, complement_seen, function_made}
 use Rattle.gathering.proofs.Standing.{stands_on}
 use Rattle.gathering.proofs.signal.function_of.Goals as goal

@@ -1,11 +1,6 @@
 use Rattle.std.proofs.Common.{◌≡◌, ◌∙◌, ◌<◌, ℕ, List, length, subst, sym}
 use Rattle.std.specs.Prelude.{filter}
-use Rattle.std.proofs.lemmas.List.Elements.{All-filter}
-use Rattle.std.proofs.lemmas.Result.{IfOk-weaker}
-use Rattle.bit_expr.specs.Arena.{arena}
-use Rattle.set_expr.specs.declared.contributions.Contribution.{Contribution}
-use Rattle.gathering.specs.Amounts.{AreGiven}
-use Rattle.gathering.specs.Parts.{is_to, AllLieIn}
+use Rattle.gathering.proofs.Common.{All-filter, IfOk-weaker, arena, Contribution, AreGiven, is_to, AllLieIn}
 use Rattle.gathering.proofs.GivenAmounts.{totals_own}
 use Rattle.gathering.proofs.signal.sum_up.Goals as goal
 

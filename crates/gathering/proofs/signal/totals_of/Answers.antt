@@ -1,5 +1,5 @@
 use Rattle.std.proofs.Common.{◌∙◌}
-use Rattle.bit_expr.specs.Arena.{arena}
+use Rattle.gathering.proofs.Common.{arena}
 use Rattle.gathering.proofs.GivenAmounts.{raw_seen}
 use Rattle.gathering.proofs.Standing.{stands_on}
 use Rattle.gathering.proofs.signal.totals_of.Goals as goal

@@ -1,10 +1,5 @@
 use Rattle.std.proofs.Common.{true, false, ap, ap₂, take, drop, length, ◌-◌, arith, sym, ◌∙◌}
-use Rattle.std.proofs.lemmas.Result.{IfOk-weaker}
-use Rattle.bit_expr.specs.Arena.{arena}
-use Rattle.bit_expr.specs.Folding.{make_not, make_or}
-use Rattle.bit_expr.proofs.ArenaLists.{arena_count, first_formula}
-use Rattle.gathering.specs.Amounts.{contributions_in}
-use Rattle.gathering.specs.Parts.{bit_of}
+use Rattle.gathering.proofs.Common.{IfOk-weaker, arena, make_not, make_or, arena_count, first_formula, contributions_in, bit_of}
 use Rattle.gathering.proofs.GivenAmounts.{no_steps, first_step, not_if, when_free, when_bound}
 use Rattle.gathering.proofs.Standing.{added, same_formula, stands_on, stands_same}
 use Rattle.gathering.proofs.sums.+bit_of.Goals as goal

@@ -1,9 +1,5 @@
 use Rattle.std.proofs.Common.{◌<◌, take, length, ap, sym, ◌∙◌, arith}
-use Rattle.std.proofs.lemmas.List.{take_more, take_all}
-use Rattle.bit_expr.specs.Arena.{arena, formula_at}
-use Rattle.bit_expr.proofs.ArenaLists.{arena_count, first_formula}
-use Rattle.gathering.specs.Amounts.{contributions_in}
-use Rattle.gathering.specs.Parts.{part_sum}
+use Rattle.gathering.proofs.Common.{take_more, take_all, arena, formula_at, arena_count, first_formula, contributions_in, part_sum}
 use Rattle.gathering.proofs.GivenAmounts.{sum_on}
 use Rattle.gathering.proofs.Standing.{same_contributions, same_formula, stands_same, stands_on}
 use Rattle.gathering.proofs.sums.part_sum.Goals as goal

@@ -1,7 +1,5 @@
 use Rattle.std.proofs.Common.{◌≡◌, ◌<◌, length, take}
-use Rattle.bit_expr.specs.Arena.{arena, formula_at}
-use Rattle.gathering.specs.Amounts.{contributions_in}
-use Rattle.gathering.specs.Parts.{Stands, part_sum}
+use Rattle.gathering.proofs.Common.{arena, formula_at, contributions_in, Stands, part_sum}
 use Rattle.gathering.proofs.sums.part_sum.Given as goal
 
 abbrev pub invariant-loop-given : goal.invariant-loop-given
