@@ -1,8 +1,6 @@
 -- What the bytes and words of a text list, one after the other.
 use Rattle.std.proofs.Common.{◌≡◌, ℕ, not, List, [], ◌∷◌, ◌++◌, filter, Option, Some, None, option_map, inl, inr, refl, sym, ◌∙◌, ap, append_assoc}
-use Rattle.std.specs.List.{concat, slice_split, onto_first}
-use Rattle.std.proofs.lemmas.Bool.{cases_Bool}
-use Rattle.jedec_file.specs.Fields.{is_blank, has_bytes, words, each_of, level_of}
+use Rattle.jedec_reader.proofs.Common.{concat, slice_split, onto_first, cases_Bool, is_blank, has_bytes, words, each_of, level_of}
 
 -- ---- the bytes of all words
 

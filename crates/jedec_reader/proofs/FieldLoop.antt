@@ -1,19 +1,8 @@
 -- Fields read one after the other: those of the pieces so far, and those of the rest.
 use Rattle.std.proofs.Common.{◌≡◌, ℕ, ◌+◌, ◌-◌, ◌<◌, ◌≤◌, ◌==◌, nat_lt, List, [], ◌∷◌, ◌++◌, length, take, drop, Option, Some, None, Ok, Err, MatchOption, inl, inr, refl, sym, ◌∙◌, ap, append_assoc, arith}
 use Rattle.std.specs.Prelude.{position}
-use Rattle.std.specs.List.{position_or_len, onto_first}
-use Rattle.std.proofs.lemmas.Bool.{cases_Bool}
-use Rattle.std.proofs.lemmas.Bool.Decides.{nat_tests}
-use Rattle.std.proofs.lemmas.List.{append-nil, length-take}
-use Rattle.std.proofs.lemmas.List.Splits.{slice_split_first, slice_split_none}
-use Rattle.std.proofs.lemmas.List.Sums.{fails_before_first}
-use Rattle.jedec_file.specs.declared.field.Field.{Field}
-use Rattle.jedec_file.specs.declared.jedec_fault.JedecFault.{JedecFault}
+use Rattle.jedec_reader.proofs.Common.{position_or_len, onto_first, cases_Bool, nat_tests, append-nil, length-take, slice_split_first, slice_split_none, fails_before_first, Field, JedecFault, trimmed, pieces, field_at, no_field, fields_from, behind_design, Read, Refuses, ◌>>=◌, Table}
 use Rattle.jedec_file.specs.declared.jedec_fault.JedecFault.TheVariants as fault
-use Rattle.jedec_file.specs.Fields.{trimmed}
-use Rattle.jedec_file.specs.FieldLists.{pieces, field_at, no_field, fields_from, behind_design}
-use Rattle.jedec_file.specs.Refusals.{Read, Refuses, ◌>>=◌}
-use Rattle.pld_device.specs.Table.{Table}
 
 -- ---- pieces
 

@@ -1,13 +1,6 @@
 -- A file is read in two halves: its fields, and what they say together.
 use Rattle.std.proofs.Common.{◌≡◌, ℕ, ◌∙◌, List, Ok, Err, refl, sym}
-use Rattle.jedec_file.specs.declared.field.Field.{Field}
-use Rattle.jedec_file.specs.declared.jedec_fault.JedecFault.{JedecFault}
-use Rattle.jedec_file.specs.FieldLists.{fields_of}
-use Rattle.jedec_file.specs.Frame.{frame_of}
-use Rattle.jedec_file.specs.FuseFile.{contents_of, file_of}
-use Rattle.jedec_file.specs.Refusals.{Read, ◌>>=◌}
-use Rattle.pld_device.specs.Table.{Table}
-use Rattle.jedec_reader.specs.FieldsIn.{fields_in}
+use Rattle.jedec_reader.proofs.Common.{Field, JedecFault, fields_of, frame_of, contents_of, file_of, Read, ◌>>=◌, Table, fields_in}
 
 regrouped : {A B C : Type 0} (step : Read A) (next : A → Read B) (last : B → Read C) → (step >>= next >>= last) ≡ (step >>= λ x. next x >>= last)
 regrouped (Ok x) next last = refl

@@ -1,20 +1,9 @@
 -- Each field that a text says fits its device.
 use Rattle.std.proofs.Common.{◌≡◌, ℕ, ◌+◌, ◌-◌, ◌≤◌, ◌==◌, nat_le, Bool, true, false, not, ◌&&◌, List, [], ◌∷◌, length, Option, Some, None, Result, Ok, Err, IfOk, option_map, option_and_then, if◌then◌else◌, inl, inr, arith}
 use Rattle.std.specs.Prelude.{⊤}
-use Rattle.std.specs.List.{All, list_all, concat}
-use Rattle.std.proofs.lemmas.Bool.{cases_Bool}
-use Rattle.std.proofs.lemmas.Bool.Decides.{nat_tests}
-use Rattle.std.proofs.lemmas.List.Elements.{All-cons}
-use Rattle.jedec_file.specs.declared.field.Field.{Field}
+use Rattle.jedec_reader.proofs.Common.{All, list_all, concat, cases_Bool, nat_tests, All-cons, Field, JedecFault, trimmed, words, only, short_number, number, one_level, level_of, each_of, counts, levels_from, levels_field, is_each_pin, is_test_char, vector_field, is_passed_over, is_field_letter, field_of, field_at, no_field, fields_from, behind_design, four_hex_value, Read, Gives, ◌>>=◌, some_or, Table, FieldFits}
 use Rattle.jedec_file.specs.declared.field.Field.TheVariants as field
-use Rattle.jedec_file.specs.declared.jedec_fault.JedecFault.{JedecFault}
 use Rattle.jedec_file.specs.declared.jedec_fault.JedecFault.TheVariants as fault
-use Rattle.jedec_file.specs.Fields.{trimmed, words, only, short_number, number, one_level, level_of, each_of, counts, levels_from, levels_field, is_each_pin, is_test_char, vector_field, is_passed_over, is_field_letter, field_of}
-use Rattle.jedec_file.specs.FieldLists.{field_at, no_field, fields_from, behind_design}
-use Rattle.jedec_file.specs.Frame.{four_hex_value}
-use Rattle.jedec_file.specs.Refusals.{Read, Gives, ◌>>=◌, some_or}
-use Rattle.pld_device.specs.Table.{Table}
-use Rattle.jedec_reader.specs.FieldFits.{FieldFits}
 
 -- ---- one field
 

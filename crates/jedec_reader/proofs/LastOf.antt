@@ -1,9 +1,6 @@
 -- What the last field says, with one field more.
 use Rattle.std.proofs.Common.{◌≡◌, ℕ, ◌+◌, ◌<◌, List, [], ◌∷◌, ◌++◌, Option, Some, None, length, take, get_or, refl, ap, ◌∙◌, sym}
-use Rattle.std.specs.Option.{option_or}
-use Rattle.std.proofs.lemmas.List.{take_more}
-use Rattle.jedec_file.specs.declared.field.Field.{Field}
-use Rattle.jedec_file.specs.FuseFile.{last_of}
+use Rattle.jedec_reader.proofs.Common.{option_or, take_more, Field, last_of}
 
 option_or-assoc : {A : Type 0} (x y z : Option A) → option_or x (option_or y z) ≡ option_or (option_or x y) z
 option_or-assoc None y z = refl

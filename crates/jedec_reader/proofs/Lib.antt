@@ -1,3 +1,4 @@
+pub mod Common
 mod EntryLemmas
 mod FieldLoop
 mod FileSteps

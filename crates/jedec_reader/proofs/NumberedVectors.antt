@@ -1,21 +1,8 @@
 -- Test vectors by their numbers, one field more, and all of them in order.
 use Rattle.std.proofs.Common.{◌≡◌, ℕ, zero, suc, ◌+◌, ◌-◌, ◌<◌, ◌≤◌, ◌^◌, List, [], ◌∷◌, ◌++◌, Option, Some, None, length, take, get_or, refl, ap, ◌∙◌, sym, arith, add-zero, zero-add, inl, inr}
 use Rattle.std.specs.Prelude.{All, IfSome, ◌==◌, if◌then◌else◌, map, option_map, unwrap_or, filter_map, nat_lt}
-use Rattle.std.specs.List.{range_with_len, position_or_len, cons_option}
-use Rattle.std.specs.Option.{option_or}
-use Rattle.std.proofs.lemmas.Bool.{cases_Bool, ltb-true, ne_eqb}
-use Rattle.std.proofs.lemmas.List.{append-nil, ext_get_or, get_or_past, get_or-take, length-take}
-use Rattle.std.proofs.lemmas.List.Elements.{All-cons, filter_map-append}
-use Rattle.std.proofs.lemmas.List.FromFn.{get_or-map-range_with_len, length-map-range_with_len}
-use Rattle.pld_base.specs.declared.point.Vector.{Vector}
-use Rattle.jedec_file.specs.declared.field.Field.{Field}
+use Rattle.jedec_reader.proofs.Common.{range_with_len, position_or_len, cons_option, option_or, cases_Bool, ltb-true, ne_eqb, append-nil, ext_get_or, get_or_past, get_or-take, length-take, All-cons, filter_map-append, get_or-map-range_with_len, length-map-range_with_len, Vector, Field, last_of, vector_at, order_of, by_pins, vectors_of, Table, chars_of, all_chars, IsPadded, FieldFits, ArePlaces, AreWithin, HasPutVector, HasVectors, IsPlaced, place_of, present}
 use Rattle.jedec_file.specs.declared.field.Field.TheVariants as field
-use Rattle.jedec_file.specs.FuseFile.{last_of, vector_at, order_of, by_pins, vectors_of}
-use Rattle.pld_device.specs.Table.{Table}
-use Rattle.jedec_file.specs.TestVectors.{chars_of, all_chars}
-use Rattle.jedec_reader.specs.Contents.{IsPadded}
-use Rattle.jedec_reader.specs.FieldFits.{FieldFits}
-use Rattle.jedec_reader.specs.VectorTable.{ArePlaces, AreWithin, HasPutVector, HasVectors, IsPlaced, place_of, present}
 use Rattle.jedec_reader.proofs.LastOf.{last_of_more}
 
 -- ---- one field more

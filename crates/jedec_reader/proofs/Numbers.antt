@@ -1,11 +1,8 @@
 -- A number below 65,536, read digit by digit.
 use Rattle.std.proofs.Common.{◌≡◌, ℕ, ◌+◌, ◌-◌, ◌*◌, ◌^◌, ◌<◌, ◌≤◌, Bool, true, false, nat_lt, List, [], ◌∷◌, Option, Some, None, option_and_then, if◌then◌else◌, inl, inr, refl, sym, arith}
-use Rattle.std.proofs.lemmas.Bool.{cases_Bool, lt-ltb, le-ltb}
-use Rattle.std.proofs.lemmas.Bool.Decides.{nat_tests}
+use Rattle.jedec_reader.proofs.Common.{cases_Bool, lt-ltb, le-ltb, nat_tests, all_ascii_digits, short_number}
 use Rattle.std.specs.Char.{is_ascii_digit, digit_value}
-use Rattle.std.specs.Str.{all_ascii_digits}
 use Rattle.std.specs.Str.Parse.{digits_value_after}
-use Rattle.jedec_file.specs.Fields.{short_number}
 
 -- the number of the digits behind those of n
 abbrev pub short_after : ℕ → List ℕ → Option ℕ

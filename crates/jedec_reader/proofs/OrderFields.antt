@@ -1,13 +1,7 @@
 -- An order that has each pin: its numbers are those of pins.
 use Rattle.std.proofs.Common.{◌≡◌, ℕ, zero, suc, ◌+◌, ◌<◌, ◌≤◌, ◌==◌, nat_lt, nat_le, ◌^◌, Bool, true, false, ◌&&◌, List, [], ◌∷◌, length, Option, Some, None, option_and_then, option_map, if◌then◌else◌, inl, inr, refl, ◌∙◌, ap, arith}
-use Rattle.std.specs.List.{list_all, range_with_len}
-use Rattle.std.proofs.lemmas.Bool.{cases_Bool, eqb-true}
-use Rattle.std.proofs.lemmas.Bool.Decides.{nat_tests}
-use Rattle.jedec_file.specs.declared.field.Field.{Field}
+use Rattle.jedec_reader.proofs.Common.{list_all, range_with_len, cases_Bool, eqb-true, nat_tests, Field, is_among, is_each_pin, number, each_of, order_field, Table, pin_number}
 use Rattle.jedec_file.specs.declared.field.Field.TheVariants as field
-use Rattle.jedec_file.specs.Fields.{is_among, is_each_pin, number, each_of, order_field}
-use Rattle.pld_device.specs.Table.{Table}
-use Rattle.jedec_reader.specs.FieldTexts.{pin_number}
 use Rattle.jedec_reader.proofs.Ranges.{test_of_range}
 
 and_split : (a b : Bool) → (a && b) ≡ true → (a ≡ true) × (b ≡ true)

@@ -1,17 +1,8 @@
 -- The places of pins, step by step.
 use Rattle.std.proofs.Common.{◌≡◌, ℕ, zero, suc, ◌+◌, ◌<◌, ◌≤◌, List, [], ◌∷◌, Option, Some, None, length, take, get_or, refl, ap, ◌∙◌, sym, arith, Bool, true, false}
 use Rattle.std.specs.Prelude.{unwrap_or, All, ◌&&◌, ◌==◌}
-use Rattle.std.specs.List.{list_all}
-use Rattle.std.proofs.lemmas.Bool.{eqb-true}
-use Rattle.std.proofs.lemmas.List.FromFn.{length-range_with_len}
-use Rattle.std.specs.List.{range_with_len}
-use Rattle.std.specs.Option.{option_or}
-use Rattle.jedec_file.specs.declared.field.Field.{Field}
+use Rattle.jedec_reader.proofs.Common.{list_all, eqb-true, length-range_with_len, range_with_len, option_or, Field, is_among, is_each_pin, last_of, pin_order, order_of, Table, FieldFits}
 use Rattle.jedec_file.specs.declared.field.Field.TheVariants as field
-use Rattle.jedec_file.specs.Fields.{is_among, is_each_pin}
-use Rattle.jedec_file.specs.FuseFile.{last_of, pin_order, order_of}
-use Rattle.pld_device.specs.Table.{Table}
-use Rattle.jedec_reader.specs.FieldFits.{FieldFits}
 use Rattle.jedec_reader.proofs.LastOf.{last_of_more}
 
 first_true : (a b : Bool) → (a && b) ≡ true → a ≡ true

@@ -1,9 +1,7 @@
 -- The first place that passes a test, as a loop from the front finds it.
 use Rattle.std.proofs.Common.{◌≡◌, ℕ, ◌<◌, Bool, true, false, List, length, get_or, Some, None, refl, arith}
 use Rattle.std.specs.Prelude.{position}
-use Rattle.std.specs.List.{position_or_len}
-use Rattle.std.proofs.lemmas.Bool.{lt-ltb, le-ltb}
-use Rattle.std.proofs.lemmas.List.Sums.{position_or_len_is}
+use Rattle.jedec_reader.proofs.Common.{position_or_len, lt-ltb, le-ltb, position_or_len_is}
 
 pub position_found : {X : Type 0} (p : X → Bool) (xs : List X) (i : ℕ) (d : X) → i < length xs → p (get_or xs i d) ≡ true
     → ((k : ℕ) → k < i → p (get_or xs k d) ≡ false) → position p xs ≡ Some i

@@ -1,10 +1,6 @@
 -- The first word of a text, and the words behind it.
 use Rattle.std.proofs.Common.{◌≡◌, ◌≢◌, ℕ, suc, ◌+◌, ◌<◌, ◌≤◌, true, false, if◌then◌else◌, inl, inr, List, [], ◌∷◌, length, take, drop, get_or, filter, refl, sym, ap, arith}
-use Rattle.std.specs.List.{slice_split, position_or_len}
-use Rattle.std.proofs.lemmas.Bool.{cases_Bool}
-use Rattle.std.proofs.lemmas.List.Splits.{slice_split-cons_yes}
-use Rattle.std.proofs.lemmas.List.Sums.{position_or_len_is}
-use Rattle.jedec_file.specs.Fields.{is_blank, has_bytes, words, trimmed}
+use Rattle.jedec_reader.proofs.Common.{slice_split, position_or_len, cases_Bool, slice_split-cons_yes, position_or_len_is, is_blank, has_bytes, words, trimmed}
 
 -- ---- the first blank
 

@@ -1,9 +1,7 @@
 -- What a contract sees of a fuse file that was read.
 use Rattle.std.specs.Prelude.{◌≡◌, ℕ, ◌≤◌, ◌<◌, get_or}
-use Rattle.pld_base.specs.declared.point.Vector.{Vector}
+use Rattle.jedec_reader.specs.Prelude.{Vector, Table, all_chars}
 use Rattle.jedec_file.specs.FuseFile as said
-use Rattle.pld_device.specs.Table.{Table}
-use Rattle.jedec_file.specs.TestVectors.{all_chars}
 use Rattle.jedec_reader.specs.declared.fuse_file.FuseFile.{FuseFile}
 
 -- the same, with the characters of each vector at the device's pins

@@ -1,9 +1,7 @@
 -- What holds of every field that a fuse file of a device can have (this project's rule).
 use Rattle.std.specs.Prelude.{◌≡◌, ◌+◌, ◌≤◌, true, length, ⊤}
-use Rattle.jedec_file.specs.declared.field.Field.{Field}
+use Rattle.jedec_reader.specs.Prelude.{Field, is_each_pin, Table}
 use Rattle.jedec_file.specs.declared.field.Field.TheVariants as field
-use Rattle.jedec_file.specs.Fields.{is_each_pin}
-use Rattle.pld_device.specs.Table.{Table}
 
 -- levels are those of the device's fuses, an order has each of its pins once, and a vector is numbered from 1 on
 -- and has a character for each pin

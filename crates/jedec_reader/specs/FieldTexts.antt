@@ -1,9 +1,7 @@
 -- What the text of a field lists (JESD3-C, the fields of each letter; which numbers they hold is this project's
 -- profile).
 use Rattle.std.specs.Prelude.{ℕ, ◌^◌, nat_lt, if◌then◌else◌, Bool, Option, None, Some, option_and_then, List}
-use Rattle.std.specs.List.{concat}
-use Rattle.jedec_file.specs.Fields.{words, number, each_of, level_of}
-use Rattle.jedec_file.specs.Frame.{Framed}
+use Rattle.jedec_reader.specs.Prelude.{concat, words, number, each_of, level_of, Framed}
 
 -- a text, and the place of its first byte
 abbrev pub framed : (at : ℕ) → List ℕ → Framed

@@ -1,8 +1,7 @@
 -- Where a field's letter stands, and what makes a vector (JESD3-C, the fields of each letter; which numbers and
 -- characters they hold is this project's profile).
 use Rattle.std.specs.Prelude.{ℕ, ◌+◌, ◌-◌, ◌==◌, ◌&&◌, not, Bool, List, length}
-use Rattle.std.specs.List.{list_all}
-use Rattle.jedec_file.specs.Fields.{trimmed, is_test_char}
+use Rattle.jedec_reader.specs.Prelude.{list_all, trimmed, is_test_char}
 
 -- where the letter stands in a piece that begins at the offset
 abbrev pub letter_at : (at : ℕ) → List ℕ → ℕ

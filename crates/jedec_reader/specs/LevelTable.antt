@@ -1,10 +1,7 @@
 -- The levels that lists of fuses say, as a table by fuse (JESD3-C, fuse list fields; the later list counts).
 use Rattle.std.specs.Prelude.{◌≡◌, ℕ, ◌-◌, nat_lt, nat_le, if◌then◌else◌, Bool, false, Option, None, Some, is_none, unwrap_or, List, map, slice_get, get_or, length, position, Ok}
-use Rattle.std.specs.List.{range_with_len}
+use Rattle.jedec_reader.specs.Prelude.{range_with_len, Field, last_of, level_at, none_unlisted, Read}
 use Rattle.std.specs.Option.{option_or}
-use Rattle.jedec_file.specs.declared.field.Field.{Field}
-use Rattle.jedec_file.specs.FuseFile.{last_of, level_at, none_unlisted}
-use Rattle.jedec_file.specs.Refusals.{Read}
 
 -- what the fields say of the first fuses
 abbrev pub levels_said : List Field → (count : ℕ) → List (Option Bool)

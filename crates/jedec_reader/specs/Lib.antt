@@ -4,5 +4,6 @@ pub mod FieldTexts
 pub mod FieldsIn
 pub mod Letters
 pub mod LevelTable
+pub mod Prelude
 pub mod SaidBy
 pub mod VectorTable

@@ -1,9 +1,6 @@
 -- The numbers and single levels that fields say (this project's rule: the last field of a kind counts).
 use Rattle.std.specs.Prelude.{◌≡◌, ℕ, ◌==◌, ◌&&◌, ◌||◌, Bool, Option, List}
-use Rattle.std.specs.List.{list_all}
-use Rattle.jedec_file.specs.declared.field.Field.{Field}
-use Rattle.jedec_file.specs.FuseFile.{last_of, fuse_count, pin_count, default_fuse, sum_said, default_test, is_pin_count, ends_by}
-use Rattle.pld_device.specs.Table.{Table}
+use Rattle.jedec_reader.specs.Prelude.{list_all, Field, last_of, fuse_count, pin_count, default_fuse, sum_said, default_test, is_pin_count, ends_by, Table}
 use Rattle.jedec_reader.specs.declared.said.Said.{Said}
 
 -- each is that of the last field that says one

@@ -1,11 +1,7 @@
 -- Test vectors by their numbers, with their characters at the pins (JESD3-C, test vector and pin sequence
 -- fields; the later of two vectors with one number counts).
 use Rattle.std.specs.Prelude.{◌≡◌, ℕ, ◌+◌, ◌<◌, ◌≤◌, ◌==◌, if◌then◌else◌, Option, None, Some, IfSome, option_map, filter_map, unwrap_or, List, length, get_or, position}
-use Rattle.pld_base.specs.declared.point.Vector.{Vector}
-use Rattle.jedec_file.specs.declared.field.Field.{Field}
-use Rattle.jedec_file.specs.FuseFile.{last_of, vector_at, by_pins}
-use Rattle.pld_device.specs.Table.{Table}
-use Rattle.jedec_file.specs.TestVectors.{chars_of}
+use Rattle.jedec_reader.specs.Prelude.{Vector, Field, last_of, vector_at, by_pins, Table, chars_of}
 use Rattle.jedec_reader.specs.Contents.{IsPadded}
 
 -- where a vector has the character of a pin

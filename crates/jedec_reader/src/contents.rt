@@ -1,11 +1,8 @@
 //! What all fields of a fuse file say together.
 
 ghost use Rattle.std.specs.Prelude.{◌≡◌, ◌≤◌, length, IfOk, All};
-ghost use Rattle.jedec_file.specs.FuseFile.{contents_of, size_of, sum_agrees};
-ghost use Rattle.jedec_file.specs.FuseFile.{ends_by, is_pin_count};
-ghost use Rattle.std.specs.List.{list_all};
+ghost use Rattle.jedec_reader.specs.Prelude.{contents_of, size_of, sum_agrees, ends_by, is_pin_count, list_all, Gives};
 ghost use Rattle.jedec_file.specs.FuseSums.{fuse_sum_of};
-ghost use Rattle.jedec_file.specs.Refusals.{Gives};
 ghost use Rattle.jedec_reader.specs.Contents.{IsPadded, contents};
 ghost use Rattle.jedec_reader.specs.FieldFits.{FieldFits};
 ghost use Rattle.jedec_reader.specs.SaidBy.{IsSaidBy, size_fits};

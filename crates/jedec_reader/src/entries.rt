@@ -1,7 +1,7 @@
 //! What the words of a field list: levels, pins, characters.
 
 ghost use Rattle.std.specs.Prelude.{◌≡◌, option_map, IfOk};
-ghost use Rattle.std.specs.List.{list_all, range_with_len};
+ghost use Rattle.jedec_reader.specs.Prelude.{list_all, range_with_len};
 ghost use Rattle.jedec_file.specs.Fields as fields;
 ghost use Rattle.jedec_reader.specs.FieldTexts.{characters_in, levels_in, pin_number, pins_in};
 

@@ -2,10 +2,9 @@
 
 ghost use Rattle.std.specs.Prelude.{◌≡◌, if◌then◌else◌, true, Some, None, IfOk, option_map};
 ghost use Rattle.std.specs.Prelude.{option_and_then};
-ghost use Rattle.std.specs.Str.{all_ascii_digits};
+ghost use Rattle.jedec_reader.specs.Prelude.{all_ascii_digits, four_hex_value};
 ghost use Rattle.std.specs.Str.Parse.{digits_value};
 ghost use Rattle.jedec_file.specs.Fields as fields;
-ghost use Rattle.jedec_file.specs.Frame.{four_hex_value};
 ghost use Rattle.jedec_file.specs.declared.field.Field.TheVariants as field;
 ghost use Rattle.jedec_reader.specs.Letters.{is_vector};
 

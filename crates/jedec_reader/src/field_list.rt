@@ -3,8 +3,7 @@
 ghost use Rattle.std.specs.Prelude.{◌≡◌, ◌+◌, ◌^◌, ◌<◌, ◌-◌, ◌∷◌, [], IfOk, IfSome, MatchOption};
 ghost use Rattle.std.specs.Prelude.{All, length, take, drop};
 ghost use Rattle.jedec_file.specs.FieldLists as lists;
-ghost use Rattle.jedec_file.specs.Fields.{trimmed};
-ghost use Rattle.jedec_file.specs.Refusals.{Gives};
+ghost use Rattle.jedec_reader.specs.Prelude.{trimmed, Gives};
 ghost use Rattle.jedec_reader.specs.FieldFits.{FieldFits};
 ghost use Rattle.jedec_reader.specs.Letters.{letter_at};
 ghost use Rattle.jedec_reader.specs.FieldsIn.{fields_in};

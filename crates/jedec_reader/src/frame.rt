@@ -2,7 +2,7 @@
 
 ghost use Rattle.std.specs.Prelude.{◌≡◌, ◌+◌, ◌<◌, ◌≤◌, ◌==◌, IfOk, IfSome, length, position};
 ghost use Rattle.jedec_file.specs.Frame as frame;
-ghost use Rattle.jedec_file.specs.Refusals.{Gives};
+ghost use Rattle.jedec_reader.specs.Prelude.{Gives};
 ghost use Rattle.jedec_reader.specs.FieldTexts.{framed};
 
 use jedec_file::{JedecFault, byte_sum};

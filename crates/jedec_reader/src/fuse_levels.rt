@@ -2,7 +2,7 @@
 
 ghost use Rattle.std.specs.Prelude.{◌≡◌, ◌<◌, ◌^◌, false, nat_lt, if◌then◌else◌, unwrap_or};
 ghost use Rattle.std.specs.Prelude.{length, position, is_none, IfOk};
-ghost use Rattle.jedec_file.specs.Refusals.{Gives};
+ghost use Rattle.jedec_reader.specs.Prelude.{Gives};
 ghost use Rattle.jedec_reader.specs.LevelTable.{default_in, filled};
 
 use jedec_file::JedecFault;

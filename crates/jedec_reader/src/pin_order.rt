@@ -1,7 +1,7 @@
 //! The order of pins in test vectors.
 
 ghost use Rattle.std.specs.Prelude.{◌≡◌, ◌≤◌, length, All};
-ghost use Rattle.jedec_file.specs.FuseFile.{order_of};
+ghost use Rattle.jedec_reader.specs.Prelude.{order_of};
 ghost use Rattle.jedec_reader.specs.FieldFits.{FieldFits};
 ghost use Rattle.jedec_reader.specs.VectorTable.{ArePlaces, place_of};
 

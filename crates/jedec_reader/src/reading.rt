@@ -1,8 +1,7 @@
 //! Reading a whole file.
 
 ghost use Rattle.std.specs.Prelude.{◌≡◌, ◌<◌, ◌^◌, length, IfOk, IfErr, Ok, All};
-ghost use Rattle.jedec_file.specs.FuseFile.{file_of};
-ghost use Rattle.jedec_file.specs.Refusals.{Refuses};
+ghost use Rattle.jedec_reader.specs.Prelude.{file_of, Refuses};
 ghost use Rattle.jedec_reader.specs.Contents.{IsPadded, contents};
 
 use crate::contents::contents;

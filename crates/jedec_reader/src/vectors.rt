@@ -1,8 +1,7 @@
 //! Test vectors in rising order of their numbers, with their characters at the pins.
 
 ghost use Rattle.std.specs.Prelude.{◌≡◌, ◌≤◌, ◌^◌, length, IfOk, OnOk, All};
-ghost use Rattle.jedec_file.specs.FuseFile.{order_of, vectors_of};
-ghost use Rattle.jedec_file.specs.TestVectors.{all_chars};
+ghost use Rattle.jedec_reader.specs.Prelude.{order_of, vectors_of, all_chars};
 ghost use Rattle.jedec_reader.specs.Contents.{IsPadded};
 ghost use Rattle.jedec_reader.specs.FieldFits.{FieldFits};
 ghost use Rattle.jedec_reader.specs.VectorTable.{ArePlaces, AreWithin, IsPlaced};

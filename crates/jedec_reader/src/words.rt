@@ -2,8 +2,7 @@
 
 ghost use Rattle.std.specs.Prelude.{◌≡◌, ◌+◌, ◌^◌, ◌<◌, ◌≤◌, ◌∷◌, [], ⊤, length, option_and_then};
 ghost use Rattle.std.specs.Prelude.{option_map, MatchOption};
-ghost use Rattle.std.specs.List.{position_or_len};
-ghost use Rattle.std.specs.Str.{all_ascii_digits};
+ghost use Rattle.jedec_reader.specs.Prelude.{position_or_len, all_ascii_digits};
 ghost use Rattle.jedec_file.specs.Fields as fields;
 ghost use Rattle.jedec_file.specs.Frame as frame;
 

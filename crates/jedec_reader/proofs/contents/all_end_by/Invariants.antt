@@ -1,6 +1,5 @@
 use Rattle.std.proofs.Common.{◌≡◌, true, take}
-use Rattle.std.specs.List.{list_all}
-use Rattle.jedec_file.specs.FuseFile.{ends_by}
+use Rattle.jedec_reader.proofs.Common.{list_all, ends_by}
 use Rattle.jedec_reader.proofs.contents.all_end_by.Given as goal
 
 abbrev pub invariant-loop-field : goal.invariant-loop-field

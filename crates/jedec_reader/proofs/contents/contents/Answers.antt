@@ -1,6 +1,5 @@
 use Rattle.std.proofs.Common.{◌∙◌, refl}
-use Rattle.std.proofs.lemmas.Result.{err_from_is_err_and}
-use Rattle.jedec_file.specs.FuseFile.{contents_of, size_of, default_of, fuses_said, fuse_sum_read}
+use Rattle.jedec_reader.proofs.Common.{err_from_is_err_and, contents_of, size_of, default_of, fuses_said, fuse_sum_read}
 use Rattle.jedec_reader.proofs.LevelLists.{said_length}
 use Rattle.jedec_reader.proofs.Steps.{refuses_with, default_found, default_read, levels_read, fuses_said-length, sum_found, size_refused, default_refused, sum_refused, all_read}
 use Rattle.jedec_reader.proofs.contents.contents.Goals as goal

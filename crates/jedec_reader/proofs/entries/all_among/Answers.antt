@@ -1,5 +1,5 @@
 use Rattle.std.proofs.Common.{arith, sym, ◌∙◌}
-use Rattle.jedec_file.specs.Fields.{is_among}
+use Rattle.jedec_reader.proofs.Common.{is_among}
 use Rattle.jedec_reader.proofs.Ranges.{all_of_range, not_all_of_range}
 use Rattle.jedec_reader.proofs.entries.all_among.Goals as goal
 

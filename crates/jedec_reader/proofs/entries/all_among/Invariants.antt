@@ -1,5 +1,5 @@
 use Rattle.std.proofs.Common.{◌≡◌, ◌+◌, ◌<◌, ℕ, true}
-use Rattle.jedec_file.specs.Fields.{is_among}
+use Rattle.jedec_reader.proofs.Common.{is_among}
 use Rattle.jedec_reader.proofs.entries.all_among.Given as goal
 
 abbrev pub invariant-loop-before : goal.invariant-loop-before

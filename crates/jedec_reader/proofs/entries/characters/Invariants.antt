@@ -1,6 +1,5 @@
 use Rattle.std.proofs.Common.{◌≡◌, ◌++◌, drop}
-use Rattle.std.specs.List.{concat}
-use Rattle.jedec_file.specs.Fields.{words}
+use Rattle.jedec_reader.proofs.Common.{concat, words}
 use Rattle.jedec_reader.proofs.EntryLemmas.{solid}
 use Rattle.jedec_reader.proofs.entries.characters.Given as goal
 

@@ -1,5 +1,5 @@
 use Rattle.std.proofs.Common.{◌≡◌, drop}
-use Rattle.jedec_file.specs.Fields.{is_among}
+use Rattle.jedec_reader.proofs.Common.{is_among}
 use Rattle.jedec_reader.proofs.entries.is_among.Given as goal
 
 abbrev pub invariant-loop-other : goal.invariant-loop-other

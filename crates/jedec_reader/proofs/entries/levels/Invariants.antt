@@ -1,6 +1,5 @@
 use Rattle.std.proofs.Common.{◌≡◌, drop}
-use Rattle.std.specs.List.{concat}
-use Rattle.jedec_file.specs.Fields.{each_of, level_of, words}
+use Rattle.jedec_reader.proofs.Common.{concat, each_of, level_of, words}
 use Rattle.jedec_reader.proofs.EntryLemmas.{behind, solid}
 use Rattle.jedec_reader.proofs.entries.levels.Given as goal
 

@@ -1,5 +1,4 @@
-use Rattle.jedec_file.specs.Fields.{each_of, words}
-use Rattle.jedec_reader.specs.FieldTexts.{pin_number}
+use Rattle.jedec_reader.proofs.Common.{each_of, words, pin_number}
 use Rattle.jedec_reader.proofs.EntryLemmas.{behind_nothing}
 use Rattle.jedec_reader.proofs.entries.pin_numbers.Goals as goal
 

@@ -1,6 +1,5 @@
 use Rattle.std.proofs.Common.{◌≡◌, length}
-use Rattle.jedec_file.specs.Fields.{each_of, words}
-use Rattle.jedec_reader.specs.FieldTexts.{pin_number}
+use Rattle.jedec_reader.proofs.Common.{each_of, words, pin_number}
 use Rattle.jedec_reader.proofs.EntryLemmas.{behind}
 use Rattle.jedec_reader.proofs.entries.pin_numbers.Given as goal
 

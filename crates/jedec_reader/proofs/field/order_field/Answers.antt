@@ -1,5 +1,5 @@
 use Rattle.std.proofs.Common.{arith, sym, ◌∙◌}
-use Rattle.jedec_file.specs.Fields.{words}
+use Rattle.jedec_reader.proofs.Common.{words}
 use Rattle.jedec_reader.proofs.OrderFields.{order_none, order_said, order_refused}
 use Rattle.jedec_reader.proofs.field.order_field.Goals as goal
 

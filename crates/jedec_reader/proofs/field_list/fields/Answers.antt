@@ -1,4 +1,4 @@
-use Rattle.jedec_file.specs.FieldLists.{pieces}
+use Rattle.jedec_reader.proofs.Common.{pieces}
 use Rattle.jedec_reader.proofs.Fits.{given_fit}
 use Rattle.jedec_reader.proofs.field_list.fields.Goals as goal
 

@@ -1,6 +1,5 @@
 use Rattle.std.proofs.Common.{arith}
-use Rattle.std.proofs.lemmas.Result.{err_from_is_err_and}
-use Rattle.jedec_file.specs.FieldLists.{fields_from, pieces}
+use Rattle.jedec_reader.proofs.Common.{err_from_is_err_and, fields_from, pieces}
 use Rattle.jedec_reader.proofs.FieldLoop.{goes_on, refuses_field, is_done, refuses_end}
 use Rattle.jedec_reader.proofs.field_list.fields_from.Goals as goal
 

@@ -1,5 +1,5 @@
 use Rattle.std.proofs.Common.{◌≡◌, ◌+◌, length}
-use Rattle.jedec_file.specs.FieldLists.{fields_from, pieces}
+use Rattle.jedec_reader.proofs.Common.{fields_from, pieces}
 use Rattle.jedec_reader.proofs.FieldLoop.{behind_fields}
 use Rattle.jedec_reader.proofs.field_list.fields_from.Given as goal
 

@@ -1,5 +1,5 @@
 use Rattle.std.proofs.Common.{◌==◌, sym, arith, eq-eqb}
-use Rattle.std.proofs.lemmas.Bool.{ne_eqb}
+use Rattle.jedec_reader.proofs.Common.{ne_eqb}
 use Rattle.jedec_reader.proofs.Positions.{position_found, position_none}
 use Rattle.jedec_reader.proofs.frame.place_of.Goals as goal
 

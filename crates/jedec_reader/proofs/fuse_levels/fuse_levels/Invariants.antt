@@ -1,6 +1,6 @@
 use Rattle.std.proofs.Common.{◌≡◌, false, get_or, map}
 use Rattle.std.specs.Prelude.{nat_lt, if◌then◌else◌, unwrap_or, None}
-use Rattle.std.specs.List.{range_with_len}
+use Rattle.jedec_reader.proofs.Common.{range_with_len}
 use Rattle.jedec_reader.proofs.fuse_levels.fuse_levels.Given as goal
 
 abbrev pub invariant-loop-fuse : goal.invariant-loop-fuse

@@ -1,7 +1,6 @@
 use Rattle.std.proofs.Common.{◌≡◌, ◌∙◌, rules, ap, subst, length, None, replicate, take}
-use Rattle.std.proofs.lemmas.List.{with_items_is}
+use Rattle.jedec_reader.proofs.Common.{with_items_is, FieldFits}
 use Rattle.jedec_file.specs.declared.field.Field.TheVariants as field
-use Rattle.jedec_reader.specs.FieldFits.{FieldFits}
 use Rattle.jedec_reader.proofs.LevelLists.{fits_at, said_length, said_none, said_put, said_other}
 use Rattle.jedec_reader.proofs.level_table.level_table.Goals as goal
 use Rattle.jedec_reader.proofs.level_table.level_table.Goals.{in-Levels, in_default}

@@ -1,5 +1,5 @@
 use Rattle.std.proofs.Common.{◌≡◌, take}
-use Rattle.jedec_reader.specs.LevelTable.{levels_said}
+use Rattle.jedec_reader.proofs.Common.{levels_said}
 use Rattle.jedec_reader.proofs.level_table.level_table.Given as goal
 
 abbrev pub invariant-loop-field : goal.invariant-loop-field

@@ -1,5 +1,5 @@
 use Rattle.std.proofs.Common.{take}
-use Rattle.jedec_reader.specs.LevelTable.{HasPut}
+use Rattle.jedec_reader.proofs.Common.{HasPut}
 use Rattle.jedec_reader.proofs.level_table.put_levels.Given as goal
 
 abbrev pub invariant-loop-place : goal.invariant-loop-place

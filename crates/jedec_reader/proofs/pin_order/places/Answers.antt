@@ -1,7 +1,6 @@
 use Rattle.std.proofs.Common.{◌≡◌, ◌∙◌, sym, subst, ℕ, List}
-use Rattle.std.specs.List.{range_with_len}
+use Rattle.jedec_reader.proofs.Common.{range_with_len, ArePlaces}
 use Rattle.jedec_file.specs.declared.field.Field.TheVariants as field
-use Rattle.jedec_reader.specs.VectorTable.{ArePlaces}
 use Rattle.jedec_reader.proofs.PinOrders.{take-range_with_len, order_put, order_other}
 use Rattle.jedec_reader.proofs.pin_order.places.Goals as goal
 use Rattle.jedec_reader.proofs.pin_order.places.Goals.{in-PinOrder, in_default}

@@ -1,6 +1,5 @@
 use Rattle.std.proofs.Common.{take}
-use Rattle.jedec_file.specs.FuseFile.{order_of}
-use Rattle.jedec_reader.specs.VectorTable.{ArePlaces}
+use Rattle.jedec_reader.proofs.Common.{order_of, ArePlaces}
 use Rattle.jedec_reader.proofs.pin_order.places.Given as goal
 
 abbrev pub invariant-loop-field : goal.invariant-loop-field

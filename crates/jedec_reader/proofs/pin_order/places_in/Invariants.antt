@@ -1,5 +1,5 @@
 use Rattle.std.proofs.Common.{◌≡◌, ℕ, ◌+◌, ◌<◌, length, get_or}
-use Rattle.jedec_reader.specs.VectorTable.{place_of}
+use Rattle.jedec_reader.proofs.Common.{place_of}
 use Rattle.jedec_reader.proofs.pin_order.places_in.Given as goal
 
 abbrev pub invariant-loop-pin : goal.invariant-loop-pin

@@ -1,7 +1,4 @@
-use Rattle.std.proofs.lemmas.Result.{err_from_is_err_and}
-use Rattle.jedec_file.specs.FuseFile.{contents_of, file_of}
-use Rattle.jedec_reader.specs.Contents.{contents}
-use Rattle.jedec_reader.specs.FieldsIn.{fields_in}
+use Rattle.jedec_reader.proofs.Common.{err_from_is_err_and, contents_of, file_of, contents, fields_in}
 use Rattle.jedec_reader.proofs.FileSteps.{fields_refused, fields_read}
 use Rattle.jedec_reader.proofs.Steps.{refuses_with, gives_ok, gives_err}
 use Rattle.jedec_reader.proofs.reading.read.Goals as goal

@@ -1,7 +1,6 @@
 use Rattle.std.proofs.Common.{◌≡◌, length, arith, subst}
-use Rattle.jedec_file.specs.FuseFile.{order_of}
+use Rattle.jedec_reader.proofs.Common.{order_of, FieldFits}
 use Rattle.jedec_file.specs.declared.field.Field.TheVariants as field
-use Rattle.jedec_reader.specs.FieldFits.{FieldFits}
 use Rattle.jedec_reader.proofs.LevelLists.{fits_at}
 use Rattle.jedec_reader.proofs.PinOrders.{order_of-length}
 use Rattle.jedec_reader.proofs.NumberedVectors.{places_within, placed_chars, placed_padded, vector_put, vector_other}

@@ -1,6 +1,5 @@
 use Rattle.std.proofs.Common.{◌≤◌, ◌^◌, take, length}
-use Rattle.jedec_file.specs.FuseFile.{order_of}
-use Rattle.jedec_reader.specs.VectorTable.{HasVectors}
+use Rattle.jedec_reader.proofs.Common.{order_of, HasVectors}
 use Rattle.jedec_reader.proofs.vectors.vector_table.Given as goal
 
 abbrev pub invariant-loop-field : goal.invariant-loop-field

@@ -1,11 +1,6 @@
 use Rattle.std.proofs.Common.{◌≡◌, ◌∙◌, ap, sym, subst, List}
-use Rattle.std.proofs.lemmas.Result.{IfOk-weaker}
+use Rattle.jedec_reader.proofs.Common.{IfOk-weaker, Vector, vectors_of, all_chars, IsPadded, present}
 use Rattle.std.specs.Prelude.{All}
-use Rattle.pld_base.specs.declared.point.Vector.{Vector}
-use Rattle.jedec_file.specs.FuseFile.{vectors_of}
-use Rattle.jedec_file.specs.TestVectors.{all_chars}
-use Rattle.jedec_reader.specs.Contents.{IsPadded}
-use Rattle.jedec_reader.specs.VectorTable.{present}
 use Rattle.jedec_reader.proofs.NumberedVectors.{vectors_said, present_padded}
 use Rattle.jedec_reader.proofs.vectors.vectors.Goals as goal
 

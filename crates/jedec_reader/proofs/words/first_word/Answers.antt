@@ -1,7 +1,5 @@
 use Rattle.std.proofs.Common.{arith, not}
-use Rattle.jedec_file.specs.Fields.{is_blank}
-use Rattle.std.proofs.lemmas.Bool.Decides.{nat_tests}
-use Rattle.std.proofs.lemmas.List.Sums.{prefix_len-le-length}
+use Rattle.jedec_reader.proofs.Common.{is_blank, nat_tests, prefix_len-le-length}
 use Rattle.jedec_reader.proofs.WordLemmas.{no_words, words_cut, word_is_long}
 use Rattle.jedec_reader.proofs.words.first_word.Goals as goal
 

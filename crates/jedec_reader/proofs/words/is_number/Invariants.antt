@@ -1,5 +1,5 @@
 use Rattle.std.proofs.Common.{◌≡◌, drop}
-use Rattle.std.specs.Str.{all_ascii_digits}
+use Rattle.jedec_reader.proofs.Common.{all_ascii_digits}
 use Rattle.jedec_reader.proofs.words.is_number.Given as goal
 
 abbrev pub invariant-loop-byte : goal.invariant-loop-byte

@@ -1,5 +1,5 @@
 use Rattle.std.proofs.Common.{◌≡◌, ◌<◌, drop}
-use Rattle.jedec_file.specs.Fields.{short_number}
+use Rattle.jedec_reader.proofs.Common.{short_number}
 use Rattle.jedec_reader.proofs.Numbers.{short_after}
 use Rattle.jedec_reader.proofs.words.short_number.Given as goal
 

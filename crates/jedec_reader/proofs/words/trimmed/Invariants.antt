@@ -1,5 +1,5 @@
 use Rattle.std.proofs.Common.{◌≡◌, drop}
-use Rattle.jedec_file.specs.Fields.{trimmed}
+use Rattle.jedec_reader.proofs.Common.{trimmed}
 use Rattle.jedec_reader.proofs.words.trimmed.Given as goal
 
 abbrev pub invariant-loop-place : goal.invariant-loop-place

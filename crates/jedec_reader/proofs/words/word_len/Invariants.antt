@@ -1,5 +1,5 @@
 use Rattle.std.proofs.Common.{◌≡◌, ◌<◌, ℕ, false, get_or}
-use Rattle.jedec_file.specs.Fields.{is_blank}
+use Rattle.jedec_reader.proofs.Common.{is_blank}
 use Rattle.jedec_reader.proofs.words.word_len.Given as goal
 
 abbrev pub invariant-loop-place : goal.invariant-loop-place

@@ -1,4 +1,4 @@
-use Rattle.jedec_file.specs.FuseFile.{fuse_count, pin_count, default_fuse, sum_said, default_test}
+use Rattle.jedec_reader.proofs.Common.{fuse_count, pin_count, default_fuse, sum_said, default_test}
 use Rattle.jedec_reader.proofs.LastOf.{more_said}
 use Rattle.jedec_reader.proofs.said.Said.by.Goals as goal
 

@@ -1,5 +1,5 @@
 use Rattle.std.proofs.Common.{take}
-use Rattle.jedec_reader.specs.SaidBy.{IsSaidBy}
+use Rattle.jedec_reader.proofs.Common.{IsSaidBy}
 use Rattle.jedec_reader.proofs.said.Said.by.Given as goal
 
 abbrev pub invariant-loop-field : goal.invariant-loop-field
