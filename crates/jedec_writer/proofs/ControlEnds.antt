@@ -1,14 +1,9 @@
 -- The number after the last control fuse, one entry or one list more at a time.
 use Rattle.std.proofs.Common.{◌≡◌, ℕ, zero, suc, ◌<◌, ◌≤◌, List, [], ◌∷◌, ◌++◌, map, drop, slice_get, All, None, Some, refl, sym, ap, ◌∙◌, arith}
 use Rattle.std.specs.Prelude.{max}
+use Rattle.jedec_writer.proofs.Common.{nat_tests, FuseBit, Table, IsDevice, past, control_fuses, fuses_named}
 use Rattle.std.proofs.Math.Nat.{zero-max, max-zero}
 use Rattle.std.proofs.Math.Seq.{drop-nil}
-use Rattle.std.proofs.lemmas.Bool.Decides.{nat_tests}
-use Rattle.pld_device.specs.declared.fuse_bit.FuseBit.{FuseBit}
-use Rattle.pld_device.specs.Table.{Table}
-use Rattle.pld_device.specs.Laws.{IsDevice}
-use Rattle.jedec_file.specs.ControlLines.{past}
-use Rattle.pld_device.specs.ControlFuses.{control_fuses, fuses_named}
 
 max_assoc : (a b c : ℕ) → max (max a b) c ≡ max a (max b c)
 max_assoc a b c = omega (arith)

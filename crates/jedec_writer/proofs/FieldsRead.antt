@@ -2,13 +2,8 @@
 -- Q 81, V 86, X 88.
 use Rattle.std.proofs.Common.{◌≡◌, ℕ, ◌+◌, ◌^◌, ◌<◌, ◌≤◌, Bool, true, false, List, [], ◌∷◌, ◌++◌, length, map, Some, refl, arith, append-nil}
 use Rattle.std.specs.Prelude.{◌==◌}
-use Rattle.std.specs.List.{list_all}
-use Rattle.std.specs.Fmt.{decimal}
-use Rattle.std.proofs.lemmas.Bool.{le-leb, eq-eqb, ne_eqb}
+use Rattle.jedec_writer.proofs.Common.{list_all, decimal, le-leb, eq-eqb, ne_eqb, Table, space, four_digits, four_hex, level_char, is_test_char, each_of, level_of, field_of}
 use Rattle.jedec_file.specs.declared.field.Field.TheVariants as field
-use Rattle.pld_device.specs.Table.{Table}
-use Rattle.jedec_file.specs.FileText.{space, four_digits, four_hex, level_char}
-use Rattle.jedec_file.specs.Fields.{is_test_char, each_of, level_of, field_of}
 use Rattle.jedec_writer.proofs.Words.{IsWord, one_word, two_words}
 use Rattle.jedec_writer.proofs.Numerals.{decimal_is_word, short_number-decimal, four_digits_are_word, number-four_digits, short_number-four_digits, four_hex_is_word, four_hex_value-four_hex, levels_are_word, each_of-levels, chars_are_word}
 

@@ -1,15 +1,9 @@
 -- What the fields of the canonical file say last.
 use Rattle.std.proofs.Common.{◌≡◌, ℕ, zero, suc, ◌+◌, ◌*◌, Bool, false, List, [], ◌∷◌, ◌++◌, Option, Some, None, refl, sym, ap, ◌∙◌, inl, inr}
 use Rattle.std.specs.Prelude.{slice_range, unwrap_or}
-use Rattle.std.specs.List.{list_any}
+use Rattle.jedec_writer.proofs.Common.{list_any, cases_Bool, Field, Table, fuse_sum_of, control_levels, last_of, fuse_count, pin_count, default_fuse, sum_said, default_test, pin_order, vector_at}
 use Rattle.std.specs.Option.{option_or}
-use Rattle.std.proofs.lemmas.Bool.{cases_Bool}
-use Rattle.jedec_file.specs.declared.field.Field.{Field}
 use Rattle.jedec_file.specs.declared.field.Field.TheVariants as field
-use Rattle.pld_device.specs.Table.{Table}
-use Rattle.jedec_file.specs.FuseSums.{fuse_sum_of}
-use Rattle.jedec_file.specs.ControlLines.{control_levels}
-use Rattle.jedec_file.specs.FuseFile.{last_of, fuse_count, pin_count, default_fuse, sum_said, default_test, pin_order, vector_at}
 use Rattle.jedec_writer.proofs.LinesRead.{levels_fields, row_fields, vector_fields, fields_with}
 use Rattle.jedec_writer.proofs.TextRead.{written_fields}
 

@@ -1,14 +1,8 @@
 -- No level that the canonical file says stands past the fuses.
 use Rattle.std.proofs.Common.{◌≡◌, ℕ, zero, suc, ◌+◌, ◌*◌, ◌≤◌, Bool, true, List, [], ◌∷◌, ◌++◌, length, refl, arith, inl, inr}
 use Rattle.std.specs.Prelude.{slice_range}
-use Rattle.std.specs.List.{list_all, list_any}
-use Rattle.std.proofs.lemmas.Bool.{cases_Bool, le-leb}
+use Rattle.jedec_writer.proofs.Common.{list_all, list_any, cases_Bool, le-leb, Table, fuse_sum_of, control_levels, past, control_fuses, ends_by}
 use Rattle.jedec_file.specs.declared.field.Field.TheVariants as field
-use Rattle.pld_device.specs.Table.{Table}
-use Rattle.jedec_file.specs.FuseSums.{fuse_sum_of}
-use Rattle.jedec_file.specs.ControlLines.{control_levels, past}
-use Rattle.pld_device.specs.ControlFuses.{control_fuses}
-use Rattle.jedec_file.specs.FuseFile.{ends_by}
 use Rattle.jedec_writer.proofs.Words.{both_pass}
 use Rattle.jedec_writer.proofs.LinesRead.{levels_fields, row_fields, vector_fields, part_ends}
 use Rattle.jedec_writer.proofs.TextRead.{written_fields}

@@ -1,21 +1,9 @@
 -- What the fields of the canonical file say of each fuse.
 use Rattle.std.proofs.Common.{◌≡◌, ℕ, zero, suc, ◌+◌, ◌-◌, ◌*◌, ◌<◌, ◌≤◌, Bool, false, if◌then◌else◌, List, [], ◌∷◌, ◌++◌, length, drop, get_or, None, refl, sym, ap, subst, ◌∙◌, arith, inl, inr, length-drop}
 use Rattle.std.specs.Prelude.{slice_range, unwrap_or, nat_lt}
-use Rattle.std.specs.List.{list_any, All}
-use Rattle.std.proofs.lemmas.Bool.{cases_Bool, cases_lt, le-leb, lt-leb, lt-ltb, le-ltb, or_parts}
-use Rattle.std.proofs.lemmas.Bool.Decides.{nat_tests}
-use Rattle.std.proofs.lemmas.List.{get_or-take, get_or-drop, length-take-le}
+use Rattle.jedec_writer.proofs.Common.{list_any, All, cases_Bool, cases_lt, le-leb, lt-leb, lt-ltb, le-ltb, or_parts, nat_tests, get_or-take, get_or-drop, length-take-le, All-head, All-tail, All-weaker, fill_by_all, Field, Table, IsDevice, IsControlFuse, control_levels, past, lines_end, IsIntactPastLines, control_fuses, fuse_sum_of, last_of, level_at, fuses_said}
 use Rattle.std.proofs.lemmas.Option.{slice_get-get_or, slice_get_past}
-use Rattle.std.proofs.lemmas.List.Elements.{All-head, All-tail, All-weaker}
-use Rattle.std.proofs.lemmas.List.FromFn.{fill_by_all}
-use Rattle.jedec_file.specs.declared.field.Field.{Field}
 use Rattle.jedec_file.specs.declared.field.Field.TheVariants as field
-use Rattle.pld_device.specs.Table.{Table}
-use Rattle.pld_device.specs.Laws.{IsDevice, IsControlFuse}
-use Rattle.jedec_file.specs.ControlLines.{control_levels, past, lines_end, IsIntactPastLines}
-use Rattle.pld_device.specs.ControlFuses.{control_fuses}
-use Rattle.jedec_file.specs.FuseSums.{fuse_sum_of}
-use Rattle.jedec_file.specs.FuseFile.{last_of, level_at, fuses_said}
 use Rattle.jedec_writer.proofs.LinesRead.{levels_fields, row_fields, vector_fields}
 use Rattle.jedec_writer.proofs.TextRead.{written_fields}
 use Rattle.jedec_writer.proofs.LastSaid.{last_of_first, last_of_second, vectors_passed, head_fields}

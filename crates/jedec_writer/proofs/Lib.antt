@@ -1,3 +1,4 @@
+pub mod Common
 pub mod ControlEnds
 pub mod FieldsRead
 pub mod FrameRead

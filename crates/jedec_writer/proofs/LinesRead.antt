@@ -1,19 +1,8 @@
 -- What the lines of the canonical file say, from the one of pins to the last vector's.
 use Rattle.std.proofs.Common.{◌≡◌, ℕ, zero, suc, ◌+◌, ◌-◌, ◌*◌, ◌^◌, ◌<◌, ◌≤◌, Bool, true, false, if◌then◌else◌, List, [], ◌∷◌, ◌++◌, length, map, drop, refl, arith, inl, inr}
 use Rattle.std.specs.Prelude.{codes, slice_range}
-use Rattle.std.specs.List.{list_all, list_any, All}
-use Rattle.std.specs.Fmt.{decimal}
-use Rattle.std.proofs.lemmas.Bool.{cases_Bool}
-use Rattle.std.proofs.lemmas.List.{length-take, length-drop}
-use Rattle.std.proofs.lemmas.List.Elements.{All-head, All-tail}
-use Rattle.jedec_file.specs.declared.field.Field.{Field}
+use Rattle.jedec_writer.proofs.Common.{list_all, list_any, All, decimal, cases_Bool, length-take, length-drop, All-head, All-tail, Field, Table, space, four_digits, four_hex, level_char, line, is_test_char, levels_line, row_lines, control_line, line_with, vector_lines, control_levels, past, control_fuses}
 use Rattle.jedec_file.specs.declared.field.Field.TheVariants as field
-use Rattle.pld_device.specs.Table.{Table}
-use Rattle.jedec_file.specs.FileText.{space, four_digits, four_hex, level_char, line}
-use Rattle.jedec_file.specs.Fields.{is_test_char}
-use Rattle.jedec_file.specs.CanonicalFile.{levels_line, row_lines, control_line, line_with, vector_lines}
-use Rattle.jedec_file.specs.ControlLines.{control_levels, past}
-use Rattle.pld_device.specs.ControlFuses.{control_fuses}
 use Rattle.jedec_writer.proofs.Words.{IsWord, is_plain, word_is_plain, both_pass}
 use Rattle.jedec_writer.proofs.Numerals.{decimal_is_word, four_digits_are_word, four_hex_is_word, levels_are_word, chars_are_word}
 use Rattle.jedec_writer.proofs.FieldsRead.{says_pins, says_fuses, says_vectors, says_default, says_security, says_test_level, says_levels, says_sum, says_vector}

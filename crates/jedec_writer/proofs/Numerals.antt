@@ -1,17 +1,11 @@
 -- The numbers, levels and characters of a fuse file are words, and are read as what was written.
 use Rattle.std.proofs.Common.{◌≡◌, ℕ, ◌+◌, ◌*◌, ◌/◌, ◌%◌, ◌^◌, ◌<◌, Bool, true, false, List, [], ◌∷◌, length, map, Some, refl, sym, ap, ◌∙◌, arith, inl, inr}
-use Rattle.std.specs.List.{list_all}
-use Rattle.std.specs.Fmt.{decimal}
+use Rattle.jedec_writer.proofs.Common.{list_all, decimal, and_parts, and_from, lt-ltb, agree_below_at, cases_lt, true≢false, nat_tests, four_digits, hex_digit, four_hex, level_char, hex_value, four_hex_value, has_bytes, number, short_number, level_of, each_of, is_test_char}
 use Rattle.std.specs.Char.{is_ascii_digit, digit_value}
 use Rattle.std.specs.Str.{all_ascii_digits}
 use Rattle.std.specs.Str.Parse.{digits_value}
-use Rattle.std.proofs.lemmas.Bool.{and_parts, and_from, lt-ltb, agree_below_at, cases_lt, true≢false}
-use Rattle.std.proofs.lemmas.Bool.Decides.{nat_tests}
 use Rattle.std.proofs.lemmas.Fmt.{digits_decimal, digits_value-decimal, decimal_nonempty}
 use Rattle.std.proofs.lemmas.Str.Parse.{IsNumeralModel, numerals_by_value, tells_all_ascii_digits}
-use Rattle.jedec_file.specs.FileText.{four_digits, hex_digit, four_hex, level_char}
-use Rattle.jedec_file.specs.Frame.{hex_value, four_hex_value}
-use Rattle.jedec_file.specs.Fields.{has_bytes, number, short_number, level_of, each_of, is_test_char}
 use Rattle.jedec_writer.proofs.Words.{IsWord, is_word_byte}
 
 some_there : (bs : List ℕ) → 0 < length bs → has_bytes bs ≡ true

@@ -1,21 +1,7 @@
 -- The canonical file, read as a fuse file, says just the fuses and vectors that were written.
 use Rattle.std.proofs.Common.{◌≡◌, ℕ, ◌*◌, ◌≤◌, Bool, false, List, length, take, get_or, Ok, refl, arith}
 use Rattle.std.specs.Prelude.{unwrap_or}
-use Rattle.std.specs.List.{All}
-use Rattle.std.proofs.lemmas.Bool.{eq-eqb}
-use Rattle.std.proofs.lemmas.List.{take_all, length-take-le, length-map}
-use Rattle.std.proofs.lemmas.List.Elements.{All-map}
-use Rattle.pld_base.specs.declared.point.Vector.{Vector}
-use Rattle.jedec_file.specs.declared.field.Field.{Field}
-use Rattle.pld_device.specs.Table.{Table}
-use Rattle.pld_device.specs.Laws.{IsDevice}
-use Rattle.jedec_file.specs.ControlLines.{IsIntactPastLines}
-use Rattle.jedec_file.specs.FuseSums.{fuse_sum_of}
-use Rattle.jedec_file.specs.TestVectors.{IsTestVector, all_chars, chars_of}
-use Rattle.jedec_file.specs.CanonicalFile.{IsPlainName, canonical_file}
-use Rattle.jedec_file.specs.Frame.{Framed, frame_of}
-use Rattle.jedec_file.specs.FieldLists.{fields_of}
-use Rattle.jedec_file.specs.FuseFile.{FuseFile, last_of, default_test, size_of, default_of, fuses_said, fuse_sum_read, vectors_of, contents_of, file_of}
+use Rattle.jedec_writer.proofs.Common.{All, eq-eqb, take_all, length-take-le, length-map, All-map, Vector, Field, Table, IsDevice, IsIntactPastLines, fuse_sum_of, IsTestVector, all_chars, chars_of, IsPlainName, canonical_file, Framed, frame_of, fields_of, FuseFile, last_of, default_test, size_of, default_of, fuses_said, fuse_sum_read, vectors_of, contents_of, file_of}
 use Rattle.jedec_writer.proofs.LinesRead.{IsVectorText}
 use Rattle.jedec_writer.proofs.TextRead.{written_fields, written_text, lines_say, text_found, fields_found}
 use Rattle.jedec_writer.proofs.LastSaid.{fuse_count_said, pin_count_said, default_fuse_said, fuse_sum_said, default_test_said}

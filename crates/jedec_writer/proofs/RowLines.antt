@@ -1,7 +1,6 @@
 -- The lines of the rows, one more at a time.
 use Rattle.std.proofs.Common.{◌≡◌, ℕ, ◌+◌, ◌*◌, Bool, List, ◌++◌, slice_range, refl, sym, ap, ◌∙◌, add-one, append_assoc}
-use Rattle.std.proofs.lemmas.List.{append-nil}
-use Rattle.jedec_file.specs.CanonicalFile.{levels_line, row_line, row_lines}
+use Rattle.jedec_writer.proofs.Common.{append-nil, levels_line, row_line, row_lines}
 
 pub no_rows : (columns : ℕ) (levels : List Bool) (out : List ℕ) → out ≡ out ++ row_lines columns levels 0
 unfolding row_lines

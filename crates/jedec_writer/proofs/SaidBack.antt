@@ -1,16 +1,7 @@
 -- Parts of a fuse file's text that are read as fields, one behind another.
 use Rattle.std.proofs.Common.{◌≡◌, ℕ, ◌+◌, Bool, true, false, not, ◌&&◌, List, [], ◌∷◌, ◌++◌, length, Some, Ok, refl, sym, ap, ◌∙◌, subst, arith, append-nil, append_assoc}
 use Rattle.std.specs.Prelude.{◌==◌, codes}
-use Rattle.std.specs.List.{list_all, onto_first, All}
-use Rattle.std.proofs.lemmas.Bool.{and_parts, not-true}
-use Rattle.std.proofs.lemmas.Bool.Decides.{nat_tests}
-use Rattle.std.proofs.lemmas.List.Splits.{slice_split_at}
-use Rattle.std.proofs.lemmas.List.Elements.{All-nil, All-cons}
-use Rattle.jedec_file.specs.declared.field.Field.{Field}
-use Rattle.pld_device.specs.Table.{Table}
-use Rattle.jedec_file.specs.FileText.{line}
-use Rattle.jedec_file.specs.Fields.{is_blank, field_of}
-use Rattle.jedec_file.specs.FieldLists.{pieces, field_at, no_field, fields_from, behind_design, fields_of}
+use Rattle.jedec_writer.proofs.Common.{list_all, onto_first, All, and_parts, not-true, nat_tests, slice_split_at, All-nil, All-cons, Field, Table, line, is_blank, field_of, pieces, field_at, no_field, fields_from, behind_design, fields_of}
 use Rattle.jedec_writer.proofs.Words.{is_plain, both_pass}
 
 -- it doesn't end the text

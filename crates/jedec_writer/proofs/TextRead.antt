@@ -1,21 +1,11 @@
 -- The canonical file's text is found in it, and read as the fields that were written.
 use Rattle.std.proofs.Common.{◌≡◌, ℕ, ◌*◌, ◌^◌, ◌<◌, ◌≤◌, Bool, true, false, List, [], ◌∷◌, ◌++◌, length, Ok, refl, ap, ◌∙◌, arith, append_assoc}
 use Rattle.std.specs.Prelude.{codes}
-use Rattle.std.specs.List.{list_all, All}
-use Rattle.std.specs.Fmt.{decimal}
+use Rattle.jedec_writer.proofs.Common.{list_all, All, decimal, Field, Table, STX, ETX, space, four_hex, line, fuse_sum_of, control_levels, row_lines, control_line, line_with, vector_lines, canonical_body, canonical_file, with_sum, IsPlainName, IsDevice, frame_of, fields_of}
 use Rattle.pld_base.specs.declared.device_name.DeviceName.{DeviceName}
 use Rattle.pld_base.specs.DeviceNames.{device_text}
 use Rattle.pld_base.proofs.EachDevice.{each_device}
-use Rattle.jedec_file.specs.declared.field.Field.{Field}
 use Rattle.jedec_file.specs.declared.field.Field.TheVariants as field
-use Rattle.pld_device.specs.Table.{Table}
-use Rattle.jedec_file.specs.FileText.{STX, ETX, space, four_hex, line}
-use Rattle.jedec_file.specs.FuseSums.{fuse_sum_of}
-use Rattle.jedec_file.specs.ControlLines.{control_levels}
-use Rattle.jedec_file.specs.CanonicalFile.{row_lines, control_line, line_with, vector_lines, canonical_body, canonical_file, with_sum, IsPlainName}
-use Rattle.pld_device.specs.Laws.{IsDevice}
-use Rattle.jedec_file.specs.Frame.{frame_of}
-use Rattle.jedec_file.specs.FieldLists.{fields_of}
 use Rattle.jedec_writer.proofs.FrameRead.{frame_read}
 use Rattle.jedec_writer.proofs.Words.{is_plain, both_pass}
 use Rattle.jedec_writer.proofs.SaidBack.{Says, says_both, is_inner, inner_plain, line_before, fields_read}

@@ -1,12 +1,7 @@
 -- The lines of the vectors, one more at a time.
 use Rattle.std.proofs.Common.{◌≡◌, ℕ, suc, ◌+◌, ◌<◌, List, ◌∷◌, ◌++◌, length, drop, get_or, sym, ap, ◌∙◌, add-one, append_assoc}
 use Rattle.std.specs.Prelude.{codes}
-use Rattle.std.proofs.lemmas.List.{drop_more}
-use Rattle.pld_base.specs.declared.point.Vector.{Vector}
-use Rattle.pld_device.specs.Table.{Table}
-use Rattle.jedec_file.specs.FileText.{four_digits, line, space}
-use Rattle.jedec_file.specs.TestVectors.{all_chars, chars_of}
-use Rattle.jedec_file.specs.CanonicalFile.{vector_lines}
+use Rattle.jedec_writer.proofs.Common.{drop_more, Vector, Table, four_digits, line, space, all_chars, chars_of, vector_lines}
 
 -- the line of a vector and those of the vectors behind it, which begin with its own
 vectors_from : (t : Table) (vectors : List Vector) (i n : ℕ) (d : Vector) → i < length vectors

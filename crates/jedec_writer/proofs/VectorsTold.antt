@@ -1,13 +1,7 @@
 -- What the fields of the canonical file say of the vectors.
 use Rattle.std.proofs.Common.{◌≡◌, ℕ, zero, suc, ◌+◌, ◌-◌, ◌<◌, ◌≤◌, Bool, List, [], ◌∷◌, length, map, get_or, Option, Some, None, refl, sym, ap, ◌∙◌, arith, inl, inr, add-one}
 use Rattle.std.specs.Prelude.{◌==◌, unwrap_or, position, filter_map}
-use Rattle.std.specs.List.{range_with_len, position_or_len, All, cons_option}
-use Rattle.std.proofs.lemmas.Bool.{cases_eq, eq-eqb, ne_eqb, lt-ltb}
-use Rattle.std.proofs.lemmas.List.{ext_get_or}
-use Rattle.std.proofs.lemmas.List.Elements.{All-head, All-tail}
-use Rattle.std.proofs.lemmas.List.FromFn.{length-range_with_len, length-map-range_with_len, get_or-map-range_with_len}
-use Rattle.pld_device.specs.Table.{Table}
-use Rattle.jedec_file.specs.FuseFile.{last_of, vector_at, order_of, by_pins, vectors_of}
+use Rattle.jedec_writer.proofs.Common.{range_with_len, position_or_len, All, cons_option, cases_eq, eq-eqb, ne_eqb, lt-ltb, ext_get_or, All-head, All-tail, length-range_with_len, length-map-range_with_len, get_or-map-range_with_len, Table, last_of, vector_at, order_of, by_pins, vectors_of}
 use Rattle.jedec_writer.proofs.LinesRead.{IsVectorText, vector_fields}
 use Rattle.jedec_writer.proofs.TextRead.{written_fields}
 use Rattle.jedec_writer.proofs.LastSaid.{or_none, no_pin_order, vector_said}

@@ -1,14 +1,8 @@
 -- The words of a field's text, where a blank parts them.
 use Rattle.std.proofs.Common.{◌≡◌, ℕ, Bool, true, false, not, ◌||◌, List, [], ◌∷◌, ◌++◌, refl, ◌∙◌, arith}
 use Rattle.std.specs.Prelude.{◌==◌, nat_lt}
-use Rattle.std.specs.List.{list_all, slice_split, All}
-use Rattle.std.proofs.lemmas.Bool.{and_parts, and_from}
-use Rattle.std.proofs.lemmas.Bool.Decides.{nat_tests}
+use Rattle.jedec_writer.proofs.Common.{list_all, slice_split, All, and_parts, and_from, nat_tests, slice_split_none, slice_split_at, All-nil, All-cons, ETX, space, is_blank, has_bytes, words}
 use Rattle.std.proofs.lemmas.List.Folds.{list_all-append}
-use Rattle.std.proofs.lemmas.List.Splits.{slice_split_none, slice_split_at}
-use Rattle.std.proofs.lemmas.List.Elements.{All-nil, All-cons}
-use Rattle.jedec_file.specs.FileText.{ETX, space}
-use Rattle.jedec_file.specs.Fields.{is_blank, has_bytes, words}
 
 -- a byte that parts no words, ends no field and ends no text: all of these come before the plus sign
 abbrev pub is_word_byte : ℕ → Bool

@@ -1,5 +1,5 @@
 use Rattle.std.proofs.Common.{◌≡◌, ◌++◌}
-use Rattle.jedec_file.specs.CanonicalFile.{row_lines}
+use Rattle.jedec_writer.proofs.Common.{row_lines}
 use Rattle.jedec_writer.proofs.array.put_rows.Given as goal
 
 abbrev pub invariant-loop-row : goal.invariant-loop-row

@@ -1,7 +1,6 @@
 use Rattle.std.proofs.Common.{◌≡◌, drop, map}
 use Rattle.std.specs.Prelude.{max}
-use Rattle.pld_device.specs.declared.fuse_bit.FuseBit.{FuseBit}
-use Rattle.jedec_file.specs.ControlLines.{past}
+use Rattle.jedec_writer.proofs.Common.{FuseBit, past}
 use Rattle.jedec_writer.proofs.control.past_fixed.Given as goal
 
 abbrev pub invariant-loop-index : goal.invariant-loop-index

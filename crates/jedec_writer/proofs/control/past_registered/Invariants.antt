@@ -1,7 +1,6 @@
 use Rattle.std.proofs.Common.{◌≡◌, drop}
 use Rattle.std.specs.Prelude.{max}
-use Rattle.jedec_file.specs.ControlLines.{past}
-use Rattle.pld_device.specs.ControlFuses.{fuses_named}
+use Rattle.jedec_writer.proofs.Common.{past, fuses_named}
 use Rattle.jedec_writer.proofs.control.past_registered.Given as goal
 
 abbrev pub invariant-loop-cell : goal.invariant-loop-cell

@@ -1,6 +1,6 @@
 use Rattle.std.proofs.Common.{◌≡◌, drop}
 use Rattle.std.specs.Prelude.{max}
-use Rattle.jedec_file.specs.ControlLines.{past}
+use Rattle.jedec_writer.proofs.Common.{past}
 use Rattle.jedec_writer.proofs.control.past_switches.Given as goal
 
 abbrev pub invariant-loop-row : goal.invariant-loop-row

@@ -1,5 +1,5 @@
 use Rattle.std.proofs.Common.{◌≡◌, ◌++◌, take, map}
-use Rattle.jedec_file.specs.FileText.{level_char}
+use Rattle.jedec_writer.proofs.Common.{level_char}
 use Rattle.jedec_writer.proofs.lines.put_levels.Given as goal
 
 abbrev pub invariant-loop-level : goal.invariant-loop-level

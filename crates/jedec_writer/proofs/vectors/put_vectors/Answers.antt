@@ -1,7 +1,5 @@
 use Rattle.std.proofs.Common.{◌≡◌, take, sym, arith}
-use Rattle.std.proofs.lemmas.List.{take_all}
-use Rattle.std.proofs.lemmas.List.Elements.{All-more, All-same}
-use Rattle.jedec_writer.specs.Places.{HasPlaces}
+use Rattle.jedec_writer.proofs.Common.{take_all, All-more, All-same, HasPlaces}
 use Rattle.jedec_writer.proofs.VectorLines.{one_vector_more}
 use Rattle.jedec_writer.proofs.vectors.put_vectors.Goals as goal
 

@@ -1,7 +1,5 @@
 use Rattle.std.proofs.Common.{◌≡◌, ◌+◌, ◌++◌, drop, take, All}
-use Rattle.jedec_file.specs.CanonicalFile.{vector_lines}
-use Rattle.jedec_file.specs.TestVectors.{all_chars}
-use Rattle.jedec_writer.specs.Places.{HasPlaces}
+use Rattle.jedec_writer.proofs.Common.{vector_lines, all_chars, HasPlaces}
 use Rattle.jedec_writer.proofs.vectors.put_vectors.Given as goal
 
 abbrev pub invariant-loop-index : goal.invariant-loop-index
