@@ -16,15 +16,9 @@
 --      ^h0000 -> [H,H,H,L];
 -- end m6809a
 use Rattle.std.specs.Prelude.{◌≡◌, [], ◌∷◌, codes}
-use Rattle.std.specs.Fmt.{digits}
+use Rattle.meaning_points.specs.Prelude.{digits, make_not, make_and, make_or, make_xor, ModuleTree, Equations, design_of, source_logic, units_of, pal16l8}
 use Rattle.std.proofs.Common.{refl}
-use Rattle.bit_expr.specs.Folding.{make_not, make_and, make_or, make_xor}
-use Rattle.abel_tree.specs.Tree.{ModuleTree, Equations}
-use Rattle.abel_meaning.specs.Designs.{design_of}
-use Rattle.abel_meaning.specs.SourceLogic.{source_logic}
-use Rattle.abel_meaning.specs.CountedBlocks.{units_of}
 use Rattle.meaning_points.specs.Answers.{all_reads, all_trees, answers, logic_answers, name_codes, point}
-use Rattle.devices.specs.Pal16L8Table.{pal16l8}
 use Rattle.meaning_points.specs.Constructs.{module_of, constants, device, item, not_assign, pin, pins, vectors}
 use Rattle.meaning_points.specs.Trees.{at_least, at_most, both, name, number, one, paren, set, unknown, word}
 

@@ -1,20 +1,14 @@
 -- What a design answers, packed into numbers: of each name, of each cell and node at a point, of the folded formulas.
 use Rattle.std.specs.Prelude.{ℕ, ◌+◌, ◌*◌, ◌%◌, Bool, true, false, ◌&&◌, Option, None, Some, if◌then◌else◌, List, [], ◌∷◌, ◌++◌, map, filter, length}
-use Rattle.std.specs.List.{range_with_len}
-use Rattle.pld_base.specs.Points.{Levels}
+use Rattle.meaning_points.specs.Prelude.{range_with_len, Levels, Kind, APin, ANode, AConstant, ADeviceName, Entry, follows_q, Context, Design, name_at, truth_at, given_at, Function, function_of, allows, value_with_any_0, design_logic, pin_allows, next_allows, node_allows, node_signal}
 use Rattle.pld_base.specs.Logic.{Logic}
 use Rattle.bit_expr.specs.declared.node.Leaf.{Leaf}
 use Rattle.bit_expr.specs.declared.node.Leaf.TheVariants as leaf
 use Rattle.bit_expr.specs.Formulas.{Formula, Const, Read, Not, And, Or, Xor}
 use Rattle.abel_tree.specs.declared.words.Extension.TheVariants as extension
-use Rattle.abel_tree.specs.Entries.{Kind, APin, ANode, AConstant, ADeviceName, Entry, follows_q}
-use Rattle.abel_meaning.specs.Designs.{Context, Design, name_at}
 use Rattle.abel_meaning.specs.Numbers.{digits_low_first}
 use Rattle.abel_meaning.specs.Contributions.{Contribution}
-use Rattle.abel_meaning.specs.AtPoints.{truth_at, given_at}
-use Rattle.abel_meaning.specs.Functions.{Function, function_of, allows, value_with_any_0}
 use Rattle.abel_meaning.specs.Controls.{control_of, signal_on, cell_is_enabled, register_control}
-use Rattle.abel_meaning.specs.SourceLogic.{design_logic, pin_allows, next_allows, node_allows, node_signal}
 use Rattle.abel_meaning.specs.FormulaBits.{formulas}
 use Rattle.abel_meaning.specs.SignalReads.{given_formulas, settles, signal_names, leaf_of, is_one_of, names_if_any}
 

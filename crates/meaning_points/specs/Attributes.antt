@@ -17,16 +17,10 @@
 -- kk = !late & 0 # b;
 -- end
 use Rattle.std.specs.Prelude.{◌≡◌, [], ◌∷◌, codes}
-use Rattle.std.specs.Fmt.{digits}
+use Rattle.meaning_points.specs.Prelude.{digits, make_not, make_and, make_or, make_xor, ModuleTree, Declarations, Equations, design_of, source_logic, units_of, gal22v10}
 use Rattle.std.proofs.Common.{refl}
-use Rattle.bit_expr.specs.Folding.{make_not, make_and, make_or, make_xor}
 use Rattle.abel_tree.specs.declared.words.Extension.TheVariants as extension
-use Rattle.abel_tree.specs.Tree.{ModuleTree, Declarations, Equations}
-use Rattle.abel_meaning.specs.Designs.{design_of}
-use Rattle.abel_meaning.specs.SourceLogic.{source_logic}
-use Rattle.abel_meaning.specs.CountedBlocks.{units_of}
 use Rattle.meaning_points.specs.Answers.{all_reads, all_trees, answers, logic_answers, name_codes, point}
-use Rattle.devices.specs.Gal22V10Table.{gal22v10}
 use Rattle.meaning_points.specs.Constructs.{module_of, assign, assign_any, clocked, constants, device, istype, item, items, low_item, nodes, options, pin, pins, pins_to}
 use Rattle.meaning_points.specs.Trees.{both, coded, complement, dotted, either, name, number, one, paren, plus, set, span, word}
 

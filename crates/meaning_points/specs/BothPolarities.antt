@@ -10,14 +10,11 @@
 -- state 0: w = a; !w = b; z = a; !z = b; goto 1;
 -- end
 use Rattle.std.specs.Prelude.{◌≡◌, [], ◌∷◌, codes}
-use Rattle.std.specs.Fmt.{digits}
+use Rattle.meaning_points.specs.Prelude.{digits, ModuleTree, Equations, Design, design_of, gal22v10}
 use Rattle.std.proofs.Common.{refl}
 use Rattle.abel_tree.specs.declared.words.Extension.TheVariants as extension
-use Rattle.abel_tree.specs.Tree.{ModuleTree, Equations}
-use Rattle.abel_meaning.specs.Designs.{Design, design_of}
 use Rattle.meaning_points.specs.ByHand.{points_of, may_be, next_may_be, at_each}
 use Rattle.meaning_points.specs.Constructs.{assign, not_assign, not_assign_any, goto, item, pin, device, pins, row, table, state, diagram, module_of}
-use Rattle.devices.specs.Gal22V10Table.{gal22v10}
 use Rattle.meaning_points.specs.Trees.{word, number, name, dotted, both}
 
 -- the module as a tree

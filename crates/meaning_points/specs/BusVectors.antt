@@ -10,15 +10,11 @@
 -- [1,.C.] -> 1; [0,0] -> 0; [.Z.,.X.] -> .Z.;
 -- end
 use Rattle.std.specs.Prelude.{◌≡◌, true, false, [], ◌∷◌, codes}
-use Rattle.std.specs.Fmt.{digits}
+use Rattle.meaning_points.specs.Prelude.{digits, ModuleTree, Equations, Design, design_of, design_vectors, pal16l8}
 use Rattle.std.proofs.Common.{refl}
 use Rattle.abel_tree.specs.declared.words.Extension.TheVariants as extension
-use Rattle.abel_tree.specs.Tree.{ModuleTree, Equations}
-use Rattle.abel_meaning.specs.Designs.{Design, design_of}
-use Rattle.abel_meaning.specs.Vectors.{design_vectors}
 use Rattle.meaning_points.specs.ByHand.{points_of, may_be, is_driven, at_each}
 use Rattle.meaning_points.specs.Constructs.{assign, item, low_item, pin, device, pins, row, test_vectors, module_of}
-use Rattle.devices.specs.Pal16L8Table.{pal16l8}
 use Rattle.meaning_points.specs.Trees.{number, unknown, pulse, released, name, dotted, set, one}
 
 -- the module as a tree

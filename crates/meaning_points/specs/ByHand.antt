@@ -1,17 +1,9 @@
 -- What is asked of a design in the examples that are worked by hand. A set of values is a list: 0, 1, or both.
-use Prim.Native.String.{String}
+use Rattle.meaning_points.specs.Prelude.{String, list_any, range_with_len, Levels, Kind, APin, find, Tree, Context, Design, name_at, truth_at, given_at, function_of, allows, design_logic}
 use Rattle.std.specs.Prelude.{ℕ, ◌==◌, Bool, true, false, unwrap_or, List, [], ◌∷◌, ◌++◌, map, codes}
-use Rattle.std.specs.List.{list_any, range_with_len}
-use Rattle.pld_base.specs.Points.{Levels}
-use Rattle.abel_tree.specs.Entries.{Kind, APin, find}
-use Rattle.abel_tree.specs.Tree.{Tree}
 use Rattle.pld_device.specs.Pins.{cell_on}
-use Rattle.abel_meaning.specs.Designs.{Context, Design, name_at}
 use Rattle.abel_meaning.specs.Terms.{term_of}
 use Rattle.abel_meaning.specs.Values.{term_value}
-use Rattle.abel_meaning.specs.AtPoints.{truth_at, given_at}
-use Rattle.abel_meaning.specs.Functions.{function_of, allows}
-use Rattle.abel_meaning.specs.SourceLogic.{design_logic}
 
 -- ---- points
 

@@ -8,13 +8,10 @@
 -- state 2: y = a; goto 0;
 -- end
 use Rattle.std.specs.Prelude.{◌≡◌, [], ◌∷◌, codes}
-use Rattle.std.specs.Fmt.{digits}
+use Rattle.meaning_points.specs.Prelude.{digits, ModuleTree, Design, design_of, gal22v10}
 use Rattle.std.proofs.Common.{refl}
-use Rattle.abel_tree.specs.Tree.{ModuleTree}
-use Rattle.abel_meaning.specs.Designs.{Design, design_of}
 use Rattle.meaning_points.specs.ByHand.{points_of, may_be, next_may_be, at_each}
 use Rattle.meaning_points.specs.Constructs.{assign, goto, goto_with, if_else, choice, case_of, item, pin, device, pins, state, diagram, module_of}
-use Rattle.devices.specs.Gal22V10Table.{gal22v10}
 use Rattle.meaning_points.specs.Trees.{word, number, name, set, one}
 
 -- the module as a tree

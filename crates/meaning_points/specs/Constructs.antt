@@ -1,12 +1,9 @@
 -- Statements, transitions, declarations and sections written as trees, without places.
-use Prim.Native.String.{String}
+use Rattle.meaning_points.specs.Prelude.{String, Place, Word, Tree, Statement, AnAssign, AWhen, AGroup, ADontCare, NoElse, AnElse, statements_of, Branch, AGoal, AnIf, ACase, NoBranch, ABranch, choices_of, Declaration, ADevice, SomePins, SomeNodes, SomeAttributes, SomeConstants, SomeOptions, DontCareFor, RowTree, StateTree, SectionTree, ATable, ADiagram, SomeVectors, DontCareSection, ModuleTree}
 use Rattle.std.specs.Prelude.{ℕ, Bool, true, false, None, Some, List, []}
-use Rattle.pld_base.specs.declared.place.Place.{Place}
 use Rattle.abel_tree.specs.declared.words.Item.{Item}
 use Rattle.abel_tree.specs.declared.words.Sign.TheVariants as sign
 use Rattle.abel_tree.specs.declared.words.Span.{Span}
-use Rattle.abel_tree.specs.declared.words.Word.{Word}
-use Rattle.abel_tree.specs.Tree.{Tree, Statement, AnAssign, AWhen, AGroup, ADontCare, NoElse, AnElse, statements_of, Branch, AGoal, AnIf, ACase, NoBranch, ABranch, choices_of, Declaration, ADevice, SomePins, SomeNodes, SomeAttributes, SomeConstants, SomeOptions, DontCareFor, RowTree, StateTree, SectionTree, ATable, ADiagram, SomeVectors, DontCareSection, ModuleTree}
 use Rattle.meaning_points.specs.Trees.{somewhere, word, coded, directive, number}
 
 -- ---- statements

@@ -8,14 +8,10 @@
 -- [0,0] -> 3; [.C.,0] -> 0; [.C.,0] -> 1; [0,1] -> .Z.;
 -- end
 use Rattle.std.specs.Prelude.{◌≡◌, [], ◌∷◌, codes}
-use Rattle.std.specs.Fmt.{digits}
+use Rattle.meaning_points.specs.Prelude.{digits, ModuleTree, Equations, Design, design_of, design_vectors, pal16r4}
 use Rattle.std.proofs.Common.{refl}
-use Rattle.abel_tree.specs.Tree.{ModuleTree, Equations}
-use Rattle.abel_meaning.specs.Designs.{Design, design_of}
-use Rattle.abel_meaning.specs.Vectors.{design_vectors}
 use Rattle.meaning_points.specs.ByHand.{points_of, next_may_be, at_each}
 use Rattle.meaning_points.specs.Constructs.{clocked, item, pin, device, pins, row, test_vectors, module_of}
-use Rattle.devices.specs.Pal16RTables.{pal16r4}
 use Rattle.meaning_points.specs.Trees.{word, number, pulse, released, name, set, one, complement, differ}
 
 -- the module as a tree

@@ -7,13 +7,9 @@
 -- ^h0000 -> [H,H,H,L]; ^hE000 -> [H,H,L,H];
 -- end
 use Rattle.std.specs.Prelude.{◌≡◌, [], ◌∷◌, codes}
-use Rattle.std.specs.Fmt.{digits}
+use Rattle.meaning_points.specs.Prelude.{digits, ModuleTree, Design, design_of, design_vectors, pal16l8}
 use Rattle.std.proofs.Common.{refl}
-use Rattle.abel_tree.specs.Tree.{ModuleTree}
-use Rattle.abel_meaning.specs.Designs.{Design, design_of}
-use Rattle.abel_meaning.specs.Vectors.{design_vectors}
 use Rattle.meaning_points.specs.Constructs.{item, pins_to, device, pins, constants, row, test_vectors, module_of}
-use Rattle.devices.specs.Pal16L8Table.{pal16l8}
 use Rattle.meaning_points.specs.Trees.{word, number, unknown, name, set, one}
 
 -- the module as a tree

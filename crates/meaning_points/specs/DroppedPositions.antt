@@ -4,13 +4,10 @@
 -- a,b,c pin 2,3,4; X = .X.; A = [a,b,c,X,X]; N = [X,X];
 -- end
 use Rattle.std.specs.Prelude.{◌≡◌, [], ◌∷◌, codes}
-use Rattle.std.specs.Fmt.{digits}
+use Rattle.meaning_points.specs.Prelude.{digits, ModuleTree, Design, design_of, gal22v10}
 use Rattle.std.proofs.Common.{refl}
-use Rattle.abel_tree.specs.Tree.{ModuleTree}
-use Rattle.abel_meaning.specs.Designs.{Design, design_of}
 use Rattle.meaning_points.specs.ByHand.{point_at, points_of, number_of, at_each}
 use Rattle.meaning_points.specs.Constructs.{item, pin, device, pins, constants, module_of}
-use Rattle.devices.specs.Gal22V10Table.{gal22v10}
 use Rattle.meaning_points.specs.Trees.{word, number, unknown, name, set, one, equal, unequal, less, at_most, at_least}
 
 -- the module as a tree

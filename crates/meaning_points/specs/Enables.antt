@@ -6,14 +6,11 @@
 -- y = b; y.OE = a; z = b; q := b;
 -- end
 use Rattle.std.specs.Prelude.{◌≡◌, true, false, [], ◌∷◌, codes}
-use Rattle.std.specs.Fmt.{digits}
+use Rattle.meaning_points.specs.Prelude.{digits, ModuleTree, Equations, Design, design_of, pal16r4}
 use Rattle.std.proofs.Common.{refl}
 use Rattle.abel_tree.specs.declared.words.Extension.TheVariants as extension
-use Rattle.abel_tree.specs.Tree.{ModuleTree, Equations}
-use Rattle.abel_meaning.specs.Designs.{Design, design_of}
 use Rattle.meaning_points.specs.ByHand.{points_of, pin_may_be, next_may_be, is_driven, at_each}
 use Rattle.meaning_points.specs.Constructs.{assign, clocked, item, pin, device, pins, module_of}
-use Rattle.devices.specs.Pal16RTables.{pal16r4}
 use Rattle.meaning_points.specs.Trees.{word, name, dotted}
 
 -- the module as a tree

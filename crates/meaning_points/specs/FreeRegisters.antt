@@ -5,19 +5,14 @@
 -- equations
 -- q := !q & a # r; r := q $ b & s; s := n # r.FB; n = q & !s; y = q.FB & n; y.OE = r & s; WHEN s THEN q := b;
 -- end
-use Prim.Native.String.{String}
+use Rattle.meaning_points.specs.Prelude.{String, digits, ModuleTree, Equations, design_of, source_logic, gal22v10}
 use Rattle.std.specs.Prelude.{◌≡◌, ℕ, ◌==◌, Bool, true, false, not, List, [], ◌∷◌, map, codes}
-use Rattle.std.specs.Fmt.{digits}
 use Rattle.std.proofs.Common.{refl}
 use Rattle.abel_tree.specs.declared.words.Extension.TheVariants as extension
-use Rattle.abel_tree.specs.Tree.{ModuleTree, Equations}
 use Rattle.abel_meaning.specs.Choices.{is_free, source_logic_under}
-use Rattle.abel_meaning.specs.Designs.{design_of}
-use Rattle.abel_meaning.specs.SourceLogic.{source_logic}
 use Rattle.meaning_points.specs.Answers.{logic_answers}
 use Rattle.meaning_points.specs.ByHand.{points_of}
 use Rattle.meaning_points.specs.Constructs.{assign, clocked, when_then, item, low_item, pin, device, pins, nodes, module_of}
-use Rattle.devices.specs.Gal22V10Table.{gal22v10}
 use Rattle.meaning_points.specs.Trees.{word, name, dotted, complement, both, either, differ}
 
 -- the module as a tree, with these words for q and s

@@ -9,15 +9,9 @@
 -- WHEN b == c THEN [[q0],[q1,q2]] ?:= e;
 -- end
 use Rattle.std.specs.Prelude.{◌≡◌, [], ◌∷◌, codes}
-use Rattle.std.specs.Fmt.{digits}
+use Rattle.meaning_points.specs.Prelude.{digits, make_not, make_and, make_or, make_xor, ModuleTree, Equations, design_of, source_logic, units_of, pal16r6}
 use Rattle.std.proofs.Common.{refl}
-use Rattle.bit_expr.specs.Folding.{make_not, make_and, make_or, make_xor}
-use Rattle.abel_tree.specs.Tree.{ModuleTree, Equations}
-use Rattle.abel_meaning.specs.Designs.{design_of}
-use Rattle.abel_meaning.specs.SourceLogic.{source_logic}
-use Rattle.abel_meaning.specs.CountedBlocks.{units_of}
 use Rattle.meaning_points.specs.Answers.{all_reads, all_trees, answers, logic_answers, name_codes, point}
-use Rattle.devices.specs.Pal16RTables.{pal16r6}
 use Rattle.meaning_points.specs.Constructs.{module_of, assign, clocked, clocked_any, constants, device, group, item, low_item, not_assign, not_assign_any, pin, pins, when_else, when_then}
 use Rattle.meaning_points.specs.Trees.{both, either, equal, name, number, one, plus, set, word}
 

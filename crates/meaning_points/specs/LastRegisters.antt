@@ -1,6 +1,6 @@
 -- The equations of the last five of ten registers, as trees (the source stands at the head of TenRegisters).
 use Rattle.std.specs.Prelude.{List, [], ◌∷◌}
-use Rattle.abel_tree.specs.Tree.{Statement}
+use Rattle.meaning_points.specs.Prelude.{Statement}
 use Rattle.meaning_points.specs.Constructs.{clocked}
 use Rattle.meaning_points.specs.Trees.{both, complement, either, name}
 

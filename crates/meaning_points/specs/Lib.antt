@@ -40,6 +40,7 @@ pub mod NothingAssigned
 pub mod Operators
 pub mod OverlappingRows
 pub mod OwnComplement
+pub mod Prelude
 pub mod RawAndStored
 pub mod RegisterSet
 pub mod RepeatedSum

@@ -6,13 +6,10 @@
 -- en = rd & cs; !sel = a & en;
 -- end
 use Rattle.std.specs.Prelude.{◌≡◌, [], ◌∷◌, codes}
-use Rattle.std.specs.Fmt.{digits}
+use Rattle.meaning_points.specs.Prelude.{digits, ModuleTree, Equations, Design, design_of, pal16l8}
 use Rattle.std.proofs.Common.{refl}
-use Rattle.abel_tree.specs.Tree.{ModuleTree, Equations}
-use Rattle.abel_meaning.specs.Designs.{Design, design_of}
 use Rattle.meaning_points.specs.ByHand.{points_of, may_be, pin_may_be, at_each}
 use Rattle.meaning_points.specs.Constructs.{assign, not_assign, item, low_item, pin, device, pins, module_of}
-use Rattle.devices.specs.Pal16L8Table.{pal16l8}
 use Rattle.meaning_points.specs.Trees.{name, both}
 
 -- the module as a tree

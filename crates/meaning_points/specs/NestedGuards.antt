@@ -6,13 +6,10 @@
 -- WHEN a THEN { y = b; WHEN b THEN z = c; ELSE { z = !c; } } ELSE { y = c; }
 -- end
 use Rattle.std.specs.Prelude.{◌≡◌, [], ◌∷◌, codes}
-use Rattle.std.specs.Fmt.{digits}
+use Rattle.meaning_points.specs.Prelude.{digits, ModuleTree, Equations, Design, design_of, gal22v10}
 use Rattle.std.proofs.Common.{refl}
-use Rattle.abel_tree.specs.Tree.{ModuleTree, Equations}
-use Rattle.abel_meaning.specs.Designs.{Design, design_of}
 use Rattle.meaning_points.specs.ByHand.{points_of, may_be, pin_may_be, at_each}
 use Rattle.meaning_points.specs.Constructs.{assign, when_else, group, item, pin, device, pins, module_of}
-use Rattle.devices.specs.Gal22V10Table.{gal22v10}
 use Rattle.meaning_points.specs.Trees.{name, complement}
 
 -- the module as a tree

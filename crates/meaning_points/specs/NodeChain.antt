@@ -9,16 +9,10 @@
 -- Y = n127;
 -- end
 use Rattle.std.specs.Prelude.{◌≡◌, ℕ, None, List, [], ◌∷◌, ◌++◌, codes}
-use Rattle.std.specs.Fmt.{digits}
+use Rattle.meaning_points.specs.Prelude.{digits, make_not, make_and, make_or, make_xor, Tree, AName, Statement, ModuleTree, Equations, design_of, source_logic, units_of, pal16l8}
 use Rattle.std.proofs.Common.{refl}
-use Rattle.bit_expr.specs.Folding.{make_not, make_and, make_or, make_xor}
 use Rattle.abel_tree.specs.Ranges.{range_names}
-use Rattle.abel_tree.specs.Tree.{Tree, AName, Statement, ModuleTree, Equations}
-use Rattle.abel_meaning.specs.Designs.{design_of}
-use Rattle.abel_meaning.specs.SourceLogic.{source_logic}
-use Rattle.abel_meaning.specs.CountedBlocks.{units_of}
 use Rattle.meaning_points.specs.Answers.{all_reads, all_trees, answers, logic_answers, name_codes, point}
-use Rattle.devices.specs.Pal16L8Table.{pal16l8}
 use Rattle.meaning_points.specs.Constructs.{module_of, assign, device, item, items, nodes, pin, pins}
 use Rattle.meaning_points.specs.Trees.{coded, complement, name}
 

@@ -6,13 +6,10 @@
 -- n = a & b; y = n # c; [x1,x0] = [a,b] & c; [z1,z0] = 6;
 -- end
 use Rattle.std.specs.Prelude.{◌≡◌, [], ◌∷◌, codes}
-use Rattle.std.specs.Fmt.{digits}
+use Rattle.meaning_points.specs.Prelude.{digits, ModuleTree, Equations, Design, design_of, gal22v10}
 use Rattle.std.proofs.Common.{refl}
-use Rattle.abel_tree.specs.Tree.{ModuleTree, Equations}
-use Rattle.abel_meaning.specs.Designs.{Design, design_of}
 use Rattle.meaning_points.specs.ByHand.{points_of, may_be, at_each}
 use Rattle.meaning_points.specs.Constructs.{assign, item, pin, pins_to, device, pins, nodes, module_of}
-use Rattle.devices.specs.Gal22V10Table.{gal22v10}
 use Rattle.meaning_points.specs.Trees.{number, name, set, one, both, either}
 
 -- the module as a tree

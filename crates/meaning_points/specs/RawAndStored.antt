@@ -6,14 +6,11 @@
 -- p := a; q.D = a; r := a; s.D = a; w = q; x = q.Q; y = r; z = r.Q;
 -- end
 use Rattle.std.specs.Prelude.{◌≡◌, [], ◌∷◌, codes}
-use Rattle.std.specs.Fmt.{digits}
+use Rattle.meaning_points.specs.Prelude.{digits, ModuleTree, Equations, Design, design_of, gal22v10}
 use Rattle.std.proofs.Common.{refl}
 use Rattle.abel_tree.specs.declared.words.Extension.TheVariants as extension
-use Rattle.abel_tree.specs.Tree.{ModuleTree, Equations}
-use Rattle.abel_meaning.specs.Designs.{Design, design_of}
 use Rattle.meaning_points.specs.ByHand.{points_of, may_be, pin_may_be, next_may_be, at_each}
 use Rattle.meaning_points.specs.Constructs.{assign, clocked, item, low_item, pin, device, pins, module_of}
-use Rattle.devices.specs.Gal22V10Table.{gal22v10}
 use Rattle.meaning_points.specs.Trees.{word, name, dotted}
 
 -- the module as a tree

@@ -6,13 +6,10 @@
 -- WHEN en THEN S := S + 3; ELSE S := S;
 -- end
 use Rattle.std.specs.Prelude.{◌≡◌, [], ◌∷◌, codes}
-use Rattle.std.specs.Fmt.{digits}
+use Rattle.meaning_points.specs.Prelude.{digits, ModuleTree, Equations, Design, design_of, gal22v10}
 use Rattle.std.proofs.Common.{refl}
-use Rattle.abel_tree.specs.Tree.{ModuleTree, Equations}
-use Rattle.abel_meaning.specs.Designs.{Design, design_of}
 use Rattle.meaning_points.specs.ByHand.{point_at, points_of, next_may_be, number_of, at_each}
 use Rattle.meaning_points.specs.Constructs.{clocked, when_else, item, pin, device, pins, constants, module_of}
-use Rattle.devices.specs.Gal22V10Table.{gal22v10}
 use Rattle.meaning_points.specs.Trees.{word, number, name, set, span, plus}
 
 -- the module as a tree

@@ -6,14 +6,11 @@
 -- [q0,q1,q2] := 7; q1.AR = a; q2.AR = b; q2.SP = a & b; y = a;
 -- end
 use Rattle.std.specs.Prelude.{◌≡◌, true, false, [], ◌∷◌, codes}
-use Rattle.std.specs.Fmt.{digits}
+use Rattle.meaning_points.specs.Prelude.{digits, ModuleTree, Equations, Design, design_of, gal22v10}
 use Rattle.std.proofs.Common.{refl}
 use Rattle.abel_tree.specs.declared.words.Extension.TheVariants as extension
-use Rattle.abel_tree.specs.Tree.{ModuleTree, Equations}
-use Rattle.abel_meaning.specs.Designs.{Design, design_of}
 use Rattle.meaning_points.specs.ByHand.{points_of, next_may_be, is_reset, is_preset, at_each}
 use Rattle.meaning_points.specs.Constructs.{assign, clocked, item, pin, device, pins, module_of}
-use Rattle.devices.specs.Gal22V10Table.{gal22v10}
 use Rattle.meaning_points.specs.Trees.{word, number, name, dotted, set, one, both}
 
 -- the module as a tree

@@ -14,15 +14,9 @@
 -- state [0]: if c then 1; if b then q0 $ a;
 -- end
 use Rattle.std.specs.Prelude.{◌≡◌, [], ◌∷◌, codes}
-use Rattle.std.specs.Fmt.{digits}
+use Rattle.meaning_points.specs.Prelude.{digits, make_not, make_and, make_or, make_xor, ModuleTree, design_of, source_logic, units_of, pal16r4}
 use Rattle.std.proofs.Common.{refl}
-use Rattle.bit_expr.specs.Folding.{make_not, make_and, make_or, make_xor}
-use Rattle.abel_tree.specs.Tree.{ModuleTree}
-use Rattle.abel_meaning.specs.Designs.{design_of}
-use Rattle.abel_meaning.specs.SourceLogic.{source_logic}
-use Rattle.abel_meaning.specs.CountedBlocks.{units_of}
 use Rattle.meaning_points.specs.Answers.{all_reads, all_trees, answers, logic_answers, name_codes, point}
-use Rattle.devices.specs.Pal16RTables.{pal16r4}
 use Rattle.meaning_points.specs.Constructs.{module_of, assign, case_of, choice, constants, dc_set_for, device, diagram, goto, goto_with, if_else, if_then, item, low_item, nodes, on_set, pin, pins, state}
 use Rattle.meaning_points.specs.Trees.{both, differ, name, number, one, set, word}
 

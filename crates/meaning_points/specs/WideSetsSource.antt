@@ -1,6 +1,6 @@
 -- Wide sets, as a tree (the source stands at the head of WideSets).
 use Rattle.std.specs.Prelude.{[], ◌∷◌, codes}
-use Rattle.abel_tree.specs.Tree.{ModuleTree, Equations}
+use Rattle.meaning_points.specs.Prelude.{ModuleTree, Equations}
 use Rattle.meaning_points.specs.Constructs.{module_of, assign, constants, device, item, items, nodes, pin, pins}
 use Rattle.meaning_points.specs.Trees.{at_least, at_most, both, complement, differ, either, equal, minus, more, name, negative, number, one, paren, plus, set, span, unequal, word}
 

@@ -4,13 +4,10 @@
 -- a,b,c,e pin 2,3,4,5; S = [a,b]; T = [c,e];
 -- end
 use Rattle.std.specs.Prelude.{◌≡◌, [], ◌∷◌, map, codes}
-use Rattle.std.specs.Fmt.{digits}
+use Rattle.meaning_points.specs.Prelude.{digits, ModuleTree, Design, design_of, gal22v10}
 use Rattle.std.proofs.Common.{refl}
-use Rattle.abel_tree.specs.Tree.{ModuleTree}
-use Rattle.abel_meaning.specs.Designs.{Design, design_of}
 use Rattle.meaning_points.specs.ByHand.{parts_of, point_at, points_of, number_of, at_each}
 use Rattle.meaning_points.specs.Constructs.{item, pins_to, device, pins, constants, module_of}
-use Rattle.devices.specs.Gal22V10Table.{gal22v10}
 use Rattle.meaning_points.specs.Trees.{word, number, name, set, one, negative, differ, plus, minus, times, over, rest, shift_left}
 
 -- the module as a tree
