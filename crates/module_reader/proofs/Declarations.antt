@@ -1,11 +1,6 @@
 -- Each front of the tokens of a declaration begins it, at each depth of nesting.
 use Rattle.std.proofs.Common.{ℕ, List, [], ◌∷◌, length}
-use Rattle.abel_grammar.specs.Form.{Form}
-use Rattle.abel_lexer.specs.declared.token.Token.{Token}
-use Rattle.abel_tree.specs.declared.words.Word.{Word}
-use Rattle.abel_tree.specs.Tree.{Tree}
-use Rattle.abel_grammar.specs.declared.terminal.Terminal.{Terminal}
-use Rattle.abel_grammar.specs.declared.terminal.Terminal.TheVariants.{Not, Range, Istype, Device, Pin, Node, Semicolon, Comma, Equal}
+use Rattle.module_reader.proofs.Common.{Form, Token, Word, Tree, Terminal, Not, Range, Istype, Device, Pin, Node, Semicolon, Comma, Equal}
 use Rattle.abel_grammar.specs.Declarations.{item, names, num, nums, texts, istype, option, device, kept, pins, nodes, attributes, values_for, constants, naming, option_decl, dont_care_decl, decl, other_decl}
 use Rattle.module_reader.proofs.Forms.{Begun, token_begun, followed_begun, then_begun, made_begun, or_begun, nothing_begun, some_begun, apart_begun, times_begun}
 use Rattle.module_reader.proofs.Expressions.{one_begun, end_begun, name_begun, number_begun, text_begun, dont_care_begun, expr_begun}

@@ -1,12 +1,8 @@
 -- Each front of the tokens of a transition or a diagram begins it, at each depth of nesting.
 use Rattle.std.proofs.Common.{ℕ, zero, suc, Bool, true, false, None}
-use Rattle.abel_grammar.specs.Form.{Form}
-use Rattle.abel_lexer.specs.declared.token.Token.{Token}
-use Rattle.abel_tree.specs.Tree.{Tree, Branch}
-use Rattle.abel_grammar.specs.declared.terminal.Terminal.TheVariants.{BraceOpen, BraceClose, With, Endwith, If, Then, Else, Case, Endcase, Colon, Semicolon, Goto, State, StateDiagram}
+use Rattle.module_reader.proofs.Common.{Form, Token, Tree, Branch, BraceOpen, BraceClose, With, Endwith, If, Then, Else, Case, Endcase, Colon, Semicolon, Goto, State, StateDiagram, takes_before}
 use Rattle.abel_grammar.specs.Diagrams.{braced, listed, with_part, goal, is_open_arm, if_form, choice, case_form, goal_arm, arm, is_closed, ending, leading, trans, state, diagram}
 use Rattle.abel_grammar.proofs.Expressions.{expr_takes}
-use Rattle.abel_grammar.proofs.Forms.{takes_before}
 use Rattle.module_reader.proofs.Forms.{Begun, followed_begun, then_begun, made_begun, or_begun, nothing_begun, some_begun, unless_begun, many_begun, lies, placed_begun}
 use Rattle.module_reader.proofs.Expressions.{one_begun, end_begun, expr_begun}
 use Rattle.module_reader.proofs.Statements.{stmt_begun, plain_stmt_begun}

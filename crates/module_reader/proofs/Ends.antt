@@ -1,9 +1,7 @@
 -- An expansion ends once: behind it every turn changes nothing, so a text has one expanded text.
 use Rattle.std.proofs.Common.{◌≡◌, ◌+◌, ◌-◌, ◌≤◌, ℕ, zero, suc, List, [], Ok, Err, refl, sym, ap, ◌∙◌, subst, arith, append-nil, ◌⊎◌, inl, inr}
+use Rattle.module_reader.proofs.Common.{Tables, Move, Done, move, Config, moved, turned, after, IsExpanded}
 use Rattle.abel_lexer.specs.Lengths.{longest_at, longest_word}
-use Rattle.abel_macros.specs.Rules.{Tables, Move, Done, move}
-use Rattle.abel_macros.specs.Turns.{Config, moved}
-use Rattle.abel_expand.specs.Runs.{turned, after, IsExpanded}
 
 -- nothing is left, and this is done
 pub record Ended (c : Config) (w : List ℕ) : Type 0 where

@@ -1,11 +1,6 @@
 -- Each front of the tokens of a word or an expression begins it, at each depth of nesting.
 use Rattle.std.proofs.Common.{ℕ, zero, suc, List}
-use Rattle.abel_grammar.specs.Form.{Form}
-use Rattle.abel_lexer.specs.declared.token.Token.{Token}
-use Rattle.abel_tree.specs.Tree.{Tree}
-use Rattle.abel_grammar.specs.declared.terminal.Terminal.{Terminal}
-use Rattle.abel_grammar.specs.declared.terminal.Terminal.TheVariants.{Identifier, Number, Special, Extension, Open, Close, Left, Right, Range, Semicolon, DontCare, Text}
-use Rattle.abel_grammar.specs.Words.{one, name, number, text, ext, end, dont_care}
+use Rattle.module_reader.proofs.Common.{Form, Token, Tree, Terminal, Identifier, Number, Special, Extension, Open, Close, Left, Right, Range, Semicolon, DontCare, Text, one, name, number, text, ext, end, dont_care}
 use Rattle.abel_grammar.specs.Expressions.{name_tree, number_tree, special, simple, level, relations, sums, products, expr_over, paren, span_member, member, set, negated, operand, expr, set_at}
 use Rattle.module_reader.proofs.Forms.{Begun, token_begun, then_begun, made_begun, or_begun, nothing_begun, some_begun, apart_begun, chain_begun}
 

@@ -1,22 +1,12 @@
 -- Expanding, scanning and parsing have one fate each, and so has the text.
 use Rattle.std.proofs.Common.{◌≡◌, ◌≢◌, ℕ, List, [], Ok, refl, sym, ap, subst, ◌∙◌}
-use Rattle.abel_grammar.specs.Verdict.{Spells}
+use Rattle.module_reader.proofs.Common.{Spells, Place, ScanFault, Token, IsTokensOf, IsFirstFault, first_place, place_past, IsExpanded, ModuleTree, source, ParseFault, IsAccepted, IsRefused, place_at, HasTokens, IsNotScanned}
 use Rattle.abel_grammar.proofs.VerdictLaws.{tree_only}
-use Rattle.pld_base.specs.declared.place.Place.{Place}
-use Rattle.abel_lexer.specs.declared.fault.ScanFault.{ScanFault}
-use Rattle.abel_lexer.specs.declared.token.Token.{Token}
-use Rattle.abel_lexer.specs.Scans.{IsTokensOf, IsFirstFault, first_place, place_past}
 use Rattle.abel_lexer.proofs.Found.{only_tokens, only_fault}
-use Rattle.abel_expand.specs.Runs.{IsExpanded}
-use Rattle.abel_tree.specs.Tree.{ModuleTree}
-use Rattle.abel_grammar.specs.Modules.{source}
 use Rattle.abel_grammar.specs.ModuleReaders.{read_source}
 use Rattle.abel_grammar.proofs.ModuleLaws.{source_laws}
-use Rattle.abel_parser.specs.declared.fault.ParseFault.{ParseFault}
 use Rattle.abel_parser.specs.declared.fault.ParseFault.TheVariants as parse
-use Rattle.abel_parser.specs.Refusals.{IsAccepted, IsRefused, place_at}
 use Rattle.module_reader.specs.declared.fault.ReadFault.TheVariants.{Expand, Scan, Parse, OutOfMemory}
-use Rattle.module_reader.specs.Texts.{HasTokens, IsNotScanned}
 use Rattle.module_reader.proofs.Ends.{expanded_once}
 use Rattle.module_reader.specs.Fates.{TextIsReadOrNot, TextHasOneRefusal, TextSpellsOneModule}
 use Rattle.module_reader.proofs.Expansions.{no_refusal, one_refusal}

@@ -1,12 +1,9 @@
 -- Tokens that spell a form begin it, and so does each front of tokens that begin it; so of a form that is made of such
 -- forms.
 use Rattle.std.proofs.Common.{◌≡◌, ℕ, zero, suc, ◌<◌, ◌⊎◌, inl, inr, Bool, true, false, List, [], ◌∷◌, ◌++◌, length, Option, Some, None, refl, sym, ap, subst, ◌∙◌, arith}
-use Rattle.std.proofs.lemmas.List.{append_assoc}
-use Rattle.abel_grammar.specs.Form.{Form, BeginsToken, token, followed, ◌then◌, either, SpellsOption, optional, SpellsList, repeated, made, separated, chain, nothing, given}
+use Rattle.module_reader.proofs.Common.{append_assoc, Form, BeginsToken, token, followed, ◌then◌, either, SpellsOption, optional, SpellsList, repeated, made, separated, chain, nothing, given, Token, Lies, Takes}
 use Rattle.abel_grammar.specs.Further.{placed, times, unless}
-use Rattle.abel_lexer.specs.declared.token.Token.{Token}
 use Rattle.abel_grammar.proofs.Along.{along_none}
-use Rattle.abel_grammar.proofs.Forms.{Lies, Takes}
 
 -- the tokens that spell a tree do so whatever stands behind them, and begin the form
 pub record Taken {A : Type 0} (a : Form Token A) (ts : List Token) (t : A) (rest : List Token) : Type 0 where

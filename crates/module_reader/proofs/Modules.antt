@@ -1,7 +1,6 @@
 -- Each front of the tokens of a module begins it, at each depth of nesting.
 use Rattle.std.proofs.Common.{ℕ, []}
-use Rattle.abel_grammar.specs.declared.terminal.Terminal.TheVariants.{Declarations, Equations, Module, End, Title, Identifier}
-use Rattle.abel_grammar.specs.Modules.{declarations, equations, proper, dont_care_section, takes_dont_care, sections, options, first_decls, title, source}
+use Rattle.module_reader.proofs.Common.{Declarations, Equations, Module, End, Title, Identifier, declarations, equations, proper, dont_care_section, takes_dont_care, sections, options, first_decls, title, source}
 use Rattle.module_reader.proofs.Forms.{Begun, followed_begun, then_begun, made_begun, or_begun, some_begun, unless_begun, many_begun}
 use Rattle.module_reader.proofs.Expressions.{one_begun, end_begun, name_begun, text_begun, dont_care_begun}
 use Rattle.module_reader.proofs.Statements.{stmt_begun}

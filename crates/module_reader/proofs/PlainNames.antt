@@ -1,21 +1,14 @@
 -- The name of a module is the text of an identifier, and so has neither an asterisk nor the end byte.
 use Rattle.std.proofs.Common.{◌≡◌, ℕ, Bool, true, false, not, ◌==◌, ◌||◌, List, [], ◌∷◌, if◌then◌else◌, refl, sym, ap, ◌∙◌, subst, inl, inr}
+use Rattle.module_reader.proofs.Common.{and_from, and_parts, cases_Bool, eqb-true, not-true, or_cases, true≢false, Token, Remainder, Lexeme, Shown, Radix, Leads, IsTokensOf, tokens_among, whole, ModuleTree, Word, Terminal, source, name}
 use Rattle.std.specs.List.{list_all}
 use Rattle.std.specs.Str.{bytes_eq}
-use Rattle.std.proofs.lemmas.Bool.{and_from, and_parts, cases_Bool, eqb-true, not-true, or_cases, true≢false}
-use Rattle.abel_lexer.specs.declared.token.Token.{Token}
 use Rattle.abel_lexer.specs.declared.token.TokenKind.{TokenKind}
 use Rattle.abel_lexer.specs.declared.token.TokenKind.TheVariants as kind
 use Rattle.abel_lexer.specs.Bytes.{is_name_first, is_name_later}
 use Rattle.abel_lexer.specs.Kinds.{IsToken, IsWord}
-use Rattle.abel_lexer.specs.Scans.{Remainder, Lexeme, Shown, Radix, Leads, IsTokensOf, tokens_among, whole}
-use Rattle.abel_tree.specs.Tree.{ModuleTree}
-use Rattle.abel_tree.specs.declared.words.Word.{Word}
-use Rattle.abel_grammar.specs.declared.terminal.Terminal.{Terminal}
 use Rattle.abel_grammar.specs.declared.terminal.Terminal.TheVariants as terminal
-use Rattle.abel_grammar.specs.Modules.{source}
 use Rattle.abel_grammar.specs.Terminals.{among, look_up, number_of, signs, terminal_by, terminal_of}
-use Rattle.abel_grammar.specs.Words.{name}
 use Rattle.jedec_file.specs.CanonicalFile.{IsPlainName}
 use Rattle.jedec_file.specs.FileText.{ETX}
 use Rattle.module_reader.specs.Correct.{ModuleNamesArePlain}

@@ -1,19 +1,9 @@
 -- What expanding, scanning and parsing answer, as what is said of the whole text.
 use Rattle.std.proofs.Common.{◌≡◌, ◌≢◌, ◌⊎◌, inl, inr, ℕ, List, subst, sym, ◌∙◌}
-use Rattle.abel_grammar.specs.Verdict.{Spells}
-use Rattle.pld_base.specs.declared.place.Place.{Place}
-use Rattle.abel_lexer.specs.declared.fault.ScanFault.{ScanFault}
+use Rattle.module_reader.proofs.Common.{Spells, Place, ScanFault, Token, IsTokensOf, AreOnlyTokens, IsFirstFault, first_place, place_past, IsExpanded, ModuleTree, source, ParseFault, IsRefused, SpellsModule, IsNotScanned, IsNotParsed}
 use Rattle.abel_lexer.specs.declared.fault.ScanFault.TheVariants as fault
-use Rattle.abel_lexer.specs.declared.token.Token.{Token}
-use Rattle.abel_lexer.specs.Scans.{IsTokensOf, AreOnlyTokens, IsFirstFault, first_place, place_past}
-use Rattle.abel_expand.specs.Runs.{IsExpanded}
-use Rattle.abel_tree.specs.Tree.{ModuleTree}
-use Rattle.abel_grammar.specs.Modules.{source}
 use Rattle.abel_grammar.specs.Order.{TokensRise}
 use Rattle.abel_grammar.proofs.Texts.{tokens_rise}
-use Rattle.abel_parser.specs.declared.fault.ParseFault.{ParseFault}
-use Rattle.abel_parser.specs.Refusals.{IsRefused}
-use Rattle.module_reader.specs.Texts.{SpellsModule, IsNotScanned, IsNotParsed}
 use Rattle.module_reader.proofs.Ends.{expanded_once}
 
 -- a text with one expanded text that has these tokens alone spells what they spell, and nothing else

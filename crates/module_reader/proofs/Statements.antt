@@ -1,11 +1,7 @@
 -- Each front of the tokens of a statement begins it, at each depth of nesting.
 use Rattle.std.proofs.Common.{ℕ, zero, suc, None}
-use Rattle.abel_grammar.specs.Form.{Form}
-use Rattle.abel_lexer.specs.declared.token.Token.{Token}
-use Rattle.abel_tree.specs.Tree.{Tree, Statement}
-use Rattle.abel_grammar.specs.declared.terminal.Terminal.TheVariants.{Not, Semicolon, When, Then, Else, BraceOpen, BraceClose}
+use Rattle.module_reader.proofs.Common.{Form, Token, Tree, Statement, Not, Semicolon, When, Then, Else, BraceOpen, BraceClose, takes_token, takes_behind, takes_before}
 use Rattle.abel_grammar.specs.Statements.{bare_target, complemented_at, target, assign, dont_care_stmt, is_open, when, group, stmt, plain_stmt}
-use Rattle.abel_grammar.proofs.Forms.{takes_token, takes_behind, takes_before}
 use Rattle.module_reader.proofs.Forms.{Begun, token_begun, followed_begun, then_begun, made_begun, or_begun, nothing_begun, some_begun, unless_begun, many_begun, lies, placed_begun}
 use Rattle.module_reader.proofs.Expressions.{one_begun, end_begun, dont_care_begun, name_tree_begun, expr_begun, set_at_begun}
 

@@ -1,10 +1,6 @@
 -- Tokens are spelled, or refused at one place, where each front of what begins a form begins it.
 use Rattle.std.proofs.Common.{◌≡◌, ℕ, ◌+◌, ◌≤◌, ◌<◌, inl, inr, List, [], ◌++◌, length, take, drop, sym, subst, ◌∙◌, arith, append-nil}
-use Rattle.std.proofs.lemmas.Bool.{cases_lt}
-use Rattle.std.proofs.lemmas.List.{take-append-drop, take-take}
-use Rattle.abel_grammar.specs.Form.{Form}
-use Rattle.abel_grammar.specs.Verdict.{SpellsWhole, SyntaxAt, TooDeepAt}
-use Rattle.abel_lexer.specs.declared.token.Token.{Token}
+use Rattle.module_reader.proofs.Common.{cases_lt, take-append-drop, take-take, Form, SpellsWhole, SyntaxAt, TooDeepAt, Token}
 use Rattle.module_reader.proofs.Forms.{Begun}
 
 module _ {A : Type 0} (form : ℕ → Form Token A) (depth : ℕ) (begun : (n : ℕ) → Begun (form n)) (ts : List Token) where

@@ -1,10 +1,7 @@
 -- Each front of the tokens of a truth table or of test vectors begins them, at each depth of nesting.
 use Rattle.std.proofs.Common.{ℕ, zero, suc, List}
-use Rattle.abel_tree.specs.Tree.{RowTree}
-use Rattle.abel_grammar.specs.declared.terminal.Terminal.{Terminal}
-use Rattle.abel_grammar.specs.declared.terminal.Terminal.TheVariants.{Open, Close, Semicolon, TruthTable, TestVectors}
+use Rattle.module_reader.proofs.Common.{RowTree, Terminal, Open, Close, Semicolon, TruthTable, TestVectors, takes_token, takes_behind}
 use Rattle.abel_grammar.specs.Tables.{Sides, row_as, header_as, table, vectors}
-use Rattle.abel_grammar.proofs.Forms.{takes_token, takes_behind}
 use Rattle.module_reader.proofs.Forms.{Begun, token_begun, then_begun, made_begun, nothing_begun, some_begun, many_begun, lies, placed_begun}
 use Rattle.module_reader.proofs.Expressions.{one_begun, text_begun, expr_begun}
 

@@ -1,6 +1,6 @@
 -- The three answers are put together.
 use Rattle.std.proofs.Common.{ap, ◌∙◌}
-use Rattle.abel_lexer.specs.Scans.{first_place, place_past}
+use Rattle.module_reader.proofs.Common.{first_place, place_past}
 use Rattle.abel_tree.specs.View.{view_module}
 use Rattle.module_reader.proofs.Read.{only_module, rising_tokens, not_scanned, not_parsed}
 use Rattle.module_reader.proofs.reading.read_module.Goals as goal
