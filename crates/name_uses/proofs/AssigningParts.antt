@@ -1,13 +1,6 @@
 -- What sections assign is what the parts of their expressions give.
 use Rattle.std.proofs.Common.{◌≡◌, Bool, true, Option, Some, None, List, [], ◌∷◌, ◌++◌, map, refl, ap, ap₂, ◌∙◌, append_assoc}
-use Rattle.std.specs.List.{flat_map}
-use Rattle.std.proofs.lemmas.List.{append-nil}
-use Rattle.std.proofs.lemmas.List.Concat.{flat_map-append}
-use Rattle.abel_tree.specs.Assigned.{Assigned, Named, assigned_by, assigned_each, branch_assigns, branches_assign, choices_assign, else_assigns, is_clocked, list_assigns, other_assigns, section_assigns, sections_assign, signals_of, statement_assigns, statements_assign, states_assign, target_extension, with_assigns, without_extension}
-use Rattle.abel_tree.specs.declared.words.Sign.{Sign}
-use Rattle.abel_tree.specs.Tree.{Tree, Statement, AnAssign, AWhen, AGroup, ADontCare, Otherwise, NoElse, AnElse, Statements, NoStatement, MoreStatements, Branch, AGoal, AnIf, ACase, OtherBranch, NoBranch, ABranch, Choices, NoChoice, MoreChoices, RowTree, StateTree, SectionTree, Declarations, Equations, ATable, ADiagram, SomeVectors, DontCareSection}
-use Rattle.name_uses.specs.Parts.{PartTree, Target, Value, Read, Outputs, Registers, Entry, part, parts_in_branch, parts_in_choices, parts_in_else, parts_in_other, parts_in_row, parts_in_section, parts_in_state, parts_in_statement, parts_in_statements, parts_in_with}
-use Rattle.name_uses.specs.Viewed.{PartedSection, with_parts}
+use Rattle.name_uses.proofs.Common.{flat_map, append-nil, flat_map-append, Assigned, Named, assigned_by, assigned_each, branch_assigns, branches_assign, choices_assign, else_assigns, is_clocked, list_assigns, other_assigns, section_assigns, sections_assign, signals_of, statement_assigns, statements_assign, states_assign, target_extension, with_assigns, without_extension, Sign, Tree, Statement, AnAssign, AWhen, AGroup, ADontCare, Otherwise, NoElse, AnElse, Statements, NoStatement, MoreStatements, Branch, AGoal, AnIf, ACase, OtherBranch, NoBranch, ABranch, Choices, NoChoice, MoreChoices, RowTree, StateTree, SectionTree, Declarations, Equations, ATable, ADiagram, SomeVectors, DontCareSection, PartTree, Target, Value, Read, Outputs, Registers, Entry, part, parts_in_branch, parts_in_choices, parts_in_else, parts_in_other, parts_in_row, parts_in_section, parts_in_state, parts_in_statement, parts_in_statements, parts_in_with, PartedSection, with_parts}
 
 -- each part of a section gives what is assigned there: the target of an equation, the outputs of a table, the registers of
 -- a diagram

@@ -1,14 +1,8 @@
 -- The digits at the end of a name, and the numbers of a range.
 use Rattle.std.proofs.Common.{◌≡◌, ℕ, zero, suc, ◌+◌, ◌-◌, ◌<◌, ◌≤◌, nat_le, Bool, true, false, List, [], ◌∷◌, ◌++◌, Some, None, map, take, drop, length, get_or, reverse, if◌then◌else◌, refl, sym, ap, ap₂, ◌∙◌, arith, cond}
-use Rattle.std.specs.Fmt.{decimal}
-use Rattle.std.specs.Str.{bytes_eq}
-use Rattle.std.proofs.lemmas.List.{take_more, take_rest, take-append-drop, reverse-append, reverse-reverse, length-append, length-map}
-use Rattle.std.proofs.lemmas.List.FromFn.{length-range_with_len}
+use Rattle.name_uses.proofs.Common.{decimal, bytes_eq, take_more, take_rest, take-append-drop, reverse-append, reverse-reverse, length-append, length-map, length-range_with_len, range_with_len, take_while, prefix_len, is_digit, last_digits, stem, is_run, number_of, numbers_between, ends_agree, names_between, range_names, number_at, end_number, names_if_agree}
 use Rattle.std.proofs.lemmas.List.Sums.{take_while-cons}
 use Rattle.std.proofs.Math.Seq.{drop-append_seam}
-use Rattle.std.specs.List.{range_with_len, take_while, prefix_len}
-use Rattle.abel_tree.specs.Ranges.{is_digit, last_digits, stem, is_run, number_of, numbers_between, ends_agree, names_between, range_names}
-use Rattle.name_uses.specs.RangeParts.{number_at, end_number, names_if_agree}
 
 -- one byte more
 digits_chosen : (b : Bool) (x : ℕ) (xs ys : List ℕ) → reverse ys ≡ xs → reverse (cond b (x ∷ ys) []) ≡ cond b (xs ++ x ∷ []) []

@@ -1,12 +1,7 @@
 -- What the parts of sections that may hold a register give is what the parts of their expressions do.
 use Rattle.std.proofs.Common.{◌≡◌, Bool, Option, Some, None, List, [], ◌∷◌, ◌++◌, map, refl, sym, ap, ap₂, ◌∙◌, append_assoc}
-use Rattle.std.specs.List.{flat_map}
-use Rattle.std.proofs.lemmas.List.Concat.{flat_map-append}
+use Rattle.name_uses.proofs.Common.{flat_map, flat_map-append, Sign, Tree, Statement, AnAssign, AWhen, AGroup, ADontCare, Otherwise, NoElse, AnElse, Statements, NoStatement, MoreStatements, Branch, AGoal, AnIf, ACase, OtherBranch, NoBranch, ABranch, Choices, NoChoice, MoreChoices, RowTree, StateTree, SectionTree, Declarations, Equations, ATable, ADiagram, SomeVectors, DontCareSection, PartTree, Target, Value, Read, Outputs, Registers, Entry, part, parts_in_branch, parts_in_choices, parts_in_else, parts_in_other, parts_in_row, parts_in_section, parts_in_state, parts_in_statement, parts_in_statements, parts_in_with, PartedSection, with_parts}
 use Rattle.abel_meaning.specs.Held.{ATarget, AValue, Part, branch_parts, branches_parts, choices_parts, else_parts, list_parts, other_parts, section_parts, sections_parts, statement_parts, statements_parts, states_parts, with_parts as parts_of_with}
-use Rattle.abel_tree.specs.declared.words.Sign.{Sign}
-use Rattle.abel_tree.specs.Tree.{Tree, Statement, AnAssign, AWhen, AGroup, ADontCare, Otherwise, NoElse, AnElse, Statements, NoStatement, MoreStatements, Branch, AGoal, AnIf, ACase, OtherBranch, NoBranch, ABranch, Choices, NoChoice, MoreChoices, RowTree, StateTree, SectionTree, Declarations, Equations, ATable, ADiagram, SomeVectors, DontCareSection}
-use Rattle.name_uses.specs.Parts.{PartTree, Target, Value, Read, Outputs, Registers, Entry, part, parts_in_branch, parts_in_choices, parts_in_else, parts_in_other, parts_in_row, parts_in_section, parts_in_state, parts_in_statement, parts_in_statements, parts_in_with}
-use Rattle.name_uses.specs.Viewed.{PartedSection, with_parts}
 
 -- each part of a section gives what the part that may hold a register does that it is, and nothing where it is none; the
 -- registers of a diagram are asked apart

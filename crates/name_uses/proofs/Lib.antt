@@ -1,4 +1,5 @@
 pub mod AssigningParts
+pub mod Common
 pub mod Digits
 pub mod HoldingParts
 pub mod Listed

@@ -1,7 +1,6 @@
 -- The names of a range by whether its ends agree.
 use Rattle.std.proofs.Common.{◌≡◌, ℕ, Bool, true, false, List, [], Option, Some, None, if◌then◌else◌, refl}
-use Rattle.abel_tree.specs.Ranges.{ends_agree, names_between, range_names}
-use Rattle.name_uses.specs.RangeParts.{names_if_agree}
+use Rattle.name_uses.proofs.Common.{ends_agree, names_between, range_names, names_if_agree}
 
 some_names : (b : Bool) (names found : List (List ℕ)) → Some found ≡ (if b then Some names else None) → found ≡ (if b then names else [])
 some_names true names found e = cc

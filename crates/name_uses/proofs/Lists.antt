@@ -1,19 +1,10 @@
 -- The lists of the tree, which are types of their own there, as lists.
 use Rattle.std.proofs.Common.{◌≡◌, List, [], ◌∷◌, ◌++◌, Option, map, rules, refl, ap, ◌∙◌}
-use Rattle.std.specs.List.{flat_map}
-use Rattle.pld_base.specs.declared.place.Place.{Place}
-use Rattle.abel_tree.specs.declared.words.Extension.{Extension}
+use Rattle.name_uses.proofs.Common.{flat_map, Place, Extension, expr_lemmas, Member, without_extension, Tree, SetMember, members_of, Statement, statements_of, Branch, choices_of, view, view_member, view_stmt, member_used, members_used, names_used, parts_in_choice, parts_in_choices, parts_in_statement, parts_in_statements}
 use Rattle.abel_tree.specs.declared.statements.Stmt.{Stmt, the_lemmas as stmt_lemmas}
 use Rattle.abel_tree.specs.declared.statements.Stmt as stmt
-use Rattle.abel_tree.specs.declared.expressions.Expr.{the_lemmas as expr_lemmas}
 use Rattle.abel_tree.specs.declared.expressions.Expr as expr
-use Rattle.abel_tree.specs.declared.expressions.Member.{Member}
-use Rattle.abel_tree.specs.Assigned.{without_extension}
-use Rattle.abel_tree.specs.Tree.{Tree, SetMember, members_of, Statement, statements_of, Branch, choices_of}
-use Rattle.abel_tree.specs.View.{view, view_member, view_stmt}
 use Rattle.abel_tree.specs.Extensions.{innermost}
-use Rattle.name_uses.specs.NamesUsed.{member_used, members_used, names_used}
-use Rattle.name_uses.specs.Parts.{parts_in_choice, parts_in_choices, parts_in_statement, parts_in_statements}
 
 members_listed : (outer : Option Extension) (ms : List SetMember) → members_used outer (members_of ms) ≡ flat_map (member_used outer) ms
 members_listed outer [] = refl

@@ -1,9 +1,6 @@
 -- The names of the members of a target, one member more.
 use Rattle.std.proofs.Common.{◌≡◌, List, [], ◌∷◌, ◌++◌, sym, ap, ◌∙◌, append_assoc}
-use Rattle.std.proofs.lemmas.List.{append-nil}
-use Rattle.abel_tree.specs.Tree.{SetMember, members_of}
-use Rattle.name_uses.specs.NamesUsed.{UsedName}
-use Rattle.name_uses.specs.Targets.{targets_in_member, targets_in_members}
+use Rattle.name_uses.proofs.Common.{append-nil, SetMember, members_of, UsedName, targets_in_member, targets_in_members}
 
 abbrev pub listed_targets : List SetMember → List UsedName
 listed_targets ms = targets_in_members (members_of ms)

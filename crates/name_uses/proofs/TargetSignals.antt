@@ -1,14 +1,7 @@
 -- What the names of a target give together is what the signals do that it names.
 use Rattle.std.proofs.Common.{◌≡◌, ℕ, Option, Some, None, List, [], ◌++◌, sym, ap₂, ◌∙◌}
-use Rattle.std.specs.List.{flat_map}
-use Rattle.std.proofs.lemmas.List.{append-nil}
-use Rattle.std.proofs.lemmas.List.Concat.{flat_map-append}
+use Rattle.name_uses.proofs.Common.{flat_map, append-nil, flat_map-append, Named, signals_of, signals_of_member, signals_of_members, signals_of_name, signals_of_names, range_names, Tree, ANumber, ASpecial, AName, ASet, AParen, AUnary, ABinary, SetMember, OneMember, SpanMember, Members, NoMember, MoreMembers, UsedName, targets_in, targets_in_member, targets_in_members}
 use Rattle.abel_tree.specs.declared.words.Word.{Word}
-use Rattle.abel_tree.specs.Assigned.{Named, signals_of, signals_of_member, signals_of_members, signals_of_name, signals_of_names}
-use Rattle.abel_tree.specs.Ranges.{range_names}
-use Rattle.abel_tree.specs.Tree.{Tree, ANumber, ASpecial, AName, ASet, AParen, AUnary, ABinary, SetMember, OneMember, SpanMember, Members, NoMember, MoreMembers}
-use Rattle.name_uses.specs.NamesUsed.{UsedName}
-use Rattle.name_uses.specs.Targets.{targets_in, targets_in_member, targets_in_members}
 
 -- a name or a range that stands without extension
 abbrev pub plain : Word → Option Word → UsedName

@@ -1,16 +1,10 @@
 -- Operators in a row: the names of their right sides stand behind those of the first operand.
 use Rattle.std.proofs.Common.{◌≡◌, ℕ, ◌<◌, ◌≤◌, List, [], ◌∷◌, ◌++◌, Option, sym, ap, ◌∙◌, arith, rules, append_assoc, Bor}
-use Rattle.std.proofs.lemmas.List.{append-nil}
-use Rattle.pld_base.specs.declared.place.Place.{Place}
+use Rattle.name_uses.proofs.Common.{append-nil, Place, Extension, Expr, size-Expr, the_lemmas, Tree, ABinary, SetMember, view, expr_layer, member_layer, UsedName, names_used}
 use Rattle.abel_tree.specs.declared.words.Binary.{Binary}
-use Rattle.abel_tree.specs.declared.words.Extension.{Extension}
-use Rattle.abel_tree.specs.declared.expressions.Expr.{Expr, size-Expr, the_lemmas}
 use Rattle.abel_tree.specs.declared.expressions.Expr as expr
 use Rattle.abel_tree.specs.declared.expressions.Expr.TheFolds.{fold-roll-Expr}
 use Rattle.abel_tree.specs.declared.expressions.Expr.TheOpen as open_expr
-use Rattle.abel_tree.specs.Tree.{Tree, ABinary, SetMember}
-use Rattle.abel_tree.specs.View.{view, expr_layer, member_layer}
-use Rattle.name_uses.specs.NamesUsed.{UsedName, names_used}
 
 -- the names of the right sides, the innermost operator's last
 abbrev pub rights_used : Option Extension → List Expr → List UsedName

@@ -1,6 +1,6 @@
 -- The digits at the end of what was read.
 use Rattle.std.proofs.Common.{◌≡◌, ◌≤◌, length, take}
-use Rattle.abel_tree.specs.Ranges.{last_digits}
+use Rattle.name_uses.proofs.Common.{last_digits}
 use Rattle.name_uses.proofs.ranges.digits_at_end.Given as goal
 
 abbrev pub invariant-loop-c : goal.invariant-loop-c

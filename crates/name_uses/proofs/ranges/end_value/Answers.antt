@@ -1,6 +1,6 @@
 -- The digits stand behind the stem.
 use Rattle.std.proofs.Common.{Some, None, if◌then◌else◌, ap, ◌∙◌}
-use Rattle.abel_tree.specs.Ranges.{is_run, number_of}
+use Rattle.name_uses.proofs.Common.{is_run, number_of}
 use Rattle.name_uses.proofs.Digits.{digits_sliced}
 use Rattle.name_uses.proofs.ranges.end_value.Goals as goal
 

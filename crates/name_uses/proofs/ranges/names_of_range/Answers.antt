@@ -1,9 +1,6 @@
 -- Both ends are runs of digits behind one stem.
 use Rattle.std.proofs.Common.{◌++◌, map, sym, ap, ap₂, ◌∙◌}
-use Rattle.std.specs.Fmt.{decimal}
-use Rattle.std.specs.Str.{bytes_eq}
-use Rattle.abel_tree.specs.Ranges.{numbers_between}
-use Rattle.name_uses.specs.RangeParts.{name_items}
+use Rattle.name_uses.proofs.Common.{decimal, bytes_eq, numbers_between, name_items}
 use Rattle.name_uses.proofs.Digits.{agreed}
 use Rattle.name_uses.proofs.ranges.names_of_range.Goals as goal
 

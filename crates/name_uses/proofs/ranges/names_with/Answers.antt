@@ -1,9 +1,6 @@
 -- One name more, and all of them.
 use Rattle.std.proofs.Common.{[], ◌∷◌, ◌++◌, map, sym, ap, ap₂, ◌∙◌, arith}
-use Rattle.std.specs.Fmt.{decimal}
-use Rattle.std.proofs.lemmas.List.{map-append}
-use Rattle.std.proofs.lemmas.List.FromFn.{map-range_with_len_more}
-use Rattle.name_uses.specs.RangeParts.{number_at, name_items}
+use Rattle.name_uses.proofs.Common.{decimal, map-append, map-range_with_len_more, number_at, name_items}
 use Rattle.name_uses.proofs.Digits.{names_by_place}
 use Rattle.name_uses.proofs.ranges.names_with.Goals as goal
 

@@ -1,8 +1,6 @@
 -- The names at the places so far.
 use Rattle.std.proofs.Common.{◌≡◌, ◌++◌, map}
-use Rattle.std.specs.Fmt.{decimal}
-use Rattle.std.specs.List.{range_with_len}
-use Rattle.name_uses.specs.RangeParts.{number_at, name_items}
+use Rattle.name_uses.proofs.Common.{decimal, range_with_len, number_at, name_items}
 use Rattle.name_uses.proofs.ranges.names_with.Given as goal
 
 abbrev pub invariant-loop-place : goal.invariant-loop-place

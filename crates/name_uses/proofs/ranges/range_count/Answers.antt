@@ -1,6 +1,6 @@
 -- Both ends are runs of digits behind one stem.
 use Rattle.std.proofs.Common.{◌+◌, sym, ap, ap₂, ◌∙◌}
-use Rattle.std.specs.Str.{bytes_eq}
+use Rattle.name_uses.proofs.Common.{bytes_eq}
 use Rattle.name_uses.proofs.Digits.{counted_range}
 use Rattle.name_uses.proofs.ranges.range_count.Goals as goal
 

@@ -1,7 +1,6 @@
 -- The sections so far, each with its parts.
 use Rattle.std.proofs.Common.{◌≡◌, map, take}
-use Rattle.abel_tree.specs.View.{view_section}
-use Rattle.name_uses.specs.Viewed.{view_section_parts, with_parts}
+use Rattle.name_uses.proofs.Common.{view_section, view_section_parts, with_parts}
 use Rattle.name_uses.proofs.source.all_parts.Given as goal
 
 abbrev pub invariant-loop-section : goal.invariant-loop-section

@@ -1,9 +1,6 @@
 -- The statements of a group.
 use Rattle.std.proofs.Common.{◌≡◌, ◌++◌, map, OnOk, subst, sym, ap, ◌∙◌}
-use Rattle.std.specs.List.{flat_map}
-use Rattle.abel_tree.specs.View.{view_stmt}
-use Rattle.name_uses.specs.Parts.{parts_in_statement}
-use Rattle.name_uses.specs.Viewed.{view_part}
+use Rattle.name_uses.proofs.Common.{flat_map, view_stmt, parts_in_statement, view_part}
 use Rattle.name_uses.proofs.Lists.{group_parts}
 use Rattle.name_uses.proofs.statements.+statements.Goals as goal
 

@@ -1,9 +1,6 @@
 -- One member more.
 use Rattle.std.proofs.Common.{◌≡◌, ◌+◌, [], ◌∷◌, ◌++◌, map, take, sym, ap, ◌∙◌, append_assoc}
-use Rattle.std.proofs.lemmas.List.{map_push, take_more}
-use Rattle.abel_tree.specs.View.{view_member}
-use Rattle.name_uses.specs.Targets.{targets_in_member}
-use Rattle.name_uses.specs.Viewed.{view_use}
+use Rattle.name_uses.proofs.Common.{map_push, take_more, view_member, targets_in_member, view_use}
 use Rattle.name_uses.proofs.TargetMembers.{listed_targets, targets_push}
 use Rattle.name_uses.proofs.targets.+targets.Goals as goal
 

@@ -1,7 +1,6 @@
 -- The names of the members so far are listed.
 use Rattle.std.proofs.Common.{◌≡◌, ◌++◌, map, take}
-use Rattle.abel_tree.specs.View.{view_member}
-use Rattle.name_uses.specs.Viewed.{view_use}
+use Rattle.name_uses.proofs.Common.{view_member, view_use}
 use Rattle.name_uses.proofs.TargetMembers.{listed_targets}
 use Rattle.name_uses.proofs.targets.+targets.Given as goal
 

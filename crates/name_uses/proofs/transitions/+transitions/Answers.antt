@@ -1,10 +1,6 @@
 -- All arms of a CASE.
 use Rattle.std.proofs.Common.{◌++◌, ◌≤◌, length, map, sym, ap, ◌∙◌, arith}
-use Rattle.std.proofs.lemmas.List.{take_all}
-use Rattle.std.specs.List.{flat_map}
-use Rattle.abel_tree.specs.View.{view_choice}
-use Rattle.name_uses.specs.Parts.{parts_in_choice}
-use Rattle.name_uses.specs.Viewed.{view_part}
+use Rattle.name_uses.proofs.Common.{take_all, flat_map, view_choice, parts_in_choice, view_part}
 use Rattle.name_uses.proofs.Lists.{choices_listed}
 use Rattle.name_uses.proofs.transitions.+transitions.Goals as goal
 

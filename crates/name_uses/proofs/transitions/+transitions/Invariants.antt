@@ -1,9 +1,6 @@
 -- The parts of those so far stand behind what was there.
 use Rattle.std.proofs.Common.{◌≡◌, ◌++◌, map, take}
-use Rattle.std.specs.List.{flat_map}
-use Rattle.abel_tree.specs.View.{view_choice}
-use Rattle.name_uses.specs.Parts.{parts_in_choice}
-use Rattle.name_uses.specs.Viewed.{view_part}
+use Rattle.name_uses.proofs.Common.{flat_map, view_choice, parts_in_choice, view_part}
 use Rattle.name_uses.proofs.transitions.+transitions.Given as goal
 
 abbrev pub invariant-put_choices-loop-arm : goal.invariant-put_choices-loop-arm

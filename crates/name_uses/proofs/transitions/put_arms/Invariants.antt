@@ -1,9 +1,6 @@
 -- The parts of those so far stand behind what was there.
 use Rattle.std.proofs.Common.{◌≡◌, ◌++◌, map, take}
-use Rattle.std.specs.List.{flat_map}
-use Rattle.abel_tree.specs.View.{view_arm}
-use Rattle.name_uses.specs.Parts.{parts_in_branch}
-use Rattle.name_uses.specs.Viewed.{view_part}
+use Rattle.name_uses.proofs.Common.{flat_map, view_arm, parts_in_branch, view_part}
 use Rattle.name_uses.proofs.transitions.put_arms.Given as goal
 
 abbrev pub invariant-loop-arm : goal.invariant-loop-arm

@@ -1,13 +1,8 @@
 -- Each turn goes one operator down, and lists one right side on the way back.
 use Rattle.std.proofs.Common.{◌≡◌, ◌<◌, ◌≤◌, [], ◌∷◌, ◌++◌, OnOk, map, sym, ap, ap₂, ◌∙◌, subst, arith, append_assoc}
-use Rattle.std.specs.List.{flat_map}
+use Rattle.name_uses.proofs.Common.{flat_map, map_push, size-Expr, view, view_member, member_used, names_used, view_use}
 use Rattle.std.proofs.lemmas.Result.{on_ok_weaker}
-use Rattle.std.proofs.lemmas.List.{map_push}
-use Rattle.abel_tree.specs.declared.expressions.Expr.{size-Expr}
 use Rattle.abel_tree.specs.declared.expressions.Expr as expr
-use Rattle.abel_tree.specs.View.{view, view_member}
-use Rattle.name_uses.specs.NamesUsed.{member_used, names_used}
-use Rattle.name_uses.specs.Viewed.{view_use}
 use Rattle.name_uses.proofs.Lists.{set_uses}
 use Rattle.name_uses.proofs.Unrolled.{binary_uses, expr_at, EachBelow, Unrolls, rights_used, goes_down, goes_up, below_pop}
 use Rattle.name_uses.proofs.uses.+uses.Goals as goal

@@ -1,11 +1,6 @@
 -- The first operand and the right sides that wait make up the expression; what was listed stands in order.
 use Rattle.std.proofs.Common.{◌≡◌, ◌≤◌, ◌+◌, ◌*◌, ◌++◌, length, take, map}
-use Rattle.std.specs.List.{flat_map}
-use Rattle.abel_tree.specs.declared.expressions.Expr.{size-Expr}
-use Rattle.abel_tree.specs.declared.expressions.Member.{size-Member}
-use Rattle.abel_tree.specs.View.{view, view_member}
-use Rattle.name_uses.specs.NamesUsed.{member_used, names_used}
-use Rattle.name_uses.specs.Viewed.{view_use}
+use Rattle.name_uses.proofs.Common.{flat_map, size-Expr, size-Member, view, view_member, member_used, names_used, view_use}
 use Rattle.name_uses.proofs.Unrolled.{Unrolls, EachBelow, rights_used, expr_at}
 use Rattle.name_uses.proofs.uses.+uses.Given as goal
 

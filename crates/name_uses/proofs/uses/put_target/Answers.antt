@@ -1,10 +1,6 @@
 -- The members of a target, under an extension in place of its own.
 use Rattle.std.proofs.Common.{◌≡◌, ◌++◌, OnOk, map, sym, ap, ◌∙◌, subst}
-use Rattle.std.specs.List.{flat_map}
-use Rattle.abel_tree.specs.Assigned.{without_extension}
-use Rattle.abel_tree.specs.View.{view, view_member}
-use Rattle.name_uses.specs.NamesUsed.{member_used, names_used}
-use Rattle.name_uses.specs.Viewed.{view_use}
+use Rattle.name_uses.proofs.Common.{flat_map, without_extension, view, view_member, member_used, names_used, view_use}
 use Rattle.name_uses.proofs.Lists.{target_uses}
 use Rattle.name_uses.proofs.uses.put_target.Goals as goal
 
