@@ -1,29 +1,9 @@
 -- Fitted cells read only cells of lower rank among the netlist's signals, so none reads itself through others.
 use Rattle.std.proofs.Common.{◌≡◌, ℕ, ◌+◌, ◌<◌, ◌≤◌, Bool, true, false, not, ◌&&◌, ◌||◌, List, length, Option, Some, None, refl, ap, sym, ◌∙◌, arith, inl, inr}
 use Rattle.std.specs.Prelude.{unwrap_or}
-use Rattle.std.specs.List.{list_any}
-use Rattle.std.proofs.lemmas.Bool.{cases_lt, and_parts, or_cases, or_left, or_right, true≢false, not-true}
+use Rattle.netlist_laws.proofs.Common.{list_any, cases_lt, and_parts, or_cases, or_left, or_right, true≢false, not-true, Enable, Row, PinLow, Table, cell_at, no_cell, IsDevice, enables_never, never_drives, data_rows, stores, HasNoLoop, row_reads_cell, enable_reads, data_reads, rest_reads, cell_reads, one_of, Leaf, Formula, Const, names, Wanted, PlainNetlist, node_at, wanted_at, enable_of, names_if_any, function_names, cell_names, netlist_names, netlist_waits, signal_count, IsReadable, IsSoundFormula, IsSound, IsFittedEnable, IsFittedCell, IsSpareCell, IsFittedAs, IsFitted, Ranked, no_loop_by_rank}
 use Rattle.pld_device.specs.declared.carry.Carry.TheVariants as carry
-use Rattle.pld_device.specs.declared.enable.Enable.{Enable}
-use Rattle.pld_device.specs.declared.enable.Enable.TheVariants.{Row, PinLow}
-use Rattle.pld_device.specs.Table.{Table, cell_at, no_cell}
-use Rattle.pld_device.specs.Laws.{IsDevice}
-use Rattle.pld_device.specs.Given.{enables_never, never_drives}
-use Rattle.pld_device.specs.Macrocells.{data_rows}
-use Rattle.pld_device.specs.Registers.{stores}
-use Rattle.pld_order.specs.Graphs.{HasNoLoop}
-use Rattle.device_logic.specs.CellReads.{row_reads_cell, enable_reads, data_reads, rest_reads, cell_reads}
-use Rattle.device_logic.proofs.Runs.{one_of}
 use Rattle.bit_expr.specs.declared.node.Leaf.TheVariants as leaf
-use Rattle.bit_expr.specs.declared.node.Leaf.{Leaf}
-use Rattle.bit_expr.specs.Formulas.{Formula, Const, names}
-use Rattle.abel_meaning.specs.Netlists.{Wanted, PlainNetlist, node_at, wanted_at}
-use Rattle.abel_meaning.specs.NetlistLogic.{enable_of}
-use Rattle.abel_meaning.specs.SignalReads.{names_if_any, function_names}
-use Rattle.abel_meaning.specs.NetlistReads.{cell_names, netlist_names, netlist_waits, signal_count}
-use Rattle.abel_meaning.specs.Soundness.{IsReadable, IsSoundFormula, IsSound}
-use Rattle.netlist_laws.specs.Fitting.{IsFittedEnable, IsFittedCell, IsSpareCell, IsFittedAs, IsFitted}
-use Rattle.pld_order.proofs.Ranks.{Ranked, no_loop_by_rank}
 use Rattle.netlist_laws.proofs.Valuing.{IsKnown, IsClosed, node_names, waits_for_node, cell_named, node_sound}
 use Rattle.netlist_laws.proofs.SignalLeaves.{waits_for_pin}
 use Rattle.netlist_laws.proofs.WantedCells.{IsSoundAt, sound_at, registers_wanted}

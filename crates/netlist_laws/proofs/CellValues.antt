@@ -1,30 +1,10 @@
 -- What a fitted cell drives, releases and stores, at a point whose nodes are valued.
 use Rattle.std.proofs.Common.{◌≡◌, ◌≢◌, ℕ, ◌<◌, Bool, true, false, not, ◌&&◌, ◌||◌, if◌then◌else◌, List, [], ◌∷◌, length, map, Option, Some, None, refl, ap, sym, ◌∙◌, subst, inl, inr}
 use Rattle.std.specs.Prelude.{IsSome, unwrap_or}
-use Rattle.std.specs.List.{list_any}
-use Rattle.std.proofs.lemmas.Bool.{cases_Bool, or_left, true≢false}
-use Rattle.pld_base.specs.Bits.{is_on, same_level}
-use Rattle.pld_base.specs.Points.{Levels}
-use Rattle.pld_device.specs.declared.carry.Carry.{Carry}
+use Rattle.netlist_laws.proofs.Common.{list_any, cases_Bool, or_left, true≢false, is_on, same_level, Levels, Carry, Enable, Row, PinLow, Flip, IsDevice, data_rows, or_value, enabled_by, is_enabled, complement_if, pin_complements, data_complements, pin_level, next_q, row_if_any, stores, is_inverted, carried, columns_of, row_fuses, is_switched_on, row_is_true, row_value, Table, cell_at, no_cell, any_none, Formula, formula_value, Wanted, PlainNetlist, wanted_at, as_named, own_of, shared_function, own_or_shared, function_at, allows, registers_as, netlist_stores, enable_of, drives, may_drive, may_store, IsValuedFor, IsValuedOfFor, IsExactRow, IsSoundShared, IsSoundCell, IsSound, or_complements, or_may_be, IsFittedEnable, IsFittedCell, IsSpareCell, IsFittedAs, IsFittedShared, AreShared, IsFitted}
 use Rattle.pld_device.specs.declared.carry.Carry.TheVariants as carry
-use Rattle.pld_device.specs.declared.enable.Enable.{Enable}
-use Rattle.pld_device.specs.declared.enable.Enable.TheVariants.{Row, PinLow}
-use Rattle.pld_device.specs.declared.flip.Flip.{Flip}
 use Rattle.pld_device.specs.declared.flip.Flip.TheVariants.{Always, AfterRegister, BeforeRegister}
-use Rattle.pld_device.specs.Laws.{IsDevice}
-use Rattle.pld_device.specs.Macrocells.{data_rows, or_value, enabled_by, is_enabled, complement_if, pin_complements, data_complements, pin_level, next_q, row_if_any}
-use Rattle.pld_device.specs.Registers.{stores, is_inverted}
-use Rattle.pld_device.specs.Rows.{carried, columns_of, row_fuses, is_switched_on, row_is_true, row_value}
-use Rattle.pld_device.specs.Table.{Table, cell_at, no_cell}
-use Rattle.device_logic.proofs.Runs.{any_none}
 use Rattle.netlist_laws.proofs.BoolLaws.{both_ways, level_is, level_same}
-use Rattle.bit_expr.specs.Formulas.{Formula, formula_value}
-use Rattle.abel_meaning.specs.Netlists.{Wanted, PlainNetlist, wanted_at, as_named, own_of, shared_function, own_or_shared, function_at}
-use Rattle.abel_meaning.specs.Functions.{allows}
-use Rattle.abel_meaning.specs.NetlistLogic.{registers_as, netlist_stores, enable_of, drives, may_drive, may_store}
-use Rattle.netlist_laws.specs.RowCovers.{IsValuedFor, IsValuedOfFor, IsExactRow}
-use Rattle.abel_meaning.specs.Soundness.{IsSoundShared, IsSoundCell, IsSound}
-use Rattle.netlist_laws.specs.Fitting.{or_complements, or_may_be, IsFittedEnable, IsFittedCell, IsSpareCell, IsFittedAs, IsFittedShared, AreShared, IsFitted}
 use Rattle.netlist_laws.proofs.SharedFunctions.{shared_has}
 use Rattle.netlist_laws.proofs.WantedCells.{sound_at, registers_wanted}
 use Rattle.netlist_laws.proofs.UnusedRows.{unused_value, data_row_below}

@@ -1,23 +1,8 @@
 -- What the netlist of a design asks of a cell is what the signal asks that is assigned on it.
 use Rattle.std.proofs.Common.{◌≡◌, ℕ, zero, suc, ◌+◌, ◌<◌, Bool, true, false, ◌==◌, ◌&&◌, eqb, cond, List, [], ◌∷◌, length, get_or, Option, Some, None, refl, sym, ap, ◌∙◌, inl, inr, arith}
 use Rattle.std.specs.Prelude.{find, position, if◌then◌else◌}
-use Rattle.std.specs.List.{position_from}
-use Rattle.std.specs.Option.{option_map}
-use Rattle.std.proofs.lemmas.Bool.{cases_Bool, eqb-true, eqb-false, eq-eqb, ne_eqb}
+use Rattle.netlist_laws.proofs.Common.{position_from, option_map, cases_Bool, eqb-true, eqb-false, eq-eqb, ne_eqb, position-Some, Cell, IsDevice, Table, cell_at, no_cell, own_pins, Formula, Kind, APin, ANode, AConstant, ADeviceName, Entry, cell_on, Contribution, is_pin, signal_on, Context, name_at, no_name, Wanted, wanted_at, wanted_for, cell_by, cell_of, and_cell, cells_from, gathered_from}
 use Rattle.std.proofs.lemmas.Iterator.Adapters.{position_from-zero}
-use Rattle.std.proofs.lemmas.List.Quantifiers.{position-Some}
-use Rattle.pld_device.specs.declared.cell.Cell.{Cell}
-use Rattle.pld_device.specs.Laws.{IsDevice}
-use Rattle.pld_device.specs.Table.{Table, cell_at, no_cell}
-use Rattle.pld_device.proofs.OwnPins.{own_pins}
-use Rattle.bit_expr.specs.Formulas.{Formula}
-use Rattle.abel_tree.specs.Entries.{Kind, APin, ANode, AConstant, ADeviceName, Entry}
-use Rattle.pld_device.specs.Pins.{cell_on}
-use Rattle.abel_meaning.specs.Contributions.{Contribution}
-use Rattle.abel_meaning.specs.Controls.{is_pin, signal_on}
-use Rattle.abel_meaning.specs.Designs.{Context, name_at, no_name}
-use Rattle.abel_meaning.specs.Netlists.{Wanted, wanted_at}
-use Rattle.netlist_laws.specs.Gathered.{wanted_for, cell_by, cell_of, and_cell, cells_from, gathered_from}
 
 -- the first place is the first from 0 on
 pub first_place : {X : Type 0} (p : X → Bool) (xs : List X) → position p xs ≡ position_from p 0 xs

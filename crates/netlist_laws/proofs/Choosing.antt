@@ -1,18 +1,9 @@
 -- Fuses of a module's netlist under the choice that they show are those of it with the module's free registers exchanged.
 use Rattle.std.proofs.Common.{◌≡◌, ℕ, Bool, true, ◌∙◌, List, sym, subst}
-use Rattle.pld_device.specs.Laws.{IsDevice}
-use Rattle.pld_device.specs.Registers.{is_inverted}
-use Rattle.pld_device.specs.Table.{Table}
-use Rattle.abel_tree.specs.Tree.{ModuleTree}
-use Rattle.abel_meaning.specs.Choices.{inverting}
-use Rattle.abel_meaning.specs.Netlists.{PlainNetlist}
-use Rattle.abel_meaning.specs.Soundness.{IsSound}
-use Rattle.netlist_laws.specs.ExchangedNets.{MayExchangeIn, netlist_exchanged, netlist_shown, shown}
+use Rattle.netlist_laws.proofs.Common.{IsDevice, is_inverted, Table, ModuleTree, inverting, PlainNetlist, IsSound, MayExchangeIn, netlist_exchanged, netlist_shown, shown, IsFitted, netlist_of}
 use Rattle.netlist_laws.proofs.FreeCells.{free_may_exchange, shown_free}
 use Rattle.netlist_laws.proofs.SameChoices.{same_netlist}
-use Rattle.netlist_laws.specs.Fitting.{IsFitted}
 use Rattle.netlist_laws.proofs.Chosen.{same_shown}
-use Rattle.netlist_laws.specs.Gathered.{netlist_of}
 use Rattle.netlist_laws.proofs.Meaning.{free_agree}
 use Rattle.netlist_laws.proofs.ModulePoints.{choice}
 

@@ -1,26 +1,10 @@
 -- A device with the fuses of a netlist under the choice that they show does what its netlist and its module say under it.
 use Rattle.std.proofs.Common.{◌≡◌, ℕ, ◌<◌, ◌≤◌, Bool, true, false, ◌&&◌, List, None, length, inl, inr, refl, sym, ap, ap₂, ◌∙◌, arith}
-use Rattle.std.proofs.lemmas.Bool.{cases_lt}
-use Rattle.std.proofs.lemmas.List.{get_or_past}
-use Rattle.pld_machine.specs.Exchanged.{exchanged, exchanged_values}
-use Rattle.pld_machine.proofs.ExchangedLogics.{exchanged_refines, values_exchanged}
+use Rattle.netlist_laws.proofs.Common.{cases_lt, get_or_past, exchanged, exchanged_values, exchanged_refines, values_exchanged, IsDevice, device_logic, is_inverted, says, Table, ModuleTree, inverting, is_free_signal, signal_on, design_of, PlainNetlist, wanted_at, netlist_logic, netlist_values, source_logic, source_values, is_free_wanted, netlist_shown, shown, FittedDoesTheChosen, FittedDoesWhatItSays}
 use Rattle.pld_machine.proofs.OtherSource.{other_source}
-use Rattle.pld_device.specs.Laws.{IsDevice}
-use Rattle.pld_device.specs.Macrocells.{device_logic}
-use Rattle.pld_device.specs.Registers.{is_inverted, says}
-use Rattle.pld_device.specs.Table.{Table}
-use Rattle.abel_tree.specs.Tree.{ModuleTree}
-use Rattle.abel_meaning.specs.Choices.{inverting, is_free_signal}
-use Rattle.abel_meaning.specs.Controls.{signal_on}
-use Rattle.abel_meaning.specs.Designs.{design_of}
-use Rattle.abel_meaning.specs.Netlists.{PlainNetlist, wanted_at}
-use Rattle.abel_meaning.specs.NetlistLogic.{netlist_logic, netlist_values}
-use Rattle.abel_meaning.specs.SourceLogic.{source_logic, source_values}
-use Rattle.netlist_laws.specs.ExchangedNets.{is_free_wanted, netlist_shown, shown}
 use Rattle.netlist_laws.proofs.ExchangedLogic.{exchanged_means_so}
 use Rattle.netlist_laws.proofs.FreeCells.{free_may_exchange, shown_free, shown_is_sound}
 use Rattle.netlist_laws.proofs.SameChoices.{same_choice_values, same_choices}
-use Rattle.netlist_laws.specs.FittedCorrect.{FittedDoesTheChosen, FittedDoesWhatItSays}
 use Rattle.netlist_laws.proofs.Running.{fitted_does_the_same}
 
 pub fitted_does_the_chosen : FittedDoesTheChosen

@@ -1,20 +1,8 @@
 -- Signals of a netlist that lead to no register, and the leaves by which they are read.
 use Rattle.std.proofs.Common.{◌≡◌, ℕ, ◌+◌, ◌<◌, true, false, eqb, [], ◌∷◌, length, get_or, Option, Some, refl, ap, sym, ◌∙◌, arith, inl, inr}
-use Rattle.std.specs.List.{list_any}
-use Rattle.std.proofs.lemmas.Bool.{cases_Bool, lt-ltb, or_left, true≢false}
-use Rattle.std.proofs.lemmas.List.Folds.{list_any_at}
-use Rattle.pld_device.specs.Table.{Table, cell_at}
-use Rattle.pld_order.specs.Graphs.{HasNoPath}
-use Rattle.pld_order.proofs.Lists.{eqb_same}
+use Rattle.netlist_laws.proofs.Common.{list_any, cases_Bool, lt-ltb, or_left, true≢false, list_any_at, Table, cell_at, HasNoPath, eqb_same, Leaf, Formula, names, Wanted, PlainNetlist, no_function, node_at, shared_function, netlist_stores, names_if_any, netlist_names, netlist_reads, netlist_passes, netlist_reset_reads, is_register_signal, signal_leaf, signal_count, IsReadable, IsSound}
 use Rattle.pld_order.proofs.PathSteps.{path_from, path_one, path_step}
 use Rattle.bit_expr.specs.declared.node.Leaf.TheVariants as leaf
-use Rattle.bit_expr.specs.declared.node.Leaf.{Leaf}
-use Rattle.bit_expr.specs.Formulas.{Formula, names}
-use Rattle.abel_meaning.specs.Netlists.{Wanted, PlainNetlist, no_function, node_at, shared_function}
-use Rattle.abel_meaning.specs.NetlistLogic.{netlist_stores}
-use Rattle.abel_meaning.specs.SignalReads.{names_if_any}
-use Rattle.abel_meaning.specs.NetlistReads.{netlist_names, netlist_reads, netlist_passes, netlist_reset_reads, is_register_signal, signal_leaf, signal_count}
-use Rattle.abel_meaning.specs.Soundness.{IsReadable, IsSound}
 use Rattle.netlist_laws.proofs.SharedFunctions.{shared_has}
 use Rattle.netlist_laws.proofs.SignalLeaves.{pin_leaf, q_leaf}
 use Rattle.netlist_laws.proofs.Valuing.{IsClosed, node_names, node_leaf}

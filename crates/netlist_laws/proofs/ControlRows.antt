@@ -1,42 +1,16 @@
 -- The rows of the controls of a fitted module, and the cells that it leaves over.
 use Rattle.std.proofs.Common.{arith, ◌≡◌, ℕ, ◌<◌, Bool, true, false, ◌||◌, List, [], ◌∷◌, length, Option, Some, None, refl, sym, ap, ◌∙◌, subst, inl, inr}
-use Rattle.std.specs.Option.{option_map}
-use Rattle.std.proofs.lemmas.Bool.{cases_Bool, eq-eqb, true≢false}
-use Rattle.pld_base.specs.Points.{Levels}
-use Rattle.pld_machine.proofs.ExchangedLogics.{exchanged_refines}
-use Rattle.pld_device.specs.declared.enable.Enable.TheVariants.{Row}
-use Rattle.pld_device.specs.Laws.{IsDevice}
-use Rattle.pld_device.specs.Rows.{row_value}
-use Rattle.pld_device.specs.Table.{Table, cell_at, no_cell}
-use Rattle.pld_order.specs.Graphs.{has}
-use Rattle.bit_expr.specs.Formulas.{Formula, formula_value}
-use Rattle.abel_tree.specs.declared.words.Extension.{Extension}
+use Rattle.netlist_laws.proofs.Common.{option_map, cases_Bool, eq-eqb, true≢false, Levels, exchanged_refines, Row, IsDevice, row_value, Table, cell_at, no_cell, has, Formula, formula_value, Extension, Entry, ModuleTree, control_if_stored, signal_on, Design, design_of, name_at, formulas, PlainNetlist, Wanted, shared_function, wanted_at, drives, enable_of, given_formulas, IsSound, MayExchangeIn, formula_exchanged, netlist_exchanged, netlist_shown, shown, wanted_exchanged, IsExactRow, is_used, IsFitted, IsFittedAs, IsFittedEnable, IsFittedShared, netlist_of, wanted_for, RegistersHaveCells, FittedControlsAreOwn, FittedSparesAreUnused, IsValuedPoint, chosen_logic}
 use Rattle.abel_tree.specs.declared.words.Extension.TheVariants as extension
-use Rattle.abel_tree.specs.Entries.{Entry}
-use Rattle.abel_tree.specs.Tree.{ModuleTree}
-use Rattle.abel_meaning.specs.Controls.{control_if_stored, signal_on}
-use Rattle.abel_meaning.specs.Designs.{Design, design_of, name_at}
-use Rattle.abel_meaning.specs.FormulaBits.{formulas}
-use Rattle.abel_meaning.specs.Netlists.{PlainNetlist, Wanted, shared_function, wanted_at}
-use Rattle.abel_meaning.specs.NetlistLogic.{drives, enable_of}
-use Rattle.abel_meaning.specs.SignalReads.{given_formulas}
-use Rattle.abel_meaning.specs.Soundness.{IsSound}
-use Rattle.netlist_laws.specs.ExchangedNets.{MayExchangeIn, formula_exchanged, netlist_exchanged, netlist_shown, shown, wanted_exchanged}
 use Rattle.netlist_laws.proofs.ExchangedCells.{shared_exchanged, wanted_at_exchanged}
 use Rattle.netlist_laws.proofs.ExchangedFormulas.{value_exchanged}
 use Rattle.netlist_laws.proofs.ExchangedLogic.{exchanged_means_so}
-use Rattle.netlist_laws.specs.RowCovers.{IsExactRow, is_used}
-use Rattle.netlist_laws.specs.Fitting.{IsFitted, IsFittedAs, IsFittedEnable, IsFittedShared}
 use Rattle.netlist_laws.proofs.BoolLaws.{both_ways}
 use Rattle.netlist_laws.proofs.UnusedRows.{unused_value}
-use Rattle.netlist_laws.specs.Gathered.{netlist_of, wanted_for}
-use Rattle.netlist_laws.specs.Takeable.{RegistersHaveCells}
 use Rattle.netlist_laws.proofs.CellsFound.{wanted_found}
 use Rattle.netlist_laws.proofs.Meaning.{gathered_means_the_same}
 use Rattle.netlist_laws.proofs.SharedControls.{shared_is, shared_value}
 use Rattle.netlist_laws.specs.Controls.{HasControlRows, IsRowOf, seen_at, shared_at}
-use Rattle.netlist_laws.specs.PrimeCorrect.{FittedControlsAreOwn, FittedSparesAreUnused}
-use Rattle.netlist_laws.specs.ModuleCovers.{IsValuedPoint, chosen_logic}
 use Rattle.netlist_laws.proofs.Choosing.{fits_choice, may_choose}
 use Rattle.netlist_laws.proofs.ModulePoints.{choice, valued_back, valued_there}
 

@@ -1,30 +1,9 @@
 -- A prime row reads only what its function reads: where the function is told by known leaves, each pair that the row
 -- reads carries a known leaf.
 use Rattle.std.proofs.Common.{◌≡◌, ◌≢◌, ℕ, zero, suc, ◌*◌, ◌<◌, ◌≤◌, Bool, true, false, not, List, [], ◌∷◌, length, map, set, get_or, Some, slice_get, refl, ap, sym, ◌∙◌, subst, arith, inl, inr, length-set, get_or-set_same, get_or-set_other}
-use Rattle.std.proofs.lemmas.Bool.{cases_Bool, eqb-true, eqb-false, and_parts, true≢false}
-use Rattle.std.proofs.lemmas.List.{get_or-map}
-use Rattle.std.proofs.lemmas.Option.{slice_get-get_or, get_or_from_slice_get, slice_get_within}
-use Rattle.pld_base.specs.Bits.{is_on}
-use Rattle.pld_base.specs.Points.{Levels, IsPoint}
-use Rattle.pld_device.specs.declared.carry.Carry.{Carry}
+use Rattle.netlist_laws.proofs.Common.{cases_Bool, eqb-true, eqb-false, and_parts, true≢false, get_or-map, slice_get-get_or, get_or_from_slice_get, slice_get_within, is_on, Levels, IsPoint, Carry, Table, cell_at, IsDevice, complement_if, pin_carried, connected_pairs, is_never_true, row_reads, stores, carried, pair_values, row_fuses, row_value, own_pins, pairs_apart, carry_in_range, Leaf, leaf_value, same_leaf, PlainNetlist, IsValuedFor, IsValuedOfFor, is_used, value_without, IsPrimeRow, netlist_waits, signal_count, IsSound, Ranked}
 use Rattle.pld_device.specs.declared.carry.Carry.TheVariants as carry
-use Rattle.pld_device.specs.Table.{Table, cell_at}
-use Rattle.pld_device.specs.Laws.{IsDevice}
-use Rattle.pld_device.specs.Macrocells.{complement_if}
-use Rattle.pld_device.specs.Pins.{pin_carried}
-use Rattle.pld_device.specs.Reads.{connected_pairs, is_never_true, row_reads}
-use Rattle.pld_device.specs.Registers.{stores}
-use Rattle.pld_device.specs.Rows.{carried, pair_values, row_fuses, row_value}
-use Rattle.pld_device.proofs.OwnPins.{own_pins, pairs_apart}
-use Rattle.device_logic.proofs.Ranges.{carry_in_range}
 use Rattle.bit_expr.specs.declared.node.Leaf.TheVariants as leaf
-use Rattle.bit_expr.specs.declared.node.Leaf.{Leaf}
-use Rattle.bit_expr.specs.Formulas.{leaf_value, same_leaf}
-use Rattle.abel_meaning.specs.Netlists.{PlainNetlist}
-use Rattle.netlist_laws.specs.RowCovers.{IsValuedFor, IsValuedOfFor, is_used, value_without, IsPrimeRow}
-use Rattle.abel_meaning.specs.NetlistReads.{netlist_waits, signal_count}
-use Rattle.abel_meaning.specs.Soundness.{IsSound}
-use Rattle.pld_order.proofs.Ranks.{Ranked}
 use Rattle.netlist_laws.proofs.Valuing.{AgreeOn, valued, is_valued_of}
 use Rattle.netlist_laws.proofs.UnusedRows.{unused_never}
 use Rattle.netlist_laws.proofs.RowLiterals.{Literal, column_of, literal_of, literal_below, still_true}

@@ -1,28 +1,9 @@
 -- The example's fuses fit its netlist, so the laws speak of something.
 use Rattle.std.proofs.Common.{◌≡◌, ℕ, zero, suc, ◌+◌, ◌-◌, ◌<◌, ◌≤◌, Bool, true, false, not, ◌&&◌, ◌||◌, ◌==◌, List, [], ◌∷◌, length, get_or, Option, Some, None, refl, ap, sym, ◌∙◌, subst, arith, inl, inr}
-use Rattle.std.proofs.lemmas.Bool.{cases_Bool, cases_lt, or_cases, eqb-true, ne_eqb, true≢false}
-use Rattle.std.proofs.lemmas.List.{get_or_past}
-use Rattle.pld_base.specs.Bits.{is_on}
-use Rattle.pld_base.specs.Points.{Levels, IsPoint}
-use Rattle.pld_device.specs.declared.enable.Enable.TheVariants.{Row}
+use Rattle.netlist_laws.proofs.Common.{cases_Bool, cases_lt, or_cases, eqb-true, ne_eqb, true≢false, get_or_past, is_on, Levels, IsPoint, Row, Kinds, Registered, Either, control_fuses, data_rows, row_fuses, is_switched_on, row_value, sample, cell_at, has, Ranked, ranked, Formula, Const, Read, formula_value, Wanted, wanted_at, netlist_waits, signal_count, IsValuedFor, is_used, value_without, any_other, IsPrimeCover, IsExactRow, or_may_be, IsFittedCell, IsSpareCell, IsFittedAs, AreShared, IsFitted, example_cell, example, example_fuses, ExampleFits}
 use Rattle.pld_device.specs.declared.fuse_bit.FuseBit.{FuseBit}
-use Rattle.pld_device.specs.declared.kinds.Kinds.{Kinds}
-use Rattle.pld_device.specs.declared.kinds.Kinds.TheVariants.{Registered, Either}
-use Rattle.pld_device.specs.ControlFuses.{control_fuses}
-use Rattle.pld_device.specs.Macrocells.{data_rows}
-use Rattle.pld_device.specs.Rows.{row_fuses, is_switched_on, row_value}
-use Rattle.pld_device.specs.SampleTable.{sample}
-use Rattle.pld_device.specs.Table.{cell_at}
-use Rattle.pld_order.specs.Graphs.{has}
-use Rattle.pld_order.proofs.Ranks.{Ranked, ranked}
 use Rattle.bit_expr.specs.declared.node.Leaf.TheVariants as leaf
-use Rattle.bit_expr.specs.Formulas.{Formula, Const, Read, formula_value}
-use Rattle.abel_meaning.specs.Netlists.{Wanted, wanted_at}
-use Rattle.abel_meaning.specs.NetlistReads.{netlist_waits, signal_count}
-use Rattle.netlist_laws.specs.RowCovers.{IsValuedFor, is_used, value_without, any_other, IsPrimeCover, IsExactRow}
-use Rattle.netlist_laws.specs.Fitting.{or_may_be, IsFittedCell, IsSpareCell, IsFittedAs, AreShared, IsFitted}
 use Rattle.netlist_laws.proofs.Valuing.{valued, valued_pins, is_valued}
-use Rattle.netlist_laws.specs.FittedExample.{example_cell, example, example_fuses, ExampleFits}
 use Rattle.netlist_laws.proofs.ExampleSound.{some_formula, none_formula, example_sound}
 
 -- ---- points

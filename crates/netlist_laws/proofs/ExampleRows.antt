@@ -1,9 +1,7 @@
 -- The example's module has the netlist of which the example's fuses are.
 use Rattle.std.proofs.Common.{◌≡◌, refl, arith}
-use Rattle.pld_device.specs.SampleTable.{sample, sample_sound}
+use Rattle.netlist_laws.proofs.Common.{sample, sample_sound, ExampleFits, example, example_fuses, netlist_of}
 use Rattle.bit_expr.specs.Folding as folding
-use Rattle.netlist_laws.specs.FittedExample.{ExampleFits, example, example_fuses}
-use Rattle.netlist_laws.specs.Gathered.{netlist_of}
 use Rattle.netlist_laws.specs.PrimeExample.{ExampleHasPrimeRows, example_module}
 use Rattle.netlist_laws.proofs.PrimeRows.{rows_are_prime}
 

@@ -1,19 +1,8 @@
 -- The example's netlist is sound.
 use Rattle.std.proofs.Common.{◌≡◌, ◌≢◌, ℕ, zero, suc, ◌+◌, ◌<◌, true, false, ◌||◌, [], get_or, Option, Some, None, refl, ap, sym, ◌∙◌, subst, arith}
-use Rattle.std.proofs.lemmas.Bool.{eqb-true, true≢false}
-use Rattle.std.proofs.lemmas.List.Elements.{All-nil, All-cons}
-use Rattle.pld_device.specs.SampleTable.{sample}
-use Rattle.pld_device.specs.Table.{cell_at}
-use Rattle.pld_order.proofs.Ranks.{no_loop_by_rank}
-use Rattle.bit_expr.specs.declared.node.Leaf.{Leaf}
+use Rattle.netlist_laws.proofs.Common.{eqb-true, true≢false, All-nil, All-cons, sample, cell_at, no_loop_by_rank, Leaf, Formula, Read, names, Wanted, netlist_waits, netlist_reset_reads, names_if_any, IsReadable, IsSoundFormula, IsSoundFunction, IsSoundShared, IsSoundCell, IsSoundFree, IsSound, example_cell, example}
 use Rattle.bit_expr.specs.declared.node.Leaf.TheVariants as leaf
-use Rattle.bit_expr.specs.Formulas.{Formula, Read, names}
-use Rattle.abel_meaning.specs.Netlists.{Wanted}
-use Rattle.abel_meaning.specs.NetlistReads.{netlist_waits, netlist_reset_reads}
-use Rattle.abel_meaning.specs.SignalReads.{names_if_any}
-use Rattle.abel_meaning.specs.Soundness.{IsReadable, IsSoundFormula, IsSoundFunction, IsSoundShared, IsSoundCell, IsSoundFree, IsSound}
 use Rattle.netlist_laws.proofs.Valuing.{node_leaf}
-use Rattle.netlist_laws.specs.FittedExample.{example_cell, example}
 
 not_on : (pin c : ℕ) → pin ≢ 9 → pin ≢ 8 → c < 2 → (cell_at sample c).pin ≡ pin → ⊥
 not_on pin zero nine eight low is = nine (sym is)

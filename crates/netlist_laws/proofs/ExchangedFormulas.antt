@@ -1,19 +1,9 @@
 -- Formulas with exchanged Qs: their values and the leaves that they name.
 use Rattle.std.proofs.Common.{◌≡◌, ℕ, ◌<◌, Bool, true, not, ◌&&◌, ◌||◌, Option, None, Some, refl, sym, ap, ap₂, ◌∙◌, subst, inl, inr, arith}
-use Rattle.std.specs.Option.{option_map}
+use Rattle.netlist_laws.proofs.Common.{option_map, cases_Bool, is_on, IsPoint, Levels, Leaf, Formula, Const, Read, Not, And, Or, Xor, differ, formula_value, leaf_value, names, same_leaf, Function, PlainNetlist, function_at, no_function, node_at, function_names, names_if_any, exchanged_at, in_sense, formula_exchanged, function_exchanged, leaf_exchanged, netlist_exchanged}
 use Rattle.std.proofs.Math.ListN.{get_or-map}
-use Rattle.std.proofs.lemmas.Bool.{cases_Bool}
-use Rattle.pld_base.specs.Bits.{is_on}
-use Rattle.pld_base.specs.Points.{IsPoint, Levels}
-use Rattle.bit_expr.specs.declared.node.Leaf.{Leaf}
 use Rattle.bit_expr.specs.declared.node.Leaf.TheVariants as leaf
-use Rattle.bit_expr.specs.Formulas.{Formula, Const, Read, Not, And, Or, Xor, differ, formula_value, leaf_value, names, same_leaf}
-use Rattle.abel_meaning.specs.Functions.{Function}
-use Rattle.abel_meaning.specs.Netlists.{PlainNetlist, function_at, no_function, node_at}
-use Rattle.abel_meaning.specs.SignalReads.{function_names, names_if_any}
-use Rattle.pld_machine.specs.Exchanged.{exchanged_at, in_sense}
 use Rattle.pld_machine.proofs.ExchangedPoints.{q_any}
-use Rattle.netlist_laws.specs.ExchangedNets.{formula_exchanged, function_exchanged, leaf_exchanged, netlist_exchanged}
 
 -- ---- names
 

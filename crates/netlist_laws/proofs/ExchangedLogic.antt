@@ -1,25 +1,7 @@
 -- An exchanged netlist allows what the netlist's logic allows with the same cells exchanged.
 use Rattle.std.proofs.Common.{◌≡◌, ℕ, ◌<◌, Bool, true, false, not, length, Option, None, Some, refl, sym, ap, ◌∙◌, inl, inr, arith}
 use Rattle.std.specs.Prelude.{find, if◌then◌else◌, nat_lt, unwrap_or, List, [], ◌∷◌, ◌==◌}
-use Rattle.std.specs.Option.{option_map}
-use Rattle.std.proofs.lemmas.Bool.{cases_Bool, eqb-true}
-use Rattle.std.proofs.lemmas.List.{length-map}
-use Rattle.pld_base.specs.Bits.{is_on, same_level}
-use Rattle.pld_base.specs.Points.{IsPoint, Levels}
-use Rattle.pld_device.specs.declared.enable.Enable.{Enable}
-use Rattle.pld_device.specs.declared.enable.Enable.TheVariants.{PinLow, Row}
-use Rattle.pld_device.specs.Laws.{IsDevice}
-use Rattle.pld_device.specs.Macrocells.{complement_if}
-use Rattle.pld_device.specs.Table.{Table, cell_at}
-use Rattle.pld_machine.specs.Refines.{Refines}
-use Rattle.pld_machine.specs.Through.{AllowsAt}
-use Rattle.bit_expr.specs.Formulas.{Const, Formula, formula_value}
-use Rattle.abel_meaning.specs.Functions.{Function, allows, value_with_any_0}
-use Rattle.abel_meaning.specs.Netlists.{PlainNetlist, Wanted, as_named, function_at, node_at, own_or_shared, wanted_at}
-use Rattle.abel_meaning.specs.NetlistLogic.{drives, may_drive, may_store, netlist_logic, netlist_stores, registers_as}
-use Rattle.pld_machine.specs.Exchanged.{exchanged, exchanged_at, in_sense}
-use Rattle.netlist_laws.specs.ExchangedCorrect.{ExchangedMeansSo}
-use Rattle.netlist_laws.specs.ExchangedNets.{MayExchangeIn, formula_exchanged, function_exchanged, netlist_exchanged, wanted_exchanged}
+use Rattle.netlist_laws.proofs.Common.{option_map, cases_Bool, eqb-true, length-map, is_on, same_level, IsPoint, Levels, Enable, PinLow, Row, IsDevice, complement_if, Table, cell_at, Refines, AllowsAt, Const, Formula, formula_value, Function, allows, value_with_any_0, PlainNetlist, Wanted, as_named, function_at, node_at, own_or_shared, wanted_at, drives, may_drive, may_store, netlist_logic, netlist_stores, registers_as, exchanged, exchanged_at, in_sense, ExchangedMeansSo, MayExchangeIn, formula_exchanged, function_exchanged, netlist_exchanged, wanted_exchanged}
 use Rattle.netlist_laws.proofs.ExchangedCells.{own_or_shared_exchanged, stores_exchanged, wanted_at_exchanged}
 use Rattle.netlist_laws.proofs.ExchangedFormulas.{function_value_exchanged, node_exchanged, q_at, value_exchanged}
 

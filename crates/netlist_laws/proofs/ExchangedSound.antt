@@ -1,25 +1,9 @@
 -- A device can take an exchanged netlist where it can take the netlist.
 use Rattle.std.proofs.Common.{◌≡◌, ◌≢◌, ℕ, zero, suc, ◌+◌, ◌-◌, ◌<◌, ◌≤◌, Bool, true, false, not, ◌&&◌, ◌||◌, List, [], ◌∷◌, length, map, Option, None, Some, refl, sym, ap, ap₂, ◌∙◌, subst, inl, inr, arith}
 use Rattle.std.specs.Prelude.{if◌then◌else◌, nat_lt, find, get_or, AllPairs, ◌==◌}
-use Rattle.std.specs.List.{list_any}
-use Rattle.std.specs.Option.{option_map}
-use Rattle.std.proofs.lemmas.Bool.{cases_Bool, eq-eqb, ne_eqb}
-use Rattle.std.proofs.lemmas.List.{get_or-map, length-map}
-use Rattle.std.proofs.lemmas.List.Elements.{All-map}
-use Rattle.pld_machine.specs.Exchanged.{in_sense}
-use Rattle.pld_device.specs.Table.{Table, cell_at}
-use Rattle.pld_order.specs.Graphs.{HasNoLoop, HasNoPath}
+use Rattle.netlist_laws.proofs.Common.{list_any, option_map, cases_Bool, eq-eqb, ne_eqb, get_or-map, length-map, All-map, in_sense, Table, cell_at, HasNoLoop, HasNoPath, Leaf, Formula, Function, PlainNetlist, Wanted, node_at, wanted_at, cell_names, is_register_signal, netlist_names, netlist_passes, netlist_reads, netlist_reset_reads, netlist_waits, signal_count, signal_leaf, function_names, names_if_any, IsReadable, IsSound, IsSoundCell, IsSoundFormula, IsSoundFree, IsSoundFunction, IsSoundShared, ExchangedIsSound, MayExchangeIn, formula_exchanged, function_exchanged, netlist_exchanged, wanted_exchanged}
 use Rattle.pld_order.proofs.SameGraphs.{no_loop_same, no_path_same}
-use Rattle.bit_expr.specs.declared.node.Leaf.{Leaf}
 use Rattle.bit_expr.specs.declared.node.Leaf.TheVariants as leaf
-use Rattle.bit_expr.specs.Formulas.{Formula}
-use Rattle.abel_meaning.specs.Functions.{Function}
-use Rattle.abel_meaning.specs.Netlists.{PlainNetlist, Wanted, node_at, wanted_at}
-use Rattle.abel_meaning.specs.NetlistReads.{cell_names, is_register_signal, netlist_names, netlist_passes, netlist_reads, netlist_reset_reads, netlist_waits, signal_count, signal_leaf}
-use Rattle.abel_meaning.specs.SignalReads.{function_names, names_if_any}
-use Rattle.abel_meaning.specs.Soundness.{IsReadable, IsSound, IsSoundCell, IsSoundFormula, IsSoundFree, IsSoundFunction, IsSoundShared}
-use Rattle.netlist_laws.specs.ExchangedCorrect.{ExchangedIsSound}
-use Rattle.netlist_laws.specs.ExchangedNets.{MayExchangeIn, formula_exchanged, function_exchanged, netlist_exchanged, wanted_exchanged}
 use Rattle.netlist_laws.proofs.ExchangedCells.{stores_exchanged, wanted_at_exchanged}
 use Rattle.netlist_laws.proofs.ExchangedFormulas.{control_named, function_named, names_exchanged, node_exchanged}
 

@@ -1,30 +1,8 @@
 -- No chain of reads of fitted fuses leads from the reset to a register.
 use Rattle.std.proofs.Common.{◌≡◌, ℕ, ◌<◌, Bool, true, false, not, ◌&&◌, ◌||◌, eqb, List, [], ◌∷◌, ◌++◌, length, get_or, Option, Some, None, refl, ap, sym, ◌∙◌, subst, arith, inl, inr}
-use Rattle.std.specs.List.{list_any}
-use Rattle.std.proofs.lemmas.Bool.{and_parts, or_cases, or_left, or_right, not-true, true≢false}
+use Rattle.netlist_laws.proofs.Common.{list_any, and_parts, or_cases, or_left, or_right, not-true, true≢false, Enable, Row, PinLow, Table, cell_at, no_cell, IsDevice, never_drives, data_rows, stores, has, IsChain, eqb_same, Ranked, row_reads_cell, enable_reads, data_reads, rest_reads, reset_in, one_of, Leaf, Formula, names, Wanted, PlainNetlist, wanted_at, shared_function, enable_of, names_if_any, function_names, netlist_waits, signal_count, IsSoundFormula, IsSound, IsFittedEnable, IsFittedShared, IsFittedCell, IsFittedAs, IsFitted}
 use Rattle.pld_device.specs.declared.carry.Carry.TheVariants as carry
-use Rattle.pld_device.specs.declared.enable.Enable.{Enable}
-use Rattle.pld_device.specs.declared.enable.Enable.TheVariants.{Row, PinLow}
-use Rattle.pld_device.specs.Table.{Table, cell_at, no_cell}
-use Rattle.pld_device.specs.Laws.{IsDevice}
-use Rattle.pld_device.specs.Given.{never_drives}
-use Rattle.pld_device.specs.Macrocells.{data_rows}
-use Rattle.pld_device.specs.Registers.{stores}
-use Rattle.pld_order.specs.Graphs.{has, IsChain}
-use Rattle.pld_order.proofs.Lists.{eqb_same}
-use Rattle.pld_order.proofs.Ranks.{Ranked}
-use Rattle.device_logic.specs.CellReads.{row_reads_cell, enable_reads, data_reads, rest_reads}
 use Rattle.device_logic.specs.ResetPaths.{row_reads_if_any, plain_reads, HasNoResetPath}
-use Rattle.device_logic.proofs.Ranges.{reset_in}
-use Rattle.device_logic.proofs.Runs.{one_of}
-use Rattle.bit_expr.specs.declared.node.Leaf.{Leaf}
-use Rattle.bit_expr.specs.Formulas.{Formula, names}
-use Rattle.abel_meaning.specs.Netlists.{Wanted, PlainNetlist, wanted_at, shared_function}
-use Rattle.abel_meaning.specs.NetlistLogic.{enable_of}
-use Rattle.abel_meaning.specs.SignalReads.{names_if_any, function_names}
-use Rattle.abel_meaning.specs.NetlistReads.{netlist_waits, signal_count}
-use Rattle.abel_meaning.specs.Soundness.{IsSoundFormula, IsSound}
-use Rattle.netlist_laws.specs.Fitting.{IsFittedEnable, IsFittedShared, IsFittedCell, IsFittedAs, IsFitted}
 use Rattle.netlist_laws.proofs.CellRanks.{enable_names, wanted_enable_sound, spare_reads}
 use Rattle.netlist_laws.proofs.CleanSignals.{IsCleanSignal, Clean, clean_named, clean_closed, reset_known}
 use Rattle.netlist_laws.proofs.CoverReads.{leaf_of}

@@ -1,9 +1,5 @@
 -- The reads of fitted fuses, by the ranks of the netlist's signals.
-use Rattle.pld_device.specs.Table.{Table}
-use Rattle.pld_order.proofs.Ranks.{Ranked, ranked}
-use Rattle.abel_meaning.specs.Netlists.{PlainNetlist}
-use Rattle.abel_meaning.specs.NetlistReads.{netlist_waits, signal_count}
-use Rattle.abel_meaning.specs.Soundness.{IsSound}
+use Rattle.netlist_laws.proofs.Common.{Table, Ranked, ranked, PlainNetlist, netlist_waits, signal_count, IsSound}
 use Rattle.netlist_laws.proofs.CellRanks.{fitted_no_loop}
 use Rattle.netlist_laws.proofs.FittedPaths.{fitted_no_path}
 use Rattle.netlist_laws.specs.FileLaws.{FittedHasNoLoop, FittedHasNoResetPath}

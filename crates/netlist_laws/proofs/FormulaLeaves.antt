@@ -1,10 +1,7 @@
 -- A formula is told by the leaves that it names.
 use Rattle.std.proofs.Common.{◌≡◌, Bool, true, not, refl, ap}
-use Rattle.std.proofs.lemmas.Bool.{eq-eqb, or_left, or_right}
-use Rattle.pld_base.specs.Points.{Levels}
+use Rattle.netlist_laws.proofs.Common.{eq-eqb, or_left, or_right, Levels, Leaf, Formula, Const, Read, Not, And, Or, Xor, leaf_value, formula_value, same_leaf, names}
 use Rattle.bit_expr.specs.declared.node.Leaf.TheVariants as leaf
-use Rattle.bit_expr.specs.declared.node.Leaf.{Leaf}
-use Rattle.bit_expr.specs.Formulas.{Formula, Const, Read, Not, And, Or, Xor, leaf_value, formula_value, same_leaf, names}
 
 pub same_leaf-refl : (l : Leaf) → same_leaf l l ≡ true
 same_leaf-refl (leaf.Pin a) = eq-eqb a a refl

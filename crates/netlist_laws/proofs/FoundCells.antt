@@ -1,11 +1,7 @@
 -- What is found of the cells of a netlist has what all of them have.
 use Rattle.std.proofs.Common.{◌≡◌, ℕ, ◌==◌, List, [], ◌∷◌, Some, inl, inr, subst}
 use Rattle.std.specs.Prelude.{find}
-use Rattle.std.specs.List.{All}
-use Rattle.std.proofs.lemmas.Bool.{cases_Bool, eqb-true}
-use Rattle.std.proofs.lemmas.List.Elements.{All-head, All-tail}
-use Rattle.std.proofs.lemmas.Option.{same_Some}
-use Rattle.abel_meaning.specs.Netlists.{Wanted}
+use Rattle.netlist_laws.proofs.Common.{All, cases_Bool, eqb-true, All-head, All-tail, same_Some, Wanted}
 
 -- what is found passes the test, and has what all have
 pub record IsFound (P : Wanted → Type 0) (c : ℕ) (w : Wanted) : Type 0 where

@@ -1,11 +1,6 @@
 -- The registers that a sound netlist leaves free may be exchanged, as fuses show them.
 use Rattle.std.proofs.Common.{◌≡◌, ℕ, ◌<◌, Bool, true, false, ◌&&◌, length, List, Option, None, Some, refl, subst}
-use Rattle.pld_device.specs.Registers.{is_inverted}
-use Rattle.pld_device.specs.Table.{Table}
-use Rattle.abel_meaning.specs.Netlists.{PlainNetlist, Wanted, wanted_at}
-use Rattle.abel_meaning.specs.Soundness.{IsSound, IsSoundCell, IsSoundFree}
-use Rattle.netlist_laws.specs.ExchangedCorrect.{FreeMayExchange, ShownIsSound}
-use Rattle.netlist_laws.specs.ExchangedNets.{IsDirectRegister, is_free_wanted, shown}
+use Rattle.netlist_laws.proofs.Common.{is_inverted, Table, PlainNetlist, Wanted, wanted_at, IsSound, IsSoundCell, IsSoundFree, FreeMayExchange, ShownIsSound, IsDirectRegister, is_free_wanted, shown}
 use Rattle.netlist_laws.proofs.ExchangedSound.{exchanged_is_sound}
 use Rattle.netlist_laws.proofs.FoundCells.{found}
 

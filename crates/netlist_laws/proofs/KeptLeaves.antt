@@ -1,23 +1,9 @@
 -- What the functions and controls that the netlist has name is read by contributions that it has.
 use Rattle.std.proofs.Common.{◌≡◌, ℕ, suc, Bool, true, false, ◌==◌, ◌&&◌, List, [], ◌∷◌, map, slice_get, Option, Some, None, refl, sym, subst, inl, inr}
 use Rattle.std.specs.Prelude.{filter, fold, if◌then◌else◌}
-use Rattle.std.proofs.lemmas.Bool.{cases_Bool, and_parts}
-use Rattle.pld_base.specs.Bits.{same_level}
-use Rattle.bit_expr.specs.declared.node.Leaf.{Leaf}
-use Rattle.bit_expr.specs.Folding.{make_not, make_or}
-use Rattle.bit_expr.specs.Formulas.{Formula, Const}
-use Rattle.abel_tree.specs.declared.words.Extension.{Extension}
+use Rattle.netlist_laws.proofs.Common.{cases_Bool, and_parts, same_level, Leaf, make_not, make_or, Formula, Const, Extension, Gives, One, Any, Match, Contribution, is_the_control, is_control, control_by, control_of, Design, seen, formulas, is_data_to, same_gives, some_holds, gives_some, is_free_elsewhere, is_data_in, is_both, gives_in, any_against, both_function, single_function, function_of, given_formulas, SignalUse, given_uses, uses_read, is_kept}
 use Rattle.abel_tree.specs.declared.words.Extension.TheVariants as extension
 use Rattle.abel_tree.specs.Extensions.{is_data}
-use Rattle.abel_meaning.specs.Contributions.{Gives, One, Any, Match, Contribution}
-use Rattle.abel_meaning.specs.Controls.{is_the_control, is_control, control_by, control_of}
-use Rattle.abel_meaning.specs.Designs.{Design}
-use Rattle.abel_meaning.specs.Follows.{seen}
-use Rattle.abel_meaning.specs.FormulaBits.{formulas}
-use Rattle.abel_meaning.specs.Functions.{is_data_to, same_gives, some_holds, gives_some, is_free_elsewhere, is_data_in, is_both, gives_in, any_against, both_function, single_function, function_of}
-use Rattle.abel_meaning.specs.SignalReads.{given_formulas}
-use Rattle.netlist_laws.specs.SignalUses.{SignalUse, given_uses, uses_read}
-use Rattle.netlist_laws.specs.Takeable.{is_kept}
 use Rattle.netlist_laws.proofs.NamedLeaves.{NamesOnly, of_constant, of_not, of_or}
 use Rattle.netlist_laws.proofs.SourcedFormulas.{Sourced, sourced_contributions, formulas_are, uses_are}
 

@@ -5,6 +5,7 @@ pub mod CellsFound
 pub mod Choosing
 pub mod Chosen
 pub mod CleanSignals
+pub mod Common
 pub mod ControlRows
 pub mod CoverReads
 pub mod ExampleFits

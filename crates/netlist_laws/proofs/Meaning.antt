@@ -1,43 +1,8 @@
 -- The netlist of a module and the module allow the same at every point, and value the nodes alike.
 use Rattle.std.proofs.Common.{◌≡◌, ℕ, ◌<◌, Bool, true, false, not, List, [], ◌∷◌, map, length, Option, Some, None, refl, sym, ap, ap₂, ◌∙◌, inl, inr}
 use Rattle.std.specs.Prelude.{is_some, unwrap_or, nat_lt, if◌then◌else◌}
-use Rattle.std.specs.Option.{option_map}
-use Rattle.std.proofs.lemmas.Bool.{cases_Bool}
-use Rattle.pld_base.specs.Points.{Levels}
-use Rattle.pld_machine.specs.Refines.{Refines}
-use Rattle.pld_machine.specs.Through.{SameCells, AllowsAt}
-use Rattle.pld_device.specs.declared.enable.Enable.{Enable}
-use Rattle.pld_device.specs.declared.enable.Enable.TheVariants.{Row, PinLow}
-use Rattle.pld_device.specs.declared.kinds.Kinds.{Kinds}
-use Rattle.pld_device.specs.declared.kinds.Kinds.TheVariants.{Combinational, Registered, Either}
-use Rattle.pld_device.specs.Laws.{IsDevice}
-use Rattle.pld_device.specs.Macrocells.{complement_if}
-use Rattle.pld_device.specs.Registers.{stores_by}
-use Rattle.pld_device.specs.Table.{Table, cell_at, no_cell}
-use Rattle.bit_expr.specs.Formulas.{Formula, Const, formula_value}
-use Rattle.abel_tree.specs.declared.words.Extension.{Extension}
+use Rattle.netlist_laws.proofs.Common.{option_map, cases_Bool, Levels, Refines, SameCells, AllowsAt, Enable, Row, PinLow, Kinds, Combinational, Registered, Either, IsDevice, complement_if, stores_by, Table, cell_at, no_cell, Formula, Const, formula_value, Extension, Entry, is_stored, follows_q, ModuleTree, truth_at, given_at, Contribution, signal_on, must_register, cell_stores_for, cell_stores, cell_enabled_by, control_of, control_if_stored, shared_control, register_control, is_free_signal, Design, design_of, name_at, seen, formulas, Function, function_of, is_raw_signal, allows, value_with_any_0, Wanted, node_at, wanted_at, no_function, function_at, as_named, own_of, shared_function, own_or_shared, registers_as, netlist_stores, drives, may_drive, may_store, netlist_logic, netlist_values, given_formulas, is_negated, pin_allows, next_allows, q_complements, node_signal, node_allows, node_value_by, source_logic, source_values, formulas_have_values, formula_function, formula_control, MeansTheSame, is_free_wanted, GatheredMeansTheSame, by_row, wanted_for, gathered, netlist_of, RegistersHaveCells}
 use Rattle.abel_tree.specs.declared.words.Extension.TheVariants as extension
-use Rattle.abel_tree.specs.Entries.{Entry, is_stored, follows_q}
-use Rattle.abel_tree.specs.Tree.{ModuleTree}
-use Rattle.abel_meaning.specs.AtPoints.{truth_at, given_at}
-use Rattle.abel_meaning.specs.Contributions.{Contribution}
-use Rattle.abel_meaning.specs.Controls.{signal_on, must_register, cell_stores_for, cell_stores, cell_enabled_by, control_of, control_if_stored, shared_control, register_control}
-use Rattle.abel_meaning.specs.Choices.{is_free_signal}
-use Rattle.abel_meaning.specs.Designs.{Design, design_of, name_at}
-use Rattle.abel_meaning.specs.Follows.{seen}
-use Rattle.abel_meaning.specs.FormulaBits.{formulas}
-use Rattle.abel_meaning.specs.Functions.{Function, function_of, is_raw_signal, allows, value_with_any_0}
-use Rattle.abel_meaning.specs.Netlists.{Wanted, node_at, wanted_at, no_function, function_at, as_named, own_of, shared_function, own_or_shared}
-use Rattle.abel_meaning.specs.NetlistLogic.{registers_as, netlist_stores, drives, may_drive, may_store, netlist_logic, netlist_values}
-use Rattle.abel_meaning.specs.SignalReads.{given_formulas}
-use Rattle.abel_meaning.specs.SourceLogic.{is_negated, pin_allows, next_allows, q_complements, node_signal, node_allows, node_value_by, source_logic, source_values}
-use Rattle.abel_meaning.proofs.FormulasFollow.{formulas_have_values}
-use Rattle.abel_meaning.proofs.FunctionValues.{formula_function, formula_control}
-use Rattle.netlist_laws.specs.FittedCorrect.{MeansTheSame}
-use Rattle.netlist_laws.specs.ExchangedNets.{is_free_wanted}
-use Rattle.netlist_laws.specs.GatheredCorrect.{GatheredMeansTheSame}
-use Rattle.netlist_laws.specs.Gathered.{by_row, wanted_for, gathered, netlist_of}
-use Rattle.netlist_laws.specs.Takeable.{RegistersHaveCells}
 use Rattle.netlist_laws.proofs.CellsFound.{wanted_found}
 use Rattle.netlist_laws.proofs.NodeNumbers.{names_numbered}
 use Rattle.netlist_laws.proofs.NodesFound.{node_found, there, taken}

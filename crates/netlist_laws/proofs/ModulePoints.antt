@@ -1,31 +1,10 @@
 -- At every point a cell's OR may have the same values by a module and by its netlist under a choice, and the same points are
 -- valued.
 use Rattle.std.proofs.Common.{◌≡◌, ℕ, ◌<◌, Bool, true, false, not, if◌then◌else◌, List, length, Some, refl, sym, ap, ◌∙◌, arith}
-use Rattle.pld_base.specs.Bits.{is_on, same_level}
-use Rattle.pld_base.specs.Points.{IsPoint, Levels}
-use Rattle.pld_machine.specs.Exchanged.{exchanged_at, in_sense}
-use Rattle.pld_device.specs.Laws.{IsDevice}
-use Rattle.pld_device.specs.Macrocells.{complement_if, data_complements, pin_complements}
-use Rattle.pld_device.specs.Registers.{stores, is_inverted}
-use Rattle.pld_device.specs.Table.{Table}
-use Rattle.abel_tree.specs.Tree.{ModuleTree}
-use Rattle.abel_tree.specs.Entries.{is_stored}
-use Rattle.abel_meaning.specs.AtPoints.{given_at}
-use Rattle.abel_meaning.specs.Choices.{inverting}
-use Rattle.abel_meaning.specs.Controls.{signal_on}
-use Rattle.abel_meaning.specs.Designs.{Design, design_of, name_at}
-use Rattle.abel_meaning.specs.Functions.{allows}
-use Rattle.abel_meaning.specs.Netlists.{Wanted, as_named, function_at, wanted_at}
-use Rattle.abel_meaning.specs.SignalReads.{given_formulas}
-use Rattle.abel_meaning.specs.SourceLogic.{next_allows, pin_allows}
-use Rattle.netlist_laws.specs.ExchangedNets.{MayExchangeIn, function_exchanged, netlist_exchanged, wanted_exchanged}
+use Rattle.netlist_laws.proofs.Common.{is_on, same_level, IsPoint, Levels, exchanged_at, in_sense, IsDevice, complement_if, data_complements, pin_complements, stores, is_inverted, Table, ModuleTree, is_stored, given_at, inverting, signal_on, Design, design_of, name_at, allows, Wanted, as_named, function_at, wanted_at, given_formulas, next_allows, pin_allows, MayExchangeIn, function_exchanged, netlist_exchanged, wanted_exchanged, IsValuedFor, or_may_be, wanted_for, netlist_of, IsValuedPoint, chosen_logic, or_allows}
 use Rattle.netlist_laws.proofs.ExchangedFormulas.{function_value_exchanged}
 use Rattle.netlist_laws.proofs.ExchangedLogic.{exchanged_means_so, named_by, named_plain}
-use Rattle.netlist_laws.specs.RowCovers.{IsValuedFor}
-use Rattle.netlist_laws.specs.Fitting.{or_may_be}
-use Rattle.netlist_laws.specs.Gathered.{wanted_for, netlist_of}
 use Rattle.netlist_laws.proofs.Meaning.{is_node_as, level_of, next_as, value_as}
-use Rattle.netlist_laws.specs.ModuleCovers.{IsValuedPoint, chosen_logic, or_allows}
 
 module _ (t : Table) (m : ModuleTree) (fuses : List Bool) where
   -- the free registers that the fuses show inverted

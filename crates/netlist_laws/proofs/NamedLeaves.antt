@@ -1,11 +1,7 @@
 -- Formulas made of formulas that name certain leaves alone name those alone.
 use Rattle.std.proofs.Common.{◌≡◌, ℕ, zero, suc, Bool, true, false, not, ◌||◌, List, [], ◌∷◌, ◌++◌, inl, inr}
 use Rattle.std.specs.Prelude.{map, reverse, replicate}
-use Rattle.std.proofs.lemmas.Bool.{or_cases}
-use Rattle.std.proofs.lemmas.List.{reverse-append}
-use Rattle.bit_expr.specs.declared.node.Leaf.{Leaf}
-use Rattle.bit_expr.specs.Formulas.{Formula, Const, Not, names}
-use Rattle.bit_expr.specs.Folding.{make_not, make_and, make_or, make_xor}
+use Rattle.netlist_laws.proofs.Common.{or_cases, reverse-append, Leaf, Formula, Const, Not, names, make_not, make_and, make_or, make_xor}
 
 module _ (P : Leaf → Type 0) where
   -- the formula names such leaves alone

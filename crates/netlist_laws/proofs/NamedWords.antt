@@ -1,16 +1,12 @@
 -- The bits of operators over words that name certain leaves alone name those alone.
 use Rattle.std.proofs.Common.{ℕ, zero, suc, Bool, true, false, List, [], ◌∷◌}
 use Rattle.std.specs.Prelude.{map, reverse}
-use Rattle.bit_expr.specs.declared.node.Leaf.{Leaf}
-use Rattle.bit_expr.specs.Formulas.{Formula, Const}
-use Rattle.bit_expr.specs.Folding.{Made, make_not, make_and, make_or, make_xor}
+use Rattle.netlist_laws.proofs.Common.{Leaf, Formula, Const, Made, make_not, make_and, make_or, make_xor, resized, met_by, met_word, kept_bits, operator_word, binary_word, Shape, Number, Single, Set, Value, width_of, met_unknown, either_unknown, digits_low_first}
 use Rattle.abel_tree.specs.declared.words.Binary.{Binary}
 use Rattle.abel_tree.specs.declared.words.Binary.TheVariants as binary
 use Rattle.abel_tree.specs.declared.words.Unary.{Unary}
 use Rattle.abel_tree.specs.declared.words.Unary.TheVariants as unary
 use Rattle.abel_meaning.specs.BitWords.{Word, word_by_position, each_not, sum_bit, next_carry, sum_bits, difference_bits, equal_bits, less_bit, less_bits, relation_bit, operator_bits, unary_word}
-use Rattle.abel_meaning.specs.FormulaBits.{resized, met_by, met_word, kept_bits, operator_word, binary_word}
-use Rattle.abel_meaning.specs.Numbers.{Shape, Number, Single, Set, Value, width_of, met_unknown, either_unknown, digits_low_first}
 use Rattle.netlist_laws.proofs.NamedLeaves.{NamesOnly, EachNames, of_constant, of_not, of_and, of_or, of_xor, each_constant, each_copy, each_reversed}
 
 module _ (P : Leaf → Type 0) where

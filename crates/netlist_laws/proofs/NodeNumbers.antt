@@ -1,13 +1,10 @@
 -- The nodes of a module are numbered in the order of their declarations, from 0.
 use Rattle.std.proofs.Common.{◌≡◌, ℕ, suc, ◌+◌, List, [], ◌∷◌, ◌++◌, length, refl, ◌∙◌, subst, arith}
 use Rattle.std.specs.Prelude.{map, zip, fold}
+use Rattle.netlist_laws.proofs.Common.{Kind, APin, ANode, AConstant, ADeviceName, Entry, Words, Tree, Declaration, ADevice, SomePins, SomeNodes, SomeAttributes, SomeConstants, SomeOptions, DontCareFor, ModuleTree, Flip, Table}
 use Rattle.abel_tree.specs.declared.words.Word.{Word}
 use Rattle.abel_tree.specs.Assigned.{Assigned, named_of, sections_assign}
-use Rattle.abel_tree.specs.Entries.{Kind, APin, ANode, AConstant, ADeviceName, Entry, Words}
 use Rattle.abel_tree.specs.Ranges.{numbers_of}
-use Rattle.abel_tree.specs.Tree.{Tree, Declaration, ADevice, SomePins, SomeNodes, SomeAttributes, SomeConstants, SomeOptions, DontCareFor, ModuleTree}
-use Rattle.pld_device.specs.declared.flip.Flip.{Flip}
-use Rattle.pld_device.specs.Table.{Table}
 use Rattle.abel_meaning.specs.Declarations.{GivenName, pin_entries, node_entries, constant_entries, node_count, with_words, declared, given_names, all_said, section_declarations, declared_names}
 use Rattle.abel_meaning.specs.Held.{Holds, holds_of}
 use Rattle.abel_meaning.specs.Kinds.{with_kinds, names_of}

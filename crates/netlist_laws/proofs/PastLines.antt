@@ -1,15 +1,9 @@
 -- No fuse of a fitted netlist is opened past those that the lines of a file name.
 use Rattle.std.proofs.Common.{◌≡◌, ℕ, suc, ◌+◌, ◌*◌, ◌==◌, ◌≤◌, nat_lt, Bool, true, false, ◌||◌, if◌then◌else◌, List, [], ◌∷◌, refl, ◌∙◌, arith}
 use Rattle.std.specs.Prelude.{get_or, drop}
-use Rattle.std.specs.List.{list_any}
+use Rattle.netlist_laws.proofs.Common.{list_any, get_or-drop, control_fuses, Table, has, PlainNetlist, IsFitted}
 use Rattle.std.proofs.lemmas.Bool.Decides.{nat_tests}
-use Rattle.std.proofs.lemmas.List.{get_or-drop}
-use Rattle.pld_device.specs.ControlFuses.{control_fuses}
-use Rattle.pld_device.specs.Table.{Table}
-use Rattle.pld_order.specs.Graphs.{has}
 use Rattle.jedec_file.specs.ControlLines.{past, lines_end, IsIntactPastLines}
-use Rattle.abel_meaning.specs.Netlists.{PlainNetlist}
-use Rattle.netlist_laws.specs.Fitting.{IsFitted}
 
 -- a list of which no entry is true
 none_on : (xs : List Bool) → ((i : ℕ) → get_or xs i false ≡ false) → list_any (λ (fuse : Bool). fuse) xs ≡ false

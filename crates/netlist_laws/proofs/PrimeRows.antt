@@ -1,25 +1,10 @@
 -- The rows of a fitted cell are prime and irredundant for what the module says whose netlist it is.
 use Rattle.std.proofs.Common.{◌≡◌, ℕ, ◌<◌, Bool, true, false, not, List, length, Some, sym, ap, ◌∙◌, subst}
-use Rattle.std.specs.Option.{option_map}
-use Rattle.pld_device.specs.Laws.{IsDevice}
-use Rattle.pld_device.specs.Registers.{stores}
-use Rattle.pld_device.specs.Table.{Table}
-use Rattle.abel_tree.specs.Tree.{ModuleTree}
-use Rattle.abel_tree.specs.Entries.{is_stored}
-use Rattle.abel_meaning.specs.Controls.{signal_on}
-use Rattle.abel_meaning.specs.Designs.{Design, design_of, name_at}
-use Rattle.abel_meaning.specs.Netlists.{Wanted, PlainNetlist, wanted_at}
-use Rattle.abel_meaning.specs.SignalReads.{given_formulas}
-use Rattle.abel_meaning.specs.Soundness.{IsSound}
-use Rattle.netlist_laws.specs.ExchangedNets.{MayExchangeIn, netlist_exchanged, netlist_shown, wanted_exchanged}
+use Rattle.netlist_laws.proofs.Common.{option_map, IsDevice, stores, Table, ModuleTree, is_stored, signal_on, Design, design_of, name_at, Wanted, PlainNetlist, wanted_at, given_formulas, IsSound, MayExchangeIn, netlist_exchanged, netlist_shown, wanted_exchanged, IsFitted, IsFittedAs, IsFittedCell, wanted_for, netlist_of, HasPrimeRows, FittedRowsArePrime}
 use Rattle.netlist_laws.proofs.ExchangedCells.{wanted_at_exchanged}
 use Rattle.netlist_laws.proofs.ExchangedSound.{exchanged_is_sound}
-use Rattle.netlist_laws.specs.Fitting.{IsFitted, IsFittedAs, IsFittedCell}
 use Rattle.netlist_laws.proofs.WantedCells.{registers_wanted}
-use Rattle.netlist_laws.specs.Gathered.{wanted_for, netlist_of}
 use Rattle.netlist_laws.proofs.CellsFound.{wanted_found}
-use Rattle.netlist_laws.specs.ModuleCovers.{HasPrimeRows}
-use Rattle.netlist_laws.specs.PrimeCorrect.{FittedRowsArePrime}
 use Rattle.netlist_laws.proofs.Choosing.{fits_choice, may_choose}
 use Rattle.netlist_laws.proofs.ModulePoints.{choice, valued_there, valued_back, same_or}
 

@@ -1,15 +1,6 @@
 -- The device with the fuses of a netlist allows no more than the netlist does, at points whose nodes are valued.
 use Rattle.std.proofs.Common.{◌≡◌, Bool, true, false, List, refl, sym}
-use Rattle.std.proofs.lemmas.Bool.{true≢false}
-use Rattle.pld_base.specs.Bits.{same_level}
-use Rattle.pld_machine.specs.Comparison.{AllowsOne, HasNoDontCare}
-use Rattle.pld_device.specs.Macrocells.{device_logic, pin_level, next_q, complement_if}
-use Rattle.pld_device.specs.Table.{Table}
-use Rattle.pld_order.proofs.Ranks.{Ranked, ranked}
-use Rattle.abel_meaning.specs.Functions.{allows_plain}
-use Rattle.abel_meaning.specs.Netlists.{Wanted, node_at, function_at}
-use Rattle.abel_meaning.specs.NetlistReads.{signal_count, netlist_waits}
-use Rattle.netlist_laws.specs.FittedCorrect.{FittedRefines}
+use Rattle.netlist_laws.proofs.Common.{true≢false, same_level, AllowsOne, HasNoDontCare, device_logic, pin_level, next_q, complement_if, Table, Ranked, ranked, allows_plain, Wanted, node_at, function_at, signal_count, netlist_waits, FittedRefines}
 use Rattle.netlist_laws.proofs.Valuing.{valued, the_valued}
 use Rattle.netlist_laws.proofs.WantedCells.{same_kind}
 use Rattle.netlist_laws.proofs.CellValues.{same_enable, level_allowed, next_allowed, same_shared}

@@ -1,17 +1,9 @@
 -- A row that reads a pair has one literal of it; and a row from which this literal is left out is true as a whole
 -- wherever the pair has the literal's value.
 use Rattle.std.proofs.Common.{◌≡◌, ◌≢◌, ◌⊎◌, ℕ, zero, suc, ◌+◌, ◌*◌, ◌-◌, ◌<◌, ◌≤◌, Bool, true, false, not, ◌||◌, List, [], ◌∷◌, length, drop, set, refl, ap, sym, ◌∙◌, subst, arith, inl, inr, length-set, get_or-set_other}
-use Rattle.std.proofs.lemmas.Bool.{cases_eq, and_parts, or_cases, true≢false}
-use Rattle.std.proofs.lemmas.List.{length-map, length-take}
-use Rattle.pld_base.specs.Bits.{is_on}
-use Rattle.pld_base.specs.Points.{Levels}
-use Rattle.pld_device.specs.Table.{Table}
-use Rattle.pld_device.specs.Rows.{carried, columns_of, pair_values, row_fuses, is_switched_on, row_is_true, row_value}
+use Rattle.netlist_laws.proofs.Common.{cases_eq, and_parts, or_cases, true≢false, length-map, length-take, is_on, Levels, Table, carried, columns_of, pair_values, row_fuses, is_switched_on, row_is_true, row_value, has_whole_pair, connected_pairs, is_never_true, row_reads, row_whole, row_connected, value_without}
 use Rattle.pld_device.specs.RowLaws.{CarriesAll}
-use Rattle.pld_device.specs.Reads.{has_whole_pair, connected_pairs, is_never_true, row_reads}
 use Rattle.pld_device.proofs.RowValues.{row_is_true-columns}
-use Rattle.device_logic.proofs.PairWalks.{row_whole, row_connected}
-use Rattle.netlist_laws.specs.RowCovers.{value_without}
 
 -- ---- columns and pairs
 

@@ -1,18 +1,9 @@
 -- A device with the fuses of a sound netlist does what the netlist says.
 use Rattle.std.proofs.Common.{List, Bool}
-use Rattle.pld_device.specs.Laws.{IsDevice}
-use Rattle.pld_device.specs.Macrocells.{device_logic}
-use Rattle.pld_device.specs.Table.{Table}
+use Rattle.netlist_laws.proofs.Common.{IsDevice, device_logic, Table, Ranked, ranked, PlainNetlist, netlist_logic, netlist_values, signal_count, netlist_waits, IsSound, FittedDoesTheSame, IsFitted}
 use Rattle.pld_machine.specs.Steps.{IsDetermined}
 use Rattle.pld_machine.proofs.Compared.{does_the_same}
-use Rattle.pld_order.proofs.Ranks.{Ranked, ranked}
 use Rattle.device_logic.proofs.OneRun.{device_determined}
-use Rattle.abel_meaning.specs.Netlists.{PlainNetlist}
-use Rattle.abel_meaning.specs.NetlistLogic.{netlist_logic, netlist_values}
-use Rattle.abel_meaning.specs.NetlistReads.{signal_count, netlist_waits}
-use Rattle.abel_meaning.specs.Soundness.{IsSound}
-use Rattle.netlist_laws.specs.FittedCorrect.{FittedDoesTheSame}
-use Rattle.netlist_laws.specs.Fitting.{IsFitted}
 use Rattle.netlist_laws.proofs.CellRanks.{fitted_no_loop}
 use Rattle.netlist_laws.proofs.FittedPaths.{fitted_no_path}
 use Rattle.netlist_laws.proofs.Refining.{fitted_refines}

@@ -1,15 +1,7 @@
 -- Choices that are the same at every cell.
 use Rattle.std.proofs.Common.{◌≡◌, ℕ, suc, Bool, false, if◌then◌else◌, Option, None, Some, List, [], ◌∷◌, map, refl, sym, ap, ap₂, ◌∙◌}
-use Rattle.std.specs.Option.{option_map}
-use Rattle.pld_base.specs.Points.{Levels}
-use Rattle.pld_machine.specs.Exchanged.{exchanged_at, exchanged_from, in_sense}
-use Rattle.bit_expr.specs.declared.node.Leaf.{Leaf}
+use Rattle.netlist_laws.proofs.Common.{option_map, Levels, exchanged_at, exchanged_from, in_sense, Leaf, Formula, Const, Read, Not, And, Or, Xor, Function, PlainNetlist, Wanted, formula_exchanged, function_exchanged, leaf_exchanged, netlist_exchanged, wanted_exchanged, SameChoiceValues, SameChoices}
 use Rattle.bit_expr.specs.declared.node.Leaf.TheVariants as leaf
-use Rattle.bit_expr.specs.Formulas.{Formula, Const, Read, Not, And, Or, Xor}
-use Rattle.abel_meaning.specs.Functions.{Function}
-use Rattle.abel_meaning.specs.Netlists.{PlainNetlist, Wanted}
-use Rattle.netlist_laws.specs.ExchangedNets.{formula_exchanged, function_exchanged, leaf_exchanged, netlist_exchanged, wanted_exchanged}
-use Rattle.netlist_laws.specs.ExchangedCorrect.{SameChoiceValues, SameChoices}
 
 module _ (x y : ℕ → Bool) (same : (c : ℕ) → x c ≡ y c) where
   same_from : (c : ℕ) (qs : List Bool) → exchanged_from x c qs ≡ exchanged_from y c qs

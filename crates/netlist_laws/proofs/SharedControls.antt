@@ -1,21 +1,7 @@
 -- The reset or preset that all registers of a netlist share is that of the design.
 use Rattle.std.proofs.Common.{◌≡◌, ℕ, suc, ◌≤◌, Bool, true, false, nat_lt, List, [], ◌∷◌, slice_get, Option, Some, None, refl, ap, ap₂, ◌∙◌, inl, inr, arith}
 use Rattle.std.specs.Prelude.{is_some, IsSome, IfSome, unwrap_or, if◌then◌else◌}
-use Rattle.std.specs.Option.{option_map}
-use Rattle.std.proofs.lemmas.Bool.{cases_Bool, le-ltb}
-use Rattle.pld_base.specs.Points.{Levels}
-use Rattle.bit_expr.specs.Formulas.{Formula, Const, formula_value}
-use Rattle.abel_tree.specs.declared.words.Extension.{Extension}
-use Rattle.abel_tree.specs.Entries.{Entry, is_stored}
-use Rattle.abel_meaning.specs.AtPoints.{truth_at, given_at}
-use Rattle.abel_meaning.specs.Contributions.{Evaluator, Contribution}
-use Rattle.abel_meaning.specs.Controls.{control_if_stored, shared_from}
-use Rattle.abel_meaning.specs.Designs.{Context, Design}
-use Rattle.abel_meaning.specs.FormulaBits.{formulas}
-use Rattle.abel_meaning.specs.Netlists.{Wanted, earlier_name, first_with, own_of}
-use Rattle.abel_meaning.specs.SignalReads.{given_formulas}
-use Rattle.abel_meaning.proofs.FunctionValues.{formula_control}
-use Rattle.netlist_laws.specs.Gathered.{wanted_for, cell_of, and_cell, cells_from}
+use Rattle.netlist_laws.proofs.Common.{option_map, cases_Bool, le-ltb, Levels, Formula, Const, formula_value, Extension, Entry, is_stored, truth_at, given_at, Evaluator, Contribution, control_if_stored, shared_from, Context, Design, formulas, Wanted, earlier_name, first_with, own_of, given_formulas, formula_control, wanted_for, cell_of, and_cell, cells_from}
 
 -- a signal that isn't stored has no such control
 unstored : {W : Type 0} (ev : Evaluator W) (cs : List (Contribution W)) (e : Extension) (s : ℕ) (x : Entry) → is_stored x ≡ false → control_if_stored ev cs e s x ≡ None

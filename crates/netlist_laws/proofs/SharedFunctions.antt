@@ -1,11 +1,7 @@
 -- The function that all registers share is one of theirs, or 0.
 use Rattle.std.proofs.Common.{◌≡◌, false, nat_lt, List, [], ◌∷◌, Option, Some, None, refl, inl, inr}
 use Rattle.std.specs.Prelude.{is_some, IfSome, unwrap_or}
-use Rattle.std.specs.List.{All}
-use Rattle.std.proofs.lemmas.Bool.{cases_Bool}
-use Rattle.std.proofs.lemmas.List.Elements.{All-head, All-tail}
-use Rattle.bit_expr.specs.Formulas.{Formula, Const}
-use Rattle.abel_meaning.specs.Netlists.{Wanted, PlainNetlist, earlier_name, first_with, own_of, shared_function}
+use Rattle.netlist_laws.proofs.Common.{All, cases_Bool, All-head, All-tail, Formula, Const, Wanted, PlainNetlist, earlier_name, first_with, own_of, shared_function}
 
 module _ (own : Wanted → Option Formula) (P : Formula → Type 0) where
   -- the cell's own function, if there, has it

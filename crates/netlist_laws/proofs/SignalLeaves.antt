@@ -1,11 +1,7 @@
 -- Signals that a signal of a netlist names by a leaf.
 use Rattle.std.proofs.Common.{◌≡◌, ℕ, ◌<◌, true, false, not, ◌&&◌, length, refl, ap, ◌∙◌}
-use Rattle.std.proofs.lemmas.Bool.{lt-ltb}
-use Rattle.pld_device.specs.Table.{Table, cell_at}
+use Rattle.netlist_laws.proofs.Common.{lt-ltb, Table, cell_at, PlainNetlist, netlist_stores, netlist_names, netlist_waits, is_register_signal, signal_leaf}
 use Rattle.bit_expr.specs.declared.node.Leaf.TheVariants as leaf
-use Rattle.abel_meaning.specs.Netlists.{PlainNetlist}
-use Rattle.abel_meaning.specs.NetlistLogic.{netlist_stores}
-use Rattle.abel_meaning.specs.NetlistReads.{netlist_names, netlist_waits, is_register_signal, signal_leaf}
 
 -- a cell that is no register is read by its pin
 pub pin_leaf : (t : Table) (net : PlainNetlist) (d pin : ℕ) → d < length t.cells → (cell_at t d).pin ≡ pin → netlist_stores t net d ≡ false → signal_leaf t net d ≡ leaf.Pin pin

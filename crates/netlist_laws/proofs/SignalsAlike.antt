@@ -1,34 +1,9 @@
 -- The signals of a gathered netlist, which are the cells and the nodes, read what the module's signals read.
 use Rattle.std.proofs.Common.{◌≡◌, ℕ, ◌-◌, ◌<◌, Bool, true, false, not, ◌&&◌, ◌||◌, nat_lt, length, Option, Some, None, refl, sym, ap, ◌∙◌, subst, inl, inr, arith}
 use Rattle.std.specs.Prelude.{unwrap_or, if◌then◌else◌}
-use Rattle.std.specs.Option.{option_map}
-use Rattle.std.proofs.lemmas.Bool.{cases_Bool, cases_lt, and_parts, or_cases, or_left, or_right, eqb-true, eq-eqb, ltb-true}
-use Rattle.std.proofs.lemmas.List.{get_or_past}
-use Rattle.std.proofs.lemmas.List.Quantifiers.{position-Some}
-use Rattle.pld_device.specs.declared.cell.Cell.{Cell}
-use Rattle.pld_device.specs.declared.enable.Enable.{Enable}
-use Rattle.pld_device.specs.declared.enable.Enable.TheVariants.{Row, PinLow}
-use Rattle.pld_device.specs.Laws.{IsDevice}
-use Rattle.pld_device.specs.Table.{cell_at, no_cell}
-use Rattle.pld_device.proofs.OwnPins.{own_pins}
-use Rattle.bit_expr.specs.declared.node.Leaf.{Leaf}
+use Rattle.netlist_laws.proofs.Common.{option_map, cases_Bool, cases_lt, and_parts, or_cases, or_left, or_right, eqb-true, eq-eqb, ltb-true, get_or_past, position-Some, Cell, Enable, Row, PinLow, IsDevice, cell_at, no_cell, own_pins, Leaf, Formula, names, Extension, Kind, APin, ANode, AConstant, ADeviceName, Entry, is_stored, cell_on, is_pin, signal_on, control_of, Design, name_at, no_name, formulas, function_of, node_at, no_function, netlist_stores, cell_names, netlist_names, is_register_signal, cell_leaf, signal_leaf, netlist_reads, given_formulas, settles, leaf_by, leaf_of, names_if_any, function_names, signal_names, signal_reads, is_stored_signal, is_node_number, node_signal, by_row, wanted_for, cell_by, cell_of, gathered, PinsApart, is_row, is_enabled_by_row, is_kept}
 use Rattle.bit_expr.specs.declared.node.Leaf.TheVariants as leaf
-use Rattle.bit_expr.specs.Formulas.{Formula, names}
-use Rattle.abel_tree.specs.declared.words.Extension.{Extension}
 use Rattle.abel_tree.specs.declared.words.Extension.TheVariants as extension
-use Rattle.abel_tree.specs.Entries.{Kind, APin, ANode, AConstant, ADeviceName, Entry, is_stored}
-use Rattle.pld_device.specs.Pins.{cell_on}
-use Rattle.abel_meaning.specs.Controls.{is_pin, signal_on, control_of}
-use Rattle.abel_meaning.specs.Designs.{Design, name_at, no_name}
-use Rattle.abel_meaning.specs.FormulaBits.{formulas}
-use Rattle.abel_meaning.specs.Functions.{function_of}
-use Rattle.abel_meaning.specs.Netlists.{node_at, no_function}
-use Rattle.abel_meaning.specs.NetlistLogic.{netlist_stores}
-use Rattle.abel_meaning.specs.NetlistReads.{cell_names, netlist_names, is_register_signal, cell_leaf, signal_leaf, netlist_reads}
-use Rattle.abel_meaning.specs.SignalReads.{given_formulas, settles, leaf_by, leaf_of, names_if_any, function_names, signal_names, signal_reads, is_stored_signal}
-use Rattle.abel_meaning.specs.SourceLogic.{is_node_number, node_signal}
-use Rattle.netlist_laws.specs.Gathered.{by_row, wanted_for, cell_by, cell_of, gathered}
-use Rattle.netlist_laws.specs.Takeable.{PinsApart, is_row, is_enabled_by_row, is_kept}
 use Rattle.netlist_laws.proofs.CellsFound.{has_pin, wanted_found}
 use Rattle.netlist_laws.proofs.NodesFound.{AreNumbered, function_here, node_found, taken}
 use Rattle.netlist_laws.proofs.KeptLeaves.{EachKept, each_kept, of_one, of_any, of_control, control_kept}

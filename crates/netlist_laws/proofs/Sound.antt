@@ -1,14 +1,6 @@
 -- The netlist of a module that a device can take is sound.
 use Rattle.std.proofs.Common.{◌≡◌, ℕ, zero, suc, ◌≤◌, List, [], ◌∷◌, length, slice_get, Option, Some, None, refl, ap, ◌∙◌, arith}
-use Rattle.std.specs.Option.{option_map}
-use Rattle.pld_device.specs.Laws.{IsDevice}
-use Rattle.abel_meaning.specs.Designs.{Design, name_at}
-use Rattle.abel_meaning.specs.SignalReads.{given_formulas}
-use Rattle.abel_meaning.specs.Soundness.{IsSound}
-use Rattle.abel_meaning.specs.SourceLogic.{node_signal}
-use Rattle.netlist_laws.specs.GatheredCorrect.{GatheredIsSound}
-use Rattle.netlist_laws.specs.Gathered.{gathered}
-use Rattle.netlist_laws.specs.Takeable.{IsTakeable}
+use Rattle.netlist_laws.proofs.Common.{option_map, IsDevice, Design, name_at, given_formulas, IsSound, node_signal, GatheredIsSound, gathered, IsTakeable}
 use Rattle.netlist_laws.proofs.NodeNumbers.{names_numbered}
 use Rattle.netlist_laws.proofs.NodesFound.{AreNumbered, function_here, node_found}
 use Rattle.netlist_laws.proofs.SignalsAlike.{node_kind}

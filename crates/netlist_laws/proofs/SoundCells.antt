@@ -1,31 +1,8 @@
 -- Each cell of the netlist of a design that a device can take is one that it can have, and stands once.
 use Rattle.std.proofs.Common.{◌≡◌, ◌≢◌, ℕ, suc, ◌+◌, ◌<◌, ◌≤◌, Bool, true, false, not, ◌&&◌, List, [], ◌∷◌, length, get_or, Option, Some, None, refl, sym, ap, ◌∙◌, subst, inl, inr, arith}
-use Rattle.std.specs.List.{All, AllPairs}
-use Rattle.std.specs.Option.{option_map}
-use Rattle.std.proofs.lemmas.Bool.{cases_Bool, eqb-true, eq-eqb}
-use Rattle.std.proofs.lemmas.List.Elements.{All-cons, All-nil}
+use Rattle.netlist_laws.proofs.Common.{All, AllPairs, option_map, cases_Bool, eqb-true, eq-eqb, All-cons, All-nil, position-Some, Enable, Row, PinLow, IsDevice, cell_at, no_cell, Leaf, Formula, Extension, Kind, APin, ANode, AConstant, ADeviceName, Entry, is_stored, cell_on, is_free, is_pin, control_of, control_if_stored, Design, name_at, no_name, formulas, Function, function_of, Wanted, given_formulas, IsReadable, IsSoundFormula, IsSoundFunction, IsSoundShared, IsSoundCell, IsSoundFree, HasNoControls, by_row, wanted_for, cell_by, cell_of, and_cell, cells_from, and_node, nodes_from, gathered, PinsApart, is_row, is_enabled_by_row, is_kept, ControlIsThere, HasNoEquation, MayChoose, IsTakeable}
 use Rattle.std.proofs.lemmas.List.Kept.{AllPairs-cons}
-use Rattle.std.proofs.lemmas.List.Quantifiers.{position-Some}
-use Rattle.pld_device.specs.declared.enable.Enable.{Enable}
-use Rattle.pld_device.specs.declared.enable.Enable.TheVariants.{Row, PinLow}
-use Rattle.pld_device.specs.Laws.{IsDevice}
-use Rattle.pld_device.specs.Table.{cell_at, no_cell}
-use Rattle.bit_expr.specs.declared.node.Leaf.{Leaf}
-use Rattle.bit_expr.specs.Formulas.{Formula}
-use Rattle.abel_tree.specs.declared.words.Extension.{Extension}
 use Rattle.abel_tree.specs.declared.words.Extension.TheVariants as extension
-use Rattle.abel_tree.specs.Entries.{Kind, APin, ANode, AConstant, ADeviceName, Entry, is_stored}
-use Rattle.pld_device.specs.Pins.{cell_on}
-use Rattle.abel_meaning.specs.Choices.{is_free}
-use Rattle.abel_meaning.specs.Controls.{is_pin, control_of, control_if_stored}
-use Rattle.abel_meaning.specs.Designs.{Design, name_at, no_name}
-use Rattle.abel_meaning.specs.FormulaBits.{formulas}
-use Rattle.abel_meaning.specs.Functions.{Function, function_of}
-use Rattle.abel_meaning.specs.Netlists.{Wanted}
-use Rattle.abel_meaning.specs.SignalReads.{given_formulas}
-use Rattle.abel_meaning.specs.Soundness.{IsReadable, IsSoundFormula, IsSoundFunction, IsSoundShared, IsSoundCell, IsSoundFree, HasNoControls}
-use Rattle.netlist_laws.specs.Gathered.{by_row, wanted_for, cell_by, cell_of, and_cell, cells_from, and_node, nodes_from, gathered}
-use Rattle.netlist_laws.specs.Takeable.{PinsApart, is_row, is_enabled_by_row, is_kept, ControlIsThere, HasNoEquation, MayChoose, IsTakeable}
 use Rattle.netlist_laws.proofs.CellsFound.{has_pin}
 use Rattle.netlist_laws.proofs.KeptLeaves.{EachKept, each_kept, of_one, of_any, of_control, control_kept}
 use Rattle.netlist_laws.proofs.NodesFound.{AreNumbered}

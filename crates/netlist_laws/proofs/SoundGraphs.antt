@@ -1,27 +1,9 @@
 -- A gathered netlist has a loop, or a path from a reset to a register, only where its module has one.
 use Rattle.std.proofs.Common.{◌≡◌, ℕ, suc, ◌<◌, ◌≤◌, true, false, not, ◌==◌, nat_lt, List, [], ◌∷◌, ◌++◌, length, get_or, Option, Some, None, refl, sym, ap, ◌∙◌, subst, inl, inr, arith}
 use Rattle.std.specs.Prelude.{if◌then◌else◌}
-use Rattle.std.specs.List.{list_any, All}
-use Rattle.std.proofs.lemmas.Bool.{cases_Bool, and_parts, or_cases, eq-eqb, eqb-true, true≢false, not-true}
-use Rattle.std.proofs.lemmas.List.Elements.{All-head, All-tail}
-use Rattle.std.proofs.lemmas.List.Quantifiers.{position-Some}
-use Rattle.pld_device.specs.Laws.{IsDevice}
-use Rattle.pld_device.specs.Table.{cell_at, no_cell}
-use Rattle.pld_order.specs.Graphs.{has, IsChain}
-use Rattle.pld_order.proofs.Lists.{has_push}
-use Rattle.pld_order.proofs.Ranks.{Ranked, ranked, no_loop_by_rank}
-use Rattle.bit_expr.specs.declared.node.Leaf.{Leaf}
+use Rattle.netlist_laws.proofs.Common.{list_any, All, cases_Bool, and_parts, or_cases, eq-eqb, eqb-true, true≢false, not-true, All-head, All-tail, position-Some, IsDevice, cell_at, no_cell, has, IsChain, has_push, Ranked, ranked, no_loop_by_rank, Leaf, is_stored, is_pin, signal_on, control_of, control_if_stored, Design, name_at, formulas, Wanted, signal_count, signal_leaf, is_register_signal, netlist_names, netlist_reads, netlist_waits, netlist_passes, netlist_reset_reads, HasNoNetlistLoop, HasNoNetlistPath, given_formulas, names_if_any, signal_reads, HasNoSignalLoop, HasNoSignalPath, gathered, PinsApart}
 use Rattle.bit_expr.specs.declared.node.Leaf.TheVariants as leaf
 use Rattle.abel_tree.specs.declared.words.Extension.TheVariants as extension
-use Rattle.abel_tree.specs.Entries.{is_stored}
-use Rattle.abel_meaning.specs.Controls.{is_pin, signal_on, control_of, control_if_stored}
-use Rattle.abel_meaning.specs.Designs.{Design, name_at}
-use Rattle.abel_meaning.specs.FormulaBits.{formulas}
-use Rattle.abel_meaning.specs.Netlists.{Wanted}
-use Rattle.abel_meaning.specs.NetlistReads.{signal_count, signal_leaf, is_register_signal, netlist_names, netlist_reads, netlist_waits, netlist_passes, netlist_reset_reads, HasNoNetlistLoop, HasNoNetlistPath}
-use Rattle.abel_meaning.specs.SignalReads.{given_formulas, names_if_any, signal_reads, HasNoSignalLoop, HasNoSignalPath}
-use Rattle.netlist_laws.specs.Gathered.{gathered}
-use Rattle.netlist_laws.specs.Takeable.{PinsApart}
 use Rattle.netlist_laws.proofs.CellsFound.{has_pin}
 use Rattle.netlist_laws.proofs.NodesFound.{AreNumbered}
 use Rattle.netlist_laws.proofs.SignalsAlike.{signal_of, named_by, named_declared, reset_declared, leaf_alike, register_alike, reads_alike, in_names}

@@ -1,31 +1,9 @@
 -- A leaf that some read of a module reads, and for which the device has columns, is one that the netlist may read.
 use Rattle.std.proofs.Common.{◌≡◌, ℕ, ◌<◌, Bool, true, false, ◌&&◌, List, [], ◌∷◌, length, get_or, Option, Some, None, refl, sym, ap, ◌∙◌, inl, inr}
 use Rattle.std.specs.Prelude.{position}
-use Rattle.std.specs.Option.{option_map}
-use Rattle.std.proofs.lemmas.Bool.{cases_Bool, cases_lt, eqb-true, eq-eqb, and_parts, true≢false}
-use Rattle.std.proofs.lemmas.List.{get_or_past}
-use Rattle.std.proofs.lemmas.Option.{slice_get_within}
-use Rattle.std.proofs.lemmas.List.Quantifiers.{position-Some}
-use Rattle.pld_base.specs.Points.{Levels}
-use Rattle.pld_device.specs.Laws.{IsDevice}
-use Rattle.pld_device.specs.Table.{cell_at, no_cell}
-use Rattle.bit_expr.specs.declared.node.Leaf.{Leaf}
+use Rattle.netlist_laws.proofs.Common.{option_map, cases_Bool, cases_lt, eqb-true, eq-eqb, and_parts, true≢false, get_or_past, slice_get_within, position-Some, Levels, IsDevice, cell_at, no_cell, Leaf, Extension, Kind, APin, ANode, AConstant, ADeviceName, Entry, is_stored, follows_q, cell_on, is_pin, signal_on, cell_stores, Context, Design, name_at, no_name, wanted_at, registers_as, netlist_stores, given_formulas, IsReadable, Held, source_by, on_pin, pin_source, register_source, node_source, is_node_number, wanted_for, gathered, SignalUse, holds_leaf, use_reads, uses_read, PinsApart, HasColumns}
 use Rattle.bit_expr.specs.declared.node.Leaf.TheVariants as leaf
-use Rattle.abel_tree.specs.declared.words.Extension.{Extension}
 use Rattle.abel_tree.specs.declared.words.Extension.TheVariants as extension
-use Rattle.abel_tree.specs.Entries.{Kind, APin, ANode, AConstant, ADeviceName, Entry, is_stored, follows_q}
-use Rattle.pld_device.specs.Pins.{cell_on}
-use Rattle.abel_meaning.specs.Controls.{is_pin, signal_on, cell_stores}
-use Rattle.abel_meaning.specs.Designs.{Context, Design, name_at, no_name}
-use Rattle.abel_meaning.specs.Netlists.{wanted_at}
-use Rattle.abel_meaning.specs.NetlistLogic.{registers_as, netlist_stores}
-use Rattle.abel_meaning.specs.SignalReads.{given_formulas}
-use Rattle.abel_meaning.specs.Soundness.{IsReadable}
-use Rattle.abel_meaning.specs.Sources.{Held, source_by, on_pin, pin_source, register_source, node_source}
-use Rattle.abel_meaning.specs.SourceLogic.{is_node_number}
-use Rattle.netlist_laws.specs.Gathered.{wanted_for, gathered}
-use Rattle.netlist_laws.specs.SignalUses.{SignalUse, holds_leaf, use_reads, uses_read}
-use Rattle.netlist_laws.specs.Takeable.{PinsApart, HasColumns}
 use Rattle.netlist_laws.proofs.CellsFound.{first_place, none_passes, has_pin, wanted_found}
 use Rattle.netlist_laws.proofs.Meaning.{stores_as}
 use Rattle.netlist_laws.proofs.NodesFound.{AreNumbered, function_here, node_found}

@@ -1,29 +1,14 @@
 -- What the formula of a contribution names is read by what the contribution uses.
 use Rattle.std.proofs.Common.{◌≡◌, ℕ, true, false, ◌||◌, List, [], ◌∷◌, ◌++◌, map, length, refl, sym, ap, ◌∙◌}
 use Rattle.std.specs.Prelude.{replicate}
-use Rattle.std.proofs.lemmas.Bool.{or_left, or_right}
-use Rattle.std.proofs.lemmas.List.{length-reverse}
-use Rattle.std.proofs.lemmas.List.Folds.{list_any-append}
-use Rattle.pld_base.specs.Points.{Levels}
-use Rattle.bit_expr.specs.declared.node.Leaf.{Leaf}
-use Rattle.bit_expr.specs.Folding.{make_not, make_and, make_or}
-use Rattle.bit_expr.specs.Formulas.{Formula, Const, formula_value}
-use Rattle.abel_meaning.specs.Contributions.{Evaluator, Contribution}
-use Rattle.abel_meaning.specs.Designs.{Context, Design}
-use Rattle.abel_meaning.specs.Follows.{Follows, seen}
-use Rattle.abel_meaning.specs.FormulaBits.{make_source, met_word, bits_of, bits_of_all, formulas}
-use Rattle.abel_meaning.specs.Numbers.{digits_low_first, met, member_width, meeting}
+use Rattle.netlist_laws.proofs.Common.{or_left, or_right, length-reverse, list_any-append, Levels, Leaf, make_not, make_and, make_or, Formula, Const, formula_value, Evaluator, Contribution, Context, Design, Follows, seen, make_source, met_word, bits_of, bits_of_all, formulas, digits_low_first, met, member_width, meeting, given_formulas, Source, Zero, Held, source_of, word_follows, SignalUse, term_uses, all_term_uses, reads_of_terms, given_uses, holds_leaf, use_reads, uses_read}
 use Rattle.abel_meaning.specs.Sections.{contributions}
-use Rattle.abel_meaning.specs.SignalReads.{given_formulas}
-use Rattle.abel_meaning.specs.Sources.{Source, Zero, Held, source_of}
 use Rattle.abel_meaning.specs.Terms.{Term, Terms}
 use Rattle.abel_meaning.specs.Terms as term
 use Rattle.abel_meaning.specs.Values.{is_relation, constant_of, term_value}
 use Rattle.abel_meaning.proofs.DigitLaws.{length_digits}
-use Rattle.abel_meaning.proofs.FormulasFollow.{word_follows}
 use Rattle.abel_meaning.proofs.Walk.{contributions_seen}
 use Rattle.abel_meaning.proofs.TermValues.{length_map}
-use Rattle.netlist_laws.specs.SignalUses.{SignalUse, term_uses, all_term_uses, reads_of_terms, given_uses, holds_leaf, use_reads, uses_read}
 use Rattle.netlist_laws.proofs.NamedLeaves.{NamesOnly, EachNames, of_constant, of_not, of_and, of_or, each_joined, each_reversed}
 use Rattle.netlist_laws.proofs.NamedWords.{of_unary, of_binary, of_met}
 

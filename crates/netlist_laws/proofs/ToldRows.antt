@@ -1,27 +1,8 @@
 -- Rows that are told by known leaves read known cells alone.
 use Rattle.std.proofs.Common.{◌≡◌, ℕ, ◌<◌, Bool, true, false, ◌==◌, List, [], ◌∷◌, length, Some, slice_get, refl}
-use Rattle.std.specs.List.{list_any}
-use Rattle.std.proofs.lemmas.Bool.{eq-eqb, or_left}
-use Rattle.pld_base.specs.Points.{Levels}
-use Rattle.pld_device.specs.declared.carry.Carry.{Carry}
+use Rattle.netlist_laws.proofs.Common.{list_any, eq-eqb, or_left, Levels, Carry, Table, cell_at, IsDataRow, IsDevice, data_rows, row_reads, row_value, has, row_reads_cell, any_at, Leaf, Formula, formula_value, Wanted, PlainNetlist, IsValuedFor, is_used, IsPrimeRow, IsExactRow, netlist_waits, signal_count, IsSoundFormula, IsSoundFunction, IsSound, or_may_be, IsFittedCell, Ranked}
 use Rattle.pld_device.specs.declared.carry.Carry.TheVariants as carry
-use Rattle.pld_device.specs.Table.{Table, cell_at, IsDataRow}
-use Rattle.pld_device.specs.Laws.{IsDevice}
-use Rattle.pld_device.specs.Macrocells.{data_rows}
-use Rattle.pld_device.specs.Reads.{row_reads}
-use Rattle.pld_device.specs.Rows.{row_value}
-use Rattle.pld_order.specs.Graphs.{has}
-use Rattle.device_logic.specs.CellReads.{row_reads_cell}
 use Rattle.device_logic.proofs.ReadCells.{row_reads_cell-pair}
-use Rattle.device_logic.proofs.Runs.{any_at}
-use Rattle.bit_expr.specs.declared.node.Leaf.{Leaf}
-use Rattle.bit_expr.specs.Formulas.{Formula, formula_value}
-use Rattle.abel_meaning.specs.Netlists.{Wanted, PlainNetlist}
-use Rattle.netlist_laws.specs.RowCovers.{IsValuedFor, is_used, IsPrimeRow, IsExactRow}
-use Rattle.abel_meaning.specs.NetlistReads.{netlist_waits, signal_count}
-use Rattle.abel_meaning.specs.Soundness.{IsSoundFormula, IsSoundFunction, IsSound}
-use Rattle.netlist_laws.specs.Fitting.{or_may_be, IsFittedCell}
-use Rattle.pld_order.proofs.Ranks.{Ranked}
 use Rattle.netlist_laws.proofs.Valuing.{AgreeOn, IsKnown, IsClosed, same_value}
 use Rattle.netlist_laws.proofs.CoverReads.{leaf_of, reads_known}
 

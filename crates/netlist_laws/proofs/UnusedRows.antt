@@ -1,16 +1,7 @@
 -- Rows that are all 0 are never true.
 use Rattle.std.proofs.Common.{◌≡◌, ℕ, zero, suc, ◌+◌, ◌*◌, ◌<◌, Bool, true, false, not, ◌||◌, List, [], ◌∷◌, length, refl, arith}
-use Rattle.std.specs.List.{list_any}
-use Rattle.pld_base.specs.Bits.{is_on}
-use Rattle.pld_base.specs.Points.{Levels}
-use Rattle.pld_device.specs.Laws.{IsDevice}
-use Rattle.pld_device.specs.Reads.{has_whole_pair, is_never_true}
-use Rattle.pld_device.specs.Rows.{row_fuses, is_switched_on, row_value}
-use Rattle.pld_device.specs.Table.{Table, no_cell, IsDataRow}
-use Rattle.pld_device.proofs.OwnPins.{has_pairs}
+use Rattle.netlist_laws.proofs.Common.{list_any, is_on, Levels, IsDevice, has_whole_pair, is_never_true, row_fuses, is_switched_on, row_value, Table, no_cell, IsDataRow, has_pairs, row_whole, is_used}
 use Rattle.pld_device.proofs.RowReads.{never_true}
-use Rattle.device_logic.proofs.PairWalks.{row_whole}
-use Rattle.netlist_laws.specs.RowCovers.{is_used}
 use Rattle.netlist_laws.proofs.BoolLaws.{neither}
 
 none_on : (fs : List Bool) (k : ℕ) → list_any (λ f. f) fs ≡ false → is_on fs k ≡ false

@@ -1,27 +1,11 @@
 -- Nodes without a loop can be valued at every point, in one way; and what is told by some leaves is the same at points
 -- that agree on these.
 use Rattle.std.proofs.Common.{◌≡◌, ℕ, zero, suc, ◌+◌, ◌-◌, ◌<◌, ◌≤◌, Bool, true, false, not, ◌&&◌, nat_lt, length, map, refl, ap, sym, ◌∙◌, subst, arith, inl, inr}
-use Rattle.std.specs.List.{range_with_len}
-use Rattle.std.proofs.lemmas.Bool.{cases_Bool, lt-ltb, ltb-true, ltb-false, or_left}
+use Rattle.netlist_laws.proofs.Common.{range_with_len, cases_Bool, lt-ltb, ltb-true, ltb-false, or_left, is_on, Levels, IsPoint, complement_if, Table, IsTheValuedOf, netlist_logic, netlist_values, Leaf, Formula, leaf_value, formula_value, names, PlainNetlist, no_function, node_at, wanted_at, function_at, value_with_any_0, IsValuedFor, IsValuedOfFor, function_names, cell_names, netlist_names, signal_leaf, is_register_signal, netlist_waits, signal_count, IsReadable, IsSoundFormula, IsSoundFunction, IsSound, Ranked}
 use Rattle.std.proofs.lemmas.List.FromFn.{length-map-range_with_len, get_or-map-range_with_len}
-use Rattle.pld_base.specs.Bits.{is_on}
-use Rattle.pld_base.specs.Points.{Levels, IsPoint}
 use Rattle.pld_base.proofs.BitLemmas.{same_levels}
-use Rattle.pld_device.specs.Macrocells.{complement_if}
-use Rattle.pld_device.specs.Table.{Table}
 use Rattle.pld_machine.proofs.OneRest.{levels_equal}
-use Rattle.pld_machine.specs.Comparison.{IsTheValuedOf}
-use Rattle.abel_meaning.specs.NetlistLogic.{netlist_logic, netlist_values}
 use Rattle.bit_expr.specs.declared.node.Leaf.TheVariants as leaf
-use Rattle.bit_expr.specs.declared.node.Leaf.{Leaf}
-use Rattle.bit_expr.specs.Formulas.{Formula, leaf_value, formula_value, names}
-use Rattle.abel_meaning.specs.Netlists.{PlainNetlist, no_function, node_at, wanted_at, function_at}
-use Rattle.abel_meaning.specs.Functions.{value_with_any_0}
-use Rattle.netlist_laws.specs.RowCovers.{IsValuedFor, IsValuedOfFor}
-use Rattle.abel_meaning.specs.SignalReads.{function_names}
-use Rattle.abel_meaning.specs.NetlistReads.{cell_names, netlist_names, signal_leaf, is_register_signal, netlist_waits, signal_count}
-use Rattle.abel_meaning.specs.Soundness.{IsReadable, IsSoundFormula, IsSoundFunction, IsSound}
-use Rattle.pld_order.proofs.Ranks.{Ranked}
 use Rattle.netlist_laws.proofs.FormulaLeaves.{value_same}
 
 -- ---- signals that are nodes

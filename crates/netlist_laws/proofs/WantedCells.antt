@@ -1,19 +1,8 @@
 -- What a sound netlist asks of a cell, and that fitted cells are registers where it asks so.
 use Rattle.std.proofs.Common.{◌≡◌, ℕ, ◌<◌, Bool, false, ◌==◌, List, [], ◌∷◌, length, Option, Some, None, refl, sym, subst, inl, inr}
 use Rattle.std.specs.Prelude.{find}
-use Rattle.std.specs.List.{All}
-use Rattle.std.proofs.lemmas.Bool.{cases_Bool, eqb-true}
-use Rattle.std.proofs.lemmas.List.Elements.{All-head, All-tail}
-use Rattle.std.proofs.lemmas.Option.{same_Some}
-use Rattle.pld_device.specs.declared.kinds.Kinds.{Kinds}
-use Rattle.pld_device.specs.declared.kinds.Kinds.TheVariants.{Combinational, Registered, Either}
-use Rattle.pld_device.specs.Registers.{says, stores_by, stores}
-use Rattle.pld_device.specs.Table.{Table, cell_at, registered_at}
-use Rattle.abel_meaning.specs.Netlists.{Wanted, PlainNetlist, wanted_at}
-use Rattle.abel_meaning.specs.NetlistLogic.{registers_as, netlist_stores}
-use Rattle.abel_meaning.specs.Soundness.{MayRegister, IsSoundCell, IsSound}
+use Rattle.netlist_laws.proofs.Common.{All, cases_Bool, eqb-true, All-head, All-tail, same_Some, Kinds, Combinational, Registered, Either, says, stores_by, stores, Table, cell_at, registered_at, Wanted, PlainNetlist, wanted_at, registers_as, netlist_stores, MayRegister, IsSoundCell, IsSound, IsFittedCell, IsFittedAs, IsFitted}
 pub use Rattle.netlist_laws.proofs.FoundCells.{found}
-use Rattle.netlist_laws.specs.Fitting.{IsFittedCell, IsFittedAs, IsFitted}
 
 -- what holds of what is asked of a cell
 pub record IsSoundAt (t : Table) (net : PlainNetlist) (c : ℕ) (w : Wanted) : Type 0 where

@@ -1,20 +1,9 @@
 -- The rows of a device's controls, by what a module says of them (two-level minimisation: prime rows; that a control has one
 -- row is the devices').
 use Rattle.std.specs.Prelude.{◌≡◌, ℕ, ◌<◌, Bool, true, false, List, length, Some}
-use Rattle.pld_base.specs.Bits.{is_on}
-use Rattle.pld_base.specs.Points.{Levels}
-use Rattle.pld_machine.specs.Exchanged.{exchanged_at}
-use Rattle.pld_device.specs.declared.enable.Enable.TheVariants.{Row}
-use Rattle.pld_device.specs.Registers.{is_inverted}
-use Rattle.pld_device.specs.Rows.{row_fuses, row_value}
-use Rattle.pld_device.specs.Table.{Table, cell_at}
-use Rattle.abel_tree.specs.declared.words.Extension.{Extension}
+use Rattle.netlist_laws.specs.Prelude.{is_on, Levels, exchanged_at, Row, is_inverted, row_fuses, row_value, Table, cell_at, Extension, ModuleTree, inverting, shared_control, design_of}
 use Rattle.abel_tree.specs.declared.words.Extension.TheVariants as extension
-use Rattle.abel_tree.specs.Tree.{ModuleTree}
 use Rattle.abel_meaning.specs.AtPoints.{given_at, truth_at}
-use Rattle.abel_meaning.specs.Choices.{inverting}
-use Rattle.abel_meaning.specs.Controls.{shared_control}
-use Rattle.abel_meaning.specs.Designs.{design_of}
 use Rattle.netlist_laws.specs.RowCovers.{is_used, value_without}
 use Rattle.netlist_laws.specs.ModuleCovers.{IsValuedPoint, chosen_logic}
 

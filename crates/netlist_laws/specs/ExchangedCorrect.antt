@@ -1,14 +1,6 @@
 -- What a netlist with exchanged registers is to the netlist itself (this project's rule).
 use Rattle.std.specs.Prelude.{◌≡◌, ℕ, Bool, true, List}
-use Rattle.pld_base.specs.Logic.{Logic}
-use Rattle.pld_device.specs.Laws.{IsDevice}
-use Rattle.pld_device.specs.Table.{Table}
-use Rattle.pld_machine.specs.Refines.{Refines}
-use Rattle.pld_machine.specs.Comparison.{NodeValues, SameValues}
-use Rattle.abel_meaning.specs.Netlists.{PlainNetlist, wanted_at}
-use Rattle.abel_meaning.specs.NetlistLogic.{netlist_logic, netlist_values}
-use Rattle.abel_meaning.specs.Soundness.{IsSound}
-use Rattle.pld_machine.specs.Exchanged.{exchanged, exchanged_values}
+use Rattle.netlist_laws.specs.Prelude.{Logic, IsDevice, Table, Refines, NodeValues, SameValues, PlainNetlist, wanted_at, netlist_logic, netlist_values, IsSound, exchanged, exchanged_values}
 use Rattle.netlist_laws.specs.ExchangedNets.{MayExchangeIn, is_free_wanted, netlist_exchanged, netlist_shown}
 
 -- it allows what the netlist's logic allows with these cells exchanged, and values the nodes alike

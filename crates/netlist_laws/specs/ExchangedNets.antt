@@ -1,18 +1,8 @@
 -- A netlist some of whose registers store the complement: every formula reads their Q in the other sense, and their pin
 -- follows the complement (this project's rule).
 use Rattle.std.specs.Prelude.{◌≡◌, ℕ, ◌<◌, Bool, true, false, ◌&&◌, if◌then◌else◌, Option, None, Some, List, map, length}
-use Rattle.std.specs.Option.{option_map}
-use Rattle.pld_base.specs.Logic.{Logic}
-use Rattle.pld_machine.specs.Comparison.{NodeValues}
-use Rattle.pld_machine.specs.Exchanged.{exchanged, exchanged_values, in_sense}
-use Rattle.pld_device.specs.Registers.{is_inverted}
-use Rattle.pld_device.specs.Table.{Table}
-use Rattle.bit_expr.specs.declared.node.Leaf.{Leaf}
+use Rattle.netlist_laws.specs.Prelude.{option_map, Logic, NodeValues, exchanged, exchanged_values, in_sense, is_inverted, Table, Leaf, Formula, Const, Read, Not, And, Or, Xor, Function, PlainNetlist, Wanted, wanted_at, netlist_logic, netlist_values}
 use Rattle.bit_expr.specs.declared.node.Leaf.TheVariants as leaf
-use Rattle.bit_expr.specs.Formulas.{Formula, Const, Read, Not, And, Or, Xor}
-use Rattle.abel_meaning.specs.Functions.{Function}
-use Rattle.abel_meaning.specs.Netlists.{PlainNetlist, Wanted, wanted_at}
-use Rattle.abel_meaning.specs.NetlistLogic.{netlist_logic, netlist_values}
 
 -- what a leaf carries, with the Qs of these cells in the other sense
 abbrev pub leaf_exchanged : (ℕ → Bool) → Leaf → Formula

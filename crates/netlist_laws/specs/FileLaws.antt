@@ -1,13 +1,9 @@
 -- What holds of the fuses of a netlist by their reads and in a fuse file (this project's rule).
 use Rattle.std.specs.Prelude.{Bool, List, length}
-use Rattle.pld_device.specs.Laws.{IsDevice}
-use Rattle.pld_device.specs.Table.{Table}
-use Rattle.pld_order.specs.Graphs.{HasNoLoop}
+use Rattle.netlist_laws.specs.Prelude.{IsDevice, Table, HasNoLoop, PlainNetlist, IsSound}
 use Rattle.jedec_file.specs.ControlLines.{IsIntactPastLines}
 use Rattle.device_logic.specs.CellReads.{cell_reads}
 use Rattle.device_logic.specs.ResetPaths.{HasNoResetPath}
-use Rattle.abel_meaning.specs.Netlists.{PlainNetlist}
-use Rattle.abel_meaning.specs.Soundness.{IsSound}
 use Rattle.netlist_laws.specs.Fitting.{IsFitted}
 
 -- no chain of cells, each of which reads the next while the device comes to rest, returns

@@ -1,20 +1,7 @@
 -- What it is for fuses to do what a module says, for every device, and the two halves of its proof (this project's rule, over
 -- the devices' datasheets).
 use Rattle.std.specs.Prelude.{◌≡◌, ℕ, ◌<◌, Bool, List, length}
-use Rattle.pld_machine.specs.Comparison.{DoesTheSame, RefinesValued, SameValues}
-use Rattle.pld_machine.specs.Refines.{Refines}
-use Rattle.pld_device.specs.Laws.{IsDevice}
-use Rattle.pld_device.specs.Macrocells.{device_logic}
-use Rattle.pld_device.specs.Registers.{is_inverted}
-use Rattle.pld_device.specs.Table.{Table}
-use Rattle.abel_tree.specs.Tree.{ModuleTree}
-use Rattle.abel_meaning.specs.Choices.{is_free_signal, source_logic_under, source_values_under}
-use Rattle.abel_meaning.specs.Controls.{signal_on}
-use Rattle.abel_meaning.specs.Designs.{design_of}
-use Rattle.abel_meaning.specs.Netlists.{PlainNetlist, wanted_at}
-use Rattle.abel_meaning.specs.NetlistLogic.{netlist_logic, netlist_values}
-use Rattle.abel_meaning.specs.Soundness.{IsSound}
-use Rattle.abel_meaning.specs.SourceLogic.{source_logic, source_values}
+use Rattle.netlist_laws.specs.Prelude.{DoesTheSame, RefinesValued, SameValues, Refines, IsDevice, device_logic, is_inverted, Table, ModuleTree, is_free_signal, source_logic_under, source_values_under, signal_on, design_of, PlainNetlist, wanted_at, netlist_logic, netlist_values, IsSound, source_logic, source_values}
 use Rattle.netlist_laws.specs.ExchangedNets.{is_free_wanted, logic_shown, netlist_shown, values_shown}
 use Rattle.netlist_laws.specs.Fitting.{IsFitted}
 

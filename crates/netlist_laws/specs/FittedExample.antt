@@ -1,10 +1,7 @@
 -- A small netlist and fuses for it, in a small device of no maker (this project's example).
 use Rattle.std.specs.Prelude.{Bool, true, false, List, [], ◌∷◌, ◌++◌, None, Some}
-use Rattle.pld_device.specs.SampleTable.{sample}
+use Rattle.netlist_laws.specs.Prelude.{sample, Const, Read, Wanted, PlainNetlist, IsSound}
 use Rattle.bit_expr.specs.declared.node.Leaf.TheVariants as leaf
-use Rattle.bit_expr.specs.Formulas.{Const, Read}
-use Rattle.abel_meaning.specs.Netlists.{Wanted, PlainNetlist}
-use Rattle.abel_meaning.specs.Soundness.{IsSound}
 use Rattle.netlist_laws.specs.Fitting.{IsFitted}
 
 -- a register on pin 9, inverted, that takes pin 1, and that pin 2 resets

@@ -1,22 +1,9 @@
 -- The fuses of a netlist in a device, by rows: what a fitter owes (this project's rule).
 use Rattle.std.specs.Prelude.{◌≡◌, ◌≢◌, ℕ, ◌*◌, ◌<◌, ◌≤◌, Bool, true, false, not, if◌then◌else◌, Option, None, Some, List, length, All}
-use Rattle.pld_base.specs.Bits.{is_on}
-use Rattle.pld_base.specs.Points.{Levels}
-use Rattle.pld_device.specs.declared.enable.Enable.{Enable}
-use Rattle.pld_device.specs.declared.enable.Enable.TheVariants.{Row, PinLow}
-use Rattle.pld_device.specs.declared.flip.Flip.TheVariants.{Always, AfterRegister}
+use Rattle.netlist_laws.specs.Prelude.{is_on, Levels, Enable, Row, PinLow, Always, AfterRegister, complement_if, pin_complements, data_complements, data_rows, says, is_inverted, is_switched_on, Table, cell_at, registered_at, IsDataRow, has, Formula, formula_value, allows, Wanted, PlainNetlist, wanted_at, function_at, as_named, shared_function, enable_of}
 use Rattle.pld_device.specs.declared.fuse_bit.FuseBit.{FuseBit}
 use Rattle.pld_device.specs.declared.kinds.Kinds.TheVariants.{Either}
 use Rattle.pld_device.specs.ControlFuses.{control_fuses}
-use Rattle.pld_device.specs.Macrocells.{complement_if, pin_complements, data_complements, data_rows}
-use Rattle.pld_device.specs.Registers.{says, is_inverted}
-use Rattle.pld_device.specs.Rows.{is_switched_on}
-use Rattle.pld_device.specs.Table.{Table, cell_at, registered_at, IsDataRow}
-use Rattle.pld_order.specs.Graphs.{has}
-use Rattle.bit_expr.specs.Formulas.{Formula, formula_value}
-use Rattle.abel_meaning.specs.Functions.{allows}
-use Rattle.abel_meaning.specs.Netlists.{Wanted, PlainNetlist, wanted_at, function_at, as_named, shared_function}
-use Rattle.abel_meaning.specs.NetlistLogic.{enable_of}
 use Rattle.netlist_laws.specs.RowCovers.{IsValuedFor, is_used, IsPrimeCover, IsExactRow}
 
 -- ---- cells

@@ -1,24 +1,8 @@
 -- The netlist of a module: for each node its function, and for each assigned cell its function and its own controls
 -- (this project's rule, over the definitions of functions and controls).
 use Rattle.std.specs.Prelude.{ℕ, suc, ◌&&◌, Option, None, Some, List, [], ◌∷◌, if◌then◌else◌}
-use Rattle.std.specs.Option.{option_map}
-use Rattle.pld_device.specs.declared.enable.Enable.{Enable}
-use Rattle.pld_device.specs.declared.enable.Enable.TheVariants.{Row, PinLow}
-use Rattle.pld_device.specs.Table.{Table, cell_at}
-use Rattle.bit_expr.specs.Formulas.{Formula}
+use Rattle.netlist_laws.specs.Prelude.{option_map, Enable, Row, PinLow, Table, cell_at, Formula, Kind, APin, ANode, Entry, is_stored, follows_q, ModuleTree, cell_on, is_free, Contribution, control_of, control_if_stored, Context, Design, design_of, formulas, Function, function_of, is_raw_signal, Wanted, PlainNetlist, given_formulas, is_negated}
 use Rattle.abel_tree.specs.declared.words.Extension.TheVariants as extension
-use Rattle.abel_tree.specs.Entries.{Kind, APin, ANode, Entry, is_stored, follows_q}
-use Rattle.abel_tree.specs.Tree.{ModuleTree}
-use Rattle.pld_device.specs.Pins.{cell_on}
-use Rattle.abel_meaning.specs.Choices.{is_free}
-use Rattle.abel_meaning.specs.Contributions.{Contribution}
-use Rattle.abel_meaning.specs.Controls.{control_of, control_if_stored}
-use Rattle.abel_meaning.specs.Designs.{Context, Design, design_of}
-use Rattle.abel_meaning.specs.FormulaBits.{formulas}
-use Rattle.abel_meaning.specs.Functions.{Function, function_of, is_raw_signal}
-use Rattle.abel_meaning.specs.Netlists.{Wanted, PlainNetlist}
-use Rattle.abel_meaning.specs.SignalReads.{given_formulas}
-use Rattle.abel_meaning.specs.SourceLogic.{is_negated}
 
 -- ---- cells
 

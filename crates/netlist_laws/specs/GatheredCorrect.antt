@@ -1,9 +1,5 @@
 -- What the netlist of a module is to the module (this project's rule).
-use Rattle.pld_device.specs.Laws.{IsDevice}
-use Rattle.pld_device.specs.Table.{Table}
-use Rattle.abel_tree.specs.Tree.{ModuleTree}
-use Rattle.abel_meaning.specs.Designs.{design_of}
-use Rattle.abel_meaning.specs.Soundness.{IsSound}
+use Rattle.netlist_laws.specs.Prelude.{IsDevice, Table, ModuleTree, design_of, IsSound}
 use Rattle.netlist_laws.specs.FittedCorrect.{MeansTheSame}
 use Rattle.netlist_laws.specs.Gathered.{netlist_of}
 use Rattle.netlist_laws.specs.Takeable.{RegistersHaveCells, IsTakeable}

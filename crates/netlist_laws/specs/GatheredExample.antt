@@ -1,18 +1,10 @@
 -- A small design and its netlist, worked by hand (this project's example).
 use Rattle.std.specs.Prelude.{◌≡◌, ℕ, Bool, true, false, List, [], ◌∷◌, Option, None, Some, codes}
-use Rattle.pld_base.specs.declared.place.Place.{Place}
-use Rattle.pld_device.specs.SampleTable.{sample}
+use Rattle.netlist_laws.specs.Prelude.{Place, sample, Const, Read, And, Extension, Sign, Kind, APin, ANode, Entry, Statement, AnAssign, Equations, context_of, Design, PlainNetlist}
 use Rattle.bit_expr.specs.declared.node.Leaf.TheVariants as leaf
-use Rattle.bit_expr.specs.Formulas.{Const, Read, And}
 use Rattle.abel_tree.specs.declared.words.Binary.TheVariants as binary
-use Rattle.abel_tree.specs.declared.words.Extension.{Extension}
 use Rattle.abel_tree.specs.declared.words.Extension.TheVariants as extension
-use Rattle.abel_tree.specs.declared.words.Sign.{Sign}
 use Rattle.abel_tree.specs.declared.words.Sign.TheVariants as sign
-use Rattle.abel_tree.specs.Entries.{Kind, APin, ANode, Entry}
-use Rattle.abel_tree.specs.Tree.{Statement, AnAssign, Equations}
-use Rattle.abel_meaning.specs.Designs.{context_of, Design}
-use Rattle.abel_meaning.specs.Netlists.{PlainNetlist}
 use Rattle.netlist_laws.specs.Gathered.{gathered}
 use Rattle.abel_tree.specs.Tree as tree
 

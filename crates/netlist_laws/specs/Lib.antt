@@ -9,6 +9,7 @@ pub mod Gathered
 pub mod GatheredCorrect
 pub mod GatheredExample
 pub mod ModuleCovers
+pub mod Prelude
 pub mod PrimeCorrect
 pub mod PrimeExample
 pub mod RowCovers

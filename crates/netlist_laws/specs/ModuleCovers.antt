@@ -1,18 +1,7 @@
 -- The rows of a device's cells as covers of what a module says of them, without a netlist (two-level minimisation: prime
 -- and irredundant covers; over which points they are so is this project's rule).
 use Rattle.std.specs.Prelude.{◌≡◌, ℕ, ◌<◌, Bool, true, false, not, if◌then◌else◌, List}
-use Rattle.std.specs.List.{list_any}
-use Rattle.pld_base.specs.Bits.{is_on}
-use Rattle.pld_base.specs.Points.{Levels}
-use Rattle.pld_base.specs.Logic.{Logic}
-use Rattle.pld_machine.specs.Comparison.{IsValued}
-use Rattle.pld_device.specs.Macrocells.{complement_if, data_complements, pin_complements, data_rows}
-use Rattle.pld_device.specs.Registers.{stores, is_inverted}
-use Rattle.pld_device.specs.Rows.{row_fuses, row_value}
-use Rattle.pld_device.specs.Table.{Table}
-use Rattle.pld_order.specs.Graphs.{has}
-use Rattle.abel_tree.specs.Tree.{ModuleTree}
-use Rattle.abel_meaning.specs.Choices.{source_logic_under, source_values_under}
+use Rattle.netlist_laws.specs.Prelude.{list_any, is_on, Levels, Logic, IsValued, complement_if, data_complements, pin_complements, data_rows, stores, is_inverted, row_fuses, row_value, Table, has, ModuleTree, source_logic_under, source_values_under}
 use Rattle.netlist_laws.specs.RowCovers.{is_used, value_without, any_other}
 
 -- what the module allows under the choice of its free registers that the fuses show

@@ -1,13 +1,7 @@
 -- Whose rows are prime and irredundant for what a module says, and which cells and controls have rows at all (this
 -- project's rule).
 use Rattle.std.specs.Prelude.{◌≡◌, ℕ, ◌<◌, Bool, List, length, None, Some}
-use Rattle.pld_device.specs.Laws.{IsDevice}
-use Rattle.pld_device.specs.Table.{Table}
-use Rattle.abel_tree.specs.Tree.{ModuleTree}
-use Rattle.abel_meaning.specs.Controls.{signal_on}
-use Rattle.abel_meaning.specs.Designs.{Context, design_of}
-use Rattle.abel_meaning.specs.Netlists.{PlainNetlist}
-use Rattle.abel_meaning.specs.Soundness.{IsSound}
+use Rattle.netlist_laws.specs.Prelude.{IsDevice, Table, ModuleTree, signal_on, Context, design_of, PlainNetlist, IsSound}
 use Rattle.netlist_laws.specs.ExchangedNets.{netlist_shown}
 use Rattle.netlist_laws.specs.Fitting.{IsFitted, IsSpareCell}
 use Rattle.netlist_laws.specs.Gathered.{netlist_of}

@@ -1,14 +1,10 @@
 -- A small module whose netlist is that of the fitted example (this project's example).
+use Rattle.netlist_laws.specs.Prelude.{Place, sample, Extension, Sign, Statement, AnAssign, AName, Declaration, SomePins, Equations, ModuleTree}
 use Prim.Native.String.{String}
 use Rattle.std.specs.Prelude.{ℕ, false, Option, None, Some, List, [], ◌∷◌, codes}
-use Rattle.pld_base.specs.declared.place.Place.{Place}
-use Rattle.pld_device.specs.SampleTable.{sample}
-use Rattle.abel_tree.specs.declared.words.Extension.{Extension}
 use Rattle.abel_tree.specs.declared.words.Extension.TheVariants as extension
-use Rattle.abel_tree.specs.declared.words.Sign.{Sign}
 use Rattle.abel_tree.specs.declared.words.Sign.TheVariants as sign
 use Rattle.abel_tree.specs.declared.words.Word.{Word}
-use Rattle.abel_tree.specs.Tree.{Statement, AnAssign, AName, Declaration, SomePins, Equations, ModuleTree}
 use Rattle.netlist_laws.specs.FittedExample.{example_fuses}
 use Rattle.netlist_laws.specs.ModuleCovers.{HasPrimeRows}
 

@@ -1,16 +1,7 @@
 -- Rows of a device's array as covers of a function, without a cube (a cover's rows that are prime and irredundant: the
 -- literature of two-level minimisation; over which points they are so is this project's rule).
 use Rattle.std.specs.Prelude.{◌≡◌, ℕ, ◌<◌, Bool, true, false, not, ◌&&◌, ◌==◌, List, [], ◌∷◌, set}
-use Rattle.std.specs.List.{list_any}
-use Rattle.pld_base.specs.Bits.{is_on}
-use Rattle.pld_base.specs.Points.{Levels}
-use Rattle.pld_device.specs.Rows.{columns_of, pair_values, row_fuses, is_switched_on, row_is_true, row_value}
-use Rattle.pld_device.specs.Table.{Table}
-use Rattle.pld_machine.specs.Comparison.{IsValued, IsValuedOf}
-use Rattle.pld_order.specs.Graphs.{has}
-use Rattle.bit_expr.specs.Formulas.{Formula, formula_value}
-use Rattle.abel_meaning.specs.Netlists.{PlainNetlist}
-use Rattle.abel_meaning.specs.NetlistLogic.{netlist_logic, netlist_values}
+use Rattle.netlist_laws.specs.Prelude.{list_any, is_on, Levels, columns_of, pair_values, row_fuses, is_switched_on, row_is_true, row_value, Table, IsValued, IsValuedOf, has, Formula, formula_value, PlainNetlist, netlist_logic, netlist_values}
 
 -- a point whose nodes have their values with any as 0
 abbrev pub IsValuedFor : Table → PlainNetlist → Levels → Type 0

@@ -1,12 +1,7 @@
 -- What the contributions of a module read: the walk over its sections, with the signals that terms use in place of
 -- their values (this project's rule).
 use Rattle.std.specs.Prelude.{ℕ, Bool, false, Option, List, [], ◌∷◌, ◌++◌, replicate}
-use Rattle.std.specs.List.{list_any}
-use Rattle.bit_expr.specs.declared.node.Leaf.{Leaf}
-use Rattle.bit_expr.specs.Formulas.{same_leaf}
-use Rattle.abel_tree.specs.declared.words.Extension.{Extension}
-use Rattle.abel_meaning.specs.Contributions.{Evaluator, Contribution}
-use Rattle.abel_meaning.specs.Designs.{Context, Design}
+use Rattle.netlist_laws.specs.Prelude.{list_any, Leaf, same_leaf, Extension, Evaluator, Contribution, Context, Design}
 use Rattle.abel_meaning.specs.Sections.{contributions}
 use Rattle.abel_meaning.specs.Sources.{Source, Zero, Held, source_of}
 use Rattle.abel_meaning.specs.Terms.{Term, Terms, Number, X, Pulse, Release, Read, Set, UnaryOf, BinaryOf, NoTerm, Before}

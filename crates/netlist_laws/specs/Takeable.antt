@@ -2,25 +2,9 @@
 -- devices' datasheets).
 use Rattle.std.specs.Prelude.{◌≡◌, ℕ, ◌<◌, Bool, true, false, Option, None, Some, IsSome, List, length, slice_get}
 use Rattle.pld_device.specs.declared.carry.Carry.TheVariants as carry
-use Rattle.pld_device.specs.declared.enable.Enable.{Enable}
-use Rattle.pld_device.specs.declared.enable.Enable.TheVariants.{Row, PinLow}
-use Rattle.pld_device.specs.declared.flip.Flip.TheVariants.{AfterRegister}
-use Rattle.pld_device.specs.Pins.{IsPairOf}
-use Rattle.pld_device.specs.Table.{Table, cell_at}
-use Rattle.bit_expr.specs.declared.node.Leaf.{Leaf}
+use Rattle.netlist_laws.specs.Prelude.{Enable, Row, PinLow, AfterRegister, IsPairOf, Table, cell_at, Leaf, Formula, Extension, ANode, Entry, is_stored, follows_q, is_free, Contribution, is_pin, cell_stores, control_of, Context, Design, name_at, formulas, is_raw_signal, given_formulas, HasNoSignalLoop, HasNoSignalPath, MayRegister}
 use Rattle.bit_expr.specs.declared.node.Leaf.TheVariants as leaf
-use Rattle.bit_expr.specs.Formulas.{Formula}
-use Rattle.abel_tree.specs.declared.words.Extension.{Extension}
 use Rattle.abel_tree.specs.declared.words.Extension.TheVariants as extension
-use Rattle.abel_tree.specs.Entries.{ANode, Entry, is_stored, follows_q}
-use Rattle.abel_meaning.specs.Choices.{is_free}
-use Rattle.abel_meaning.specs.Contributions.{Contribution}
-use Rattle.abel_meaning.specs.Controls.{is_pin, cell_stores, control_of}
-use Rattle.abel_meaning.specs.Designs.{Context, Design, name_at}
-use Rattle.abel_meaning.specs.FormulaBits.{formulas}
-use Rattle.abel_meaning.specs.Functions.{is_raw_signal}
-use Rattle.abel_meaning.specs.SignalReads.{given_formulas, HasNoSignalLoop, HasNoSignalPath}
-use Rattle.abel_meaning.specs.Soundness.{MayRegister}
 use Rattle.netlist_laws.specs.Gathered.{cell_of}
 use Rattle.netlist_laws.specs.SignalUses.{SignalUse, given_uses, uses_read}
 

@@ -1,7 +1,6 @@
 //! Laws of netlists under a choice, as the contracts of calls that do nothing.
 
-ghost use Rattle.netlist_laws.specs.ExchangedCorrect.{ExchangedIsSound, ExchangedMeansSo, FreeMayExchange};
-ghost use Rattle.netlist_laws.specs.ExchangedCorrect.{SameChoiceValues, SameChoices, ShownIsSound};
+ghost use Rattle.netlist_laws.specs.ExchangedCorrect.{ExchangedIsSound, ExchangedMeansSo, FreeMayExchange, SameChoiceValues, SameChoices, ShownIsSound};
 
 /// A netlist some of whose registers are exchanged allows what its logic allows with these exchanged, and a device can take
 /// it where it can take the netlist. Does nothing.
