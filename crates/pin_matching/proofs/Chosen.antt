@@ -1,12 +1,6 @@
 -- The pin of one signal after another, and that the first assignment is made so.
 use Rattle.std.proofs.Common.{◌≡◌, ℕ, zero, suc, ◌<◌, ◌≤◌, true, not, ◌||◌, eqb, List, [], ◌∷◌, ◌++◌, length, get_or, take, refl, ap, sym, ◌∙◌, subst, arith, inl, inr, eqb-true}
-use Rattle.std.proofs.lemmas.Bool.{true≢false, cases_lt, and_parts, or_cases}
-use Rattle.std.proofs.lemmas.List.{length_push, length-take, get_or-take, get_or_append_left, get_or_push, take-append-le, ext_get_or}
-use Rattle.std.proofs.Math.Seq.{take-length}
-use Rattle.pin_matching.specs.Assignments.{fits, wish_of, stands_before, IsAssignment, CanPlace, CannotPlace, IsTaken}
-use Rattle.pin_matching.specs.Choice.{AreBest, IsBest}
-use Rattle.pin_matching.specs.Search.{narrowed}
-use Rattle.pld_order.proofs.Lists.{eqb_same, place_of}
+use Rattle.pin_matching.proofs.Common.{true≢false, cases_lt, and_parts, or_cases, length_push, length-take, get_or-take, get_or_append_left, get_or_push, take-append-le, ext_get_or, take-length, fits, wish_of, stands_before, IsAssignment, CanPlace, CannotPlace, IsTaken, AreBest, IsBest, narrowed, eqb_same, place_of}
 use Rattle.pin_matching.proofs.Lists.{has_at}
 use Rattle.pin_matching.proofs.Narrowed.{length_narrowed, fits_fixed, fits_later}
 

@@ -1,15 +1,6 @@
 -- Hall's condition: pins that fit a set, and a set that has fewer of them than members.
 use Rattle.std.proofs.Common.{◌≡◌, ℕ, suc, ◌<◌, ◌≤◌, Bool, true, ◌||◌, eqb, List, [], ◌∷◌, ◌++◌, length, get_or, map, refl, ap, sym, ◌∙◌, subst, arith, inl, inr}
-use Rattle.std.specs.List.{IsDistinct, list_any, flat_map}
-use Rattle.std.specs.Set.{unique_keys}
-use Rattle.std.proofs.lemmas.Bool.{true≢false, or_cases, or_left, or_right}
-use Rattle.std.proofs.lemmas.List.{get_or-map, length-map}
-use Rattle.std.proofs.lemmas.List.Folds.{list_any-append, list_any_at}
-use Rattle.std.proofs.lemmas.Map.Made.{length-from_same_keys}
-use Rattle.std.specs.Cmp.{nat_eq_equiv}
-use Rattle.pld_order.specs.Graphs.{has}
-use Rattle.pin_matching.specs.Assignments.{wish_of, fits, places, IsAssignment, IsCrowded}
-use Rattle.pld_order.proofs.Lists.{eqb_same, place_of}
+use Rattle.pin_matching.proofs.Common.{IsDistinct, list_any, flat_map, unique_keys, true≢false, or_cases, or_left, or_right, get_or-map, length-map, list_any-append, list_any_at, length-from_same_keys, nat_eq_equiv, has, wish_of, fits, places, IsAssignment, IsCrowded, eqb_same, place_of}
 use Rattle.pin_matching.proofs.Lists.{has_at, fewer, all_of, unique_has, unique_once, same_place, once_by_places}
 
 -- the pins that fit some signal of a set, one after the other

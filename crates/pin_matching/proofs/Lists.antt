@@ -1,16 +1,7 @@
 -- Lists that have each number once, and which of two is the longer one.
 use Rattle.std.proofs.Common.{◌≡◌, ℕ, suc, ◌<◌, ◌≤◌, true, false, ◌||◌, ◌&&◌, not, eqb, List, [], ◌∷◌, ◌++◌, length, get_or, refl, ap, sym, ◌∙◌, subst, arith, inl, inr, eqb-true, ne_eqb}
-use Rattle.std.specs.List.{IsDistinct, filter}
-use Rattle.std.specs.Set.{unique_keys}
-use Rattle.std.specs.Cmp.{nat_eq_equiv}
-use Rattle.std.proofs.lemmas.Bool.{true≢false, false_from_ne_true, cases_Bool, cases_lt, eq-eqb, or_left, or_right}
-use Rattle.std.proofs.lemmas.List.{get_or_default, length_push}
-use Rattle.std.proofs.lemmas.List.Folds.{list_any_at}
+use Rattle.pin_matching.proofs.Common.{IsDistinct, filter, unique_keys, nat_eq_equiv, true≢false, false_from_ne_true, cases_Bool, cases_lt, eq-eqb, or_left, or_right, get_or_default, length_push, list_any_at, apart_from_distinct, IsDistinct-from_apart, IsDistinct-tail, IsDistinct-cons, length-le_from_is_member, is_member-filter, has, eqb_same, has_none, has_push, once_push}
 use Rattle.std.proofs.lemmas.List.Elements.{recursion_from_All}
-use Rattle.std.proofs.lemmas.Map.Keys.{apart_from_distinct, IsDistinct-from_apart, IsDistinct-tail, IsDistinct-cons}
-use Rattle.std.proofs.lemmas.Map.Made.{length-le_from_is_member, is_member-filter}
-use Rattle.pld_order.specs.Graphs.{has}
-use Rattle.pld_order.proofs.Lists.{eqb_same, has_none, has_push, once_push}
 
 pub has_at : (xs : List ℕ) (i : ℕ) → i < length xs → has xs (get_or xs i 0) ≡ true
 has_at xs i low = list_any_at (eqb (get_or xs i 0)) xs i 0 low (eqb_same (get_or xs i 0))

@@ -1,10 +1,6 @@
 -- Wishes cut short, and wishes where the first signals have pins already.
 use Rattle.std.proofs.Common.{◌≡◌, ℕ, ◌-◌, ◌<◌, ◌≤◌, Bool, true, false, ◌||◌, eqb, List, [], ◌∷◌, length, get_or, take, drop, map, refl, ap, sym, ◌∙◌, arith, length-append, length-drop}
-use Rattle.std.specs.List.{IsDistinct}
-use Rattle.std.proofs.lemmas.List.{get_or-map, get_or-take, get_or-drop, get_or_append_left, get_or-append_right, length-map, length-take}
-use Rattle.pld_order.specs.Graphs.{has}
-use Rattle.pin_matching.specs.Assignments.{wish_of, fits, IsAssignment}
-use Rattle.pin_matching.specs.Search.{narrowed}
+use Rattle.pin_matching.proofs.Common.{IsDistinct, get_or-map, get_or-take, get_or-drop, get_or_append_left, get_or-append_right, length-map, length-take, has, wish_of, fits, IsAssignment, narrowed}
 use Rattle.pin_matching.proofs.Lists.{once_by_places, same_place}
 
 pub wish_front : (wishes : List (List ℕ)) (n s : ℕ) → s < n → wish_of (take n wishes) s ≡ wish_of wishes s

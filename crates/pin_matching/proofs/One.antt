@@ -1,13 +1,7 @@
 -- One assignment is taken, and one set is kept.
 use Rattle.std.proofs.Common.{◌≡◌, ◌⊎◌, ℕ, zero, suc, ◌<◌, ◌≤◌, true, eqb, List, [], ◌∷◌, length, get_or, take, refl, ap, sym, ◌∙◌, subst, arith, inl, inr, eqb-true, ne_eqb, add-one}
-use Rattle.std.specs.List.Sorted.{IsStrictlySortedBy}
+use Rattle.pin_matching.proofs.Common.{IsStrictlySortedBy, true≢false, cases_eq, cases_lt, or_cases, or_left, or_right, take_more_same, ext_get_or, sorted_from_strictly_increasing, below_from_sorted, sorted_tail, has, wish_of, stands_before, IsAssignment, CannotPlace, IsTaken, IsKept, IsFirstUnplaced, IsCrowded, places, eqb_same, place_of}
 use Rattle.std.specs.Ordering.{nat_cmp}
-use Rattle.std.proofs.lemmas.Bool.{true≢false, cases_eq, cases_lt, or_cases, or_left, or_right}
-use Rattle.std.proofs.lemmas.List.{take_more_same, ext_get_or}
-use Rattle.std.proofs.lemmas.Map.Keys.{sorted_from_strictly_increasing, below_from_sorted, sorted_tail}
-use Rattle.pld_order.specs.Graphs.{has}
-use Rattle.pin_matching.specs.Assignments.{wish_of, stands_before, IsAssignment, CannotPlace, IsTaken, IsKept, IsFirstUnplaced, IsCrowded, places}
-use Rattle.pld_order.proofs.Lists.{eqb_same, place_of}
 use Rattle.pin_matching.proofs.Narrowed.{front}
 
 -- of two numbers that a list has, one stands before the other

@@ -1,11 +1,6 @@
 -- The signals that the next one reaches, one more at a time.
 use Rattle.std.proofs.Common.{◌≡◌, ℕ, suc, ◌<◌, ◌≤◌, true, List, [], ◌∷◌, ◌++◌, length, get_or, refl, sym, ◌∙◌, subst, arith, inl, inr}
-use Rattle.std.specs.List.{IsDistinct}
-use Rattle.std.proofs.lemmas.Bool.{true≢false, cases_lt}
-use Rattle.std.proofs.lemmas.List.{length_push, get_or_append_left, get_or_push}
-use Rattle.pin_matching.specs.Assignments.{fits}
-use Rattle.pin_matching.specs.Search.{AreLed, AreReached, LeadsOn}
-use Rattle.pld_order.proofs.Lists.{few, has_push, once_push}
+use Rattle.pin_matching.proofs.Common.{IsDistinct, true≢false, cases_lt, length_push, get_or_append_left, get_or_push, fits, AreLed, AreReached, LeadsOn, few, has_push, once_push}
 use Rattle.pin_matching.proofs.Lists.{once_cons}
 
 -- at first the next signal alone

@@ -1,12 +1,6 @@
 -- Pins that move from signal to signal until the next one has a pin.
 use Rattle.std.proofs.Common.{◌≡◌, ℕ, suc, ◌<◌, ◌≤◌, true, false, eqb, List, [], ◌∷◌, ◌++◌, length, get_or, set, take, refl, ap, sym, ◌∙◌, subst, arith, inl, inr, get_or-set_same, get_or-set_other}
-use Rattle.std.specs.List.{IsDistinct}
-use Rattle.std.proofs.lemmas.Bool.{true≢false, cases_eq, cases_lt}
-use Rattle.std.proofs.lemmas.List.{length_push, length-take, length-set, get_or_append_left, get_or_push}
-use Rattle.pld_order.specs.Graphs.{has}
-use Rattle.pin_matching.specs.Assignments.{fits, IsAssignment}
-use Rattle.pin_matching.specs.Search.{AreLed, AreReached, IsBegun, IsFirstFitting, IsFreePin}
-use Rattle.pld_order.proofs.Lists.{has_none, once_push}
+use Rattle.pin_matching.proofs.Common.{IsDistinct, true≢false, cases_eq, cases_lt, length_push, length-take, length-set, get_or_append_left, get_or_push, has, fits, IsAssignment, AreLed, AreReached, IsBegun, IsFirstFitting, IsFreePin, has_none, once_push}
 use Rattle.pin_matching.proofs.Lists.{has_at, same_place, once_by_places}
 use Rattle.pin_matching.proofs.Narrowed.{fits_front}
 

@@ -1,17 +1,7 @@
 -- Where the next signal reaches no free pin, the signals that it reaches are the least crowded set.
 use Rattle.std.proofs.Common.{◌≡◌, ℕ, zero, suc, ◌<◌, ◌≤◌, true, false, not, eqb, List, [], ◌∷◌, length, get_or, take, refl, ap, sym, ◌∙◌, subst, arith, inl, inr, eqb-true}
-use Rattle.std.specs.List.{IsDistinct}
-use Rattle.std.specs.Set.{distinct_count}
-use Rattle.std.specs.List.Sorted.{IsPermutation, IsStrictlyIncreasing}
-use Rattle.std.proofs.lemmas.Bool.{true≢false, cases_Bool, cases_eq, or_cases, or_right, and_parts}
-use Rattle.std.proofs.lemmas.List.{length-take}
-use Rattle.std.proofs.lemmas.List.Sorted.{list_any-IsPermutation}
-use Rattle.std.proofs.lemmas.Map.Keys.{IsDistinct-tail}
-use Rattle.pld_order.specs.Graphs.{has}
-use Rattle.pin_matching.specs.Assignments.{fits, places, IsCrowded, IsKept}
-use Rattle.pin_matching.specs.Search.{AreReached, AreStuck, IsBegun, IsClosed, NoneIsFree}
+use Rattle.pin_matching.proofs.Common.{IsDistinct, distinct_count, IsPermutation, IsStrictlyIncreasing, true≢false, cases_Bool, cases_eq, or_cases, or_right, and_parts, length-take, list_any-IsPermutation, IsDistinct-tail, has, fits, places, IsCrowded, IsKept, AreReached, AreStuck, IsBegun, IsClosed, NoneIsFree, eqb_same, place_of}
 use Rattle.pin_matching.proofs.Hall.{fitting, has_fitting, fits_member, member_fitted, places_le, le_places, full_places, same_fitting, same_places, pins_of, pins_once, length_pins_of, signal_of, has_pin_of, assigned_fit, not_crowded}
-use Rattle.pld_order.proofs.Lists.{eqb_same, place_of}
 use Rattle.pin_matching.proofs.Lists.{has_at, head_out, same_place, without, has_without, once_without, length_without}
 use Rattle.pin_matching.proofs.Narrowed.{wish_front, fits_front}
 

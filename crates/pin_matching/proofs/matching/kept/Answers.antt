@@ -1,8 +1,5 @@
 use Rattle.std.proofs.Common.{◌-◌, eqb, arith}
-use Rattle.std.proofs.lemmas.List.Sorted.{IsNonDecreasingBy-from_sort, length_permutation}
-use Rattle.std.proofs.lemmas.Map.Keys.{IsDistinct-IsPermutation, IsStrictlyIncreasing-from_distinct}
-use Rattle.pin_matching.specs.Search.{narrowed}
-use Rattle.pld_order.proofs.Lists.{eqb_flips}
+use Rattle.pin_matching.proofs.Common.{IsNonDecreasingBy-from_sort, length_permutation, IsDistinct-IsPermutation, IsStrictlyIncreasing-from_distinct, narrowed, eqb_flips}
 use Rattle.pin_matching.proofs.Stuck.{kept_is}
 use Rattle.pin_matching.proofs.matching.kept.Goals as goal
 

@@ -1,7 +1,5 @@
 use Rattle.std.proofs.Common.{◌<◌, length, get_or, slice_set, sym, ◌∙◌, subst, arith}
-use Rattle.std.proofs.lemmas.Bool.{true≢false}
-use Rattle.std.proofs.lemmas.List.{get_or_read}
-use Rattle.pin_matching.specs.Search.{IsFirstFitting, NoneFits, narrowed}
+use Rattle.pin_matching.proofs.Common.{true≢false, get_or_read, IsFirstFitting, NoneFits, narrowed}
 use Rattle.pin_matching.proofs.Shifts.{IsShifting, shifted_all, signal_placed, earlier, shifted}
 use Rattle.pin_matching.proofs.matching.shift.Goals as goal
 

@@ -1,5 +1,5 @@
 use Rattle.std.proofs.Common.{◌≡◌, false, take}
-use Rattle.pld_order.specs.Graphs.{has}
+use Rattle.pin_matching.proofs.Common.{has}
 use Rattle.pin_matching.proofs.reaching.is_reached.Given as goal
 
 abbrev pub invariant-loop-s : goal.invariant-loop-s

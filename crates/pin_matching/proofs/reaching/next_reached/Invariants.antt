@@ -1,6 +1,5 @@
 use Rattle.std.proofs.Common.{◌≡◌, ℕ, ◌<◌, false, get_or}
-use Rattle.pld_order.specs.Graphs.{has}
-use Rattle.pin_matching.specs.Search.{NoneFits, narrowed}
+use Rattle.pin_matching.proofs.Common.{has, NoneFits, narrowed}
 use Rattle.pin_matching.proofs.reaching.next_reached.Given as goal
 
 abbrev pub invariant-loop-t : goal.invariant-loop-t

@@ -1,7 +1,5 @@
 use Rattle.std.proofs.Common.{◌≡◌, ℕ, ◌<◌, true, get_or}
-use Rattle.pld_order.specs.Graphs.{has}
-use Rattle.pin_matching.specs.Assignments.{fits}
-use Rattle.pin_matching.specs.Search.{narrowed}
+use Rattle.pin_matching.proofs.Common.{has, fits, narrowed}
 use Rattle.pin_matching.proofs.reaching.open_place.Given as goal
 
 abbrev pub invariant-loop-i : goal.invariant-loop-i

@@ -1,6 +1,5 @@
 use Rattle.std.proofs.Common.{◌≡◌, true, subst, arith}
-use Rattle.pld_order.specs.Graphs.{has}
-use Rattle.pld_order.proofs.Lists.{place_of}
+use Rattle.pin_matching.proofs.Common.{has, place_of}
 use Rattle.pin_matching.proofs.wishes.one_outside.Goals as goal
 
 pub returns-clause-none : goal.returns-clause-none

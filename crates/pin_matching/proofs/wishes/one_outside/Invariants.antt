@@ -1,5 +1,5 @@
 use Rattle.std.proofs.Common.{◌≡◌, ℕ, ◌<◌, true, get_or}
-use Rattle.pld_order.specs.Graphs.{has}
+use Rattle.pin_matching.proofs.Common.{has}
 use Rattle.pin_matching.proofs.wishes.one_outside.Given as goal
 
 abbrev pub invariant-loop-pin : goal.invariant-loop-pin
