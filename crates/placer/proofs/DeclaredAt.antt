@@ -1,12 +1,7 @@
 -- Declared names by their numbers, as the definitions see them.
 use Rattle.std.proofs.Common.{◌≡◌, ℕ, suc, ◌+◌, ◌<◌, ◌≤◌, Bool, true, false, List, [], ◌∷◌, if◌then◌else◌, drop, length, map, get_or, refl, sym, ap, ◌∙◌, add-one}
 use Rattle.std.specs.Prelude.{bytes_eq}
-use Rattle.std.proofs.Math.Seq.{drop-cons}
-use Rattle.std.proofs.lemmas.List.{drop_all, get_or-map}
-use Rattle.abel_tree.specs.declared.names.Declared.{Declared}
-use Rattle.abel_tree.specs.Entries.{Entry, view_declared}
-use Rattle.abel_meaning.specs.Designs.{no_name}
-use Rattle.placer.specs.Placements.{dc_of}
+use Rattle.placer.proofs.Common.{drop-cons, drop_all, get_or-map, Declared, Entry, view_declared, no_name, dc_of}
 
 module _ (ds : List Declared) (k : ℕ) (d : Declared) (low : k < length ds) (at : d ≡ get_or ds k d) where
   pub seen_at : get_or (map view_declared ds) k no_name ≡ view_declared d

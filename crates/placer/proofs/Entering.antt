@@ -1,25 +1,9 @@
 -- Names that are declared, and the same names with their pins: where nothing is refused of the ones, nothing is of the others.
 use Rattle.std.proofs.Common.{◌≡◌, ℕ, ◌≤◌, ◌==◌, nat_le, nat_lt, Bool, true, false, not, ◌||◌, ◌&&◌, Option, None, Some, List, [], ◌∷◌, ◌++◌, map, length, if◌then◌else◌, refl, sym, ap, ap₂, subst, ◌∙◌, append_assoc, arith, inl, inr}
 use Rattle.std.specs.Prelude.{is_some, unwrap_or}
-use Rattle.std.proofs.lemmas.Bool.{true≢false, cases_Bool}
-use Rattle.std.proofs.lemmas.Bool.Decides.{nat_tests}
-use Rattle.std.proofs.lemmas.List.{append-nil}
-use Rattle.pld_device.specs.Table.{Table}
-use Rattle.abel_tree.specs.declared.words.Word.{Word}
-use Rattle.abel_tree.specs.Entries.{Kind, APin, ANode, AConstant, ADeviceName, Words, Entry, kind_of}
-use Rattle.abel_tree.specs.Tree.{Tree}
-use Rattle.abel_meaning.specs.Declarations.{GivenName, entry, no_words, is_unnumbered, pin_entries, constant_entries}
+use Rattle.placer.proofs.Common.{true≢false, cases_Bool, nat_tests, append-nil, Table, Word, Kind, APin, ANode, AConstant, ADeviceName, Words, Entry, kind_of, Tree, GivenName, entry, no_words, is_unnumbered, pin_entries, constant_entries, is_on_pin, is_taken, refused_if, is_signal_pin, node_limit, number_refused, name_refused, names_refused, kind_append, or_else, any_append, none_left, none_right, not_refused, Extends, same_name, Pinned, is_node}
 use Rattle.decls.specs.declared.fault.NameFault.{NameFault}
 use Rattle.decls.specs.declared.fault.NameFault.TheVariants as fault
-use Rattle.decls.specs.NamesBefore.{is_on_pin, is_taken}
-use Rattle.decls.specs.Refused.{refused_if, is_signal_pin, node_limit, number_refused, name_refused, names_refused}
-use Rattle.decls.proofs.FirstNames.{kind_append, or_else}
-use Rattle.decls.proofs.Folded.{any_append}
-use Rattle.decls.proofs.NoRefusals.{none_left, none_right, not_refused}
-use Rattle.decls.proofs.NamesAlike.{Extends}
-use Rattle.decls.proofs.Placed.{same_name}
-use Rattle.placer.specs.PlacedModule.{Pinned}
-use Rattle.placer.specs.Placements.{is_node}
 use Rattle.placer.proofs.PlacedNames.{IsPlacedKind, placed_words, IsPlacedName, ArePlaced, IsGiven, placed_push, same_known, taken_from}
 
 -- these names are among all names of the module

@@ -1,17 +1,9 @@
 -- What is found of the first 32 signals is found of all: a device has fewer pins.
 use Rattle.std.proofs.Common.{◌≡◌, ℕ, zero, suc, ◌<◌, ◌≤◌, Bool, true, ◌&&◌, List, [], ◌∷◌, eqb, length, get_or, min, take, refl, ap, subst, ◌∙◌, arith}
+use Rattle.placer.proofs.Common.{and_parts, get_or-map, length-map, length-take, take_all, Table, has, few, place_of, Entry, no_name, CanPlace, CannotPlace, IsAssignment, IsKept, IsLeastCrowded, wish_of, is_free, pin_fits, preferred, to_place, wish, wishes}
 use Rattle.std.specs.Set.{distinct_count}
-use Rattle.std.proofs.lemmas.Bool.{and_parts}
-use Rattle.std.proofs.lemmas.List.{get_or-map, length-map, length-take, take_all}
-use Rattle.pld_device.specs.Table.{Table}
-use Rattle.pld_order.specs.Graphs.{has}
-use Rattle.pld_order.proofs.Lists.{few, place_of}
-use Rattle.abel_tree.specs.Entries.{Entry}
-use Rattle.abel_meaning.specs.Designs.{no_name}
-use Rattle.pin_matching.specs.Assignments.{CanPlace, CannotPlace, IsAssignment, IsKept, IsLeastCrowded, wish_of}
 use Rattle.pin_matching.proofs.Hall.{same_fitting}
 use Rattle.pin_matching.proofs.Narrowed.{wish_front}
-use Rattle.placer.specs.Signals.{is_free, pin_fits, preferred, to_place, wish, wishes}
 use Rattle.placer.proofs.FittingPins.{kept_passes}
 use Rattle.placer.proofs.Free.{free_is_low}
 

@@ -1,20 +1,8 @@
 -- On a pin that fits it, a signal has a cell that can be what it is, and a column for its bare name.
 use Rattle.std.proofs.Common.{◌≡◌, ℕ, ◌<◌, Bool, true, false, not, ◌&&◌, ◌||◌, None, is_some, List, [], length, get_or, refl, sym, ap, ◌∙◌, subst, eqb-true}
+use Rattle.placer.proofs.Common.{filter, true≢false, and_parts, get_or-map, length-map, Table, APin, Entry, is_stored, cell_on, no_name, has, IsAssignment, wish_of, HasFittingPin, has_wrong_kind, has_wrong_kind_on, has_read_path, has_read_path_on, reads_by, has_cell_for, is_free, pin_fits, preferred, to_place, wish, wishes}
 use Rattle.std.specs.Cmp.{nat_eq_equiv}
-use Rattle.std.specs.List.{filter}
-use Rattle.std.proofs.lemmas.Bool.{true≢false, and_parts}
-use Rattle.std.proofs.lemmas.List.{get_or-map, length-map}
 use Rattle.std.proofs.lemmas.Map.Made.{is_member-filter}
-use Rattle.pld_device.specs.Table.{Table}
-use Rattle.abel_tree.specs.Entries.{APin, Entry, is_stored}
-use Rattle.pld_device.specs.Pins.{cell_on}
-use Rattle.abel_meaning.specs.Designs.{no_name}
-use Rattle.pld_order.specs.Graphs.{has}
-use Rattle.pin_matching.specs.Assignments.{IsAssignment, wish_of}
-use Rattle.placer.specs.Following.{HasFittingPin}
-use Rattle.design_checks.specs.SignalsRefused.{has_wrong_kind, has_wrong_kind_on}
-use Rattle.design_checks.specs.RefusedUses.{has_read_path, has_read_path_on, reads_by}
-use Rattle.placer.specs.Signals.{has_cell_for, is_free, pin_fits, preferred, to_place, wish, wishes}
 
 not_true : (b : Bool) → not b ≡ true → b ≡ false
 not_true true h = absurd (true≢false (sym h))

@@ -1,17 +1,6 @@
 -- The free pins, bit by bit.
 use Rattle.std.proofs.Common.{◌≡◌, ◌≢◌, ℕ, ◌+◌, ◌<◌, ◌≤◌, ◌==◌, nat_lt, Bool, true, false, not, ◌&&◌, List, length, set, refl, sym, ap, subst, ◌∙◌, arith, get_or-set_same, get_or-set_other, inl, inr}
-use Rattle.std.specs.List.{list_any}
-use Rattle.std.proofs.lemmas.Bool.{cases_eq, cases_lt}
-use Rattle.std.proofs.lemmas.Bool.Decides.{nat_tests}
-use Rattle.std.proofs.lemmas.List.{get_or_past}
-use Rattle.pld_base.specs.Bits.{bits, is_on}
-use Rattle.pld_base.proofs.BitLemmas.{is_on-zero, length-bits}
-use Rattle.pld_device.specs.declared.cell.Cell.{Cell}
-use Rattle.pld_device.specs.Table.{Table}
-use Rattle.abel_tree.specs.Entries.{Entry}
-use Rattle.decls.specs.NamesBefore.{is_taken}
-use Rattle.placer.specs.Signals.{is_enabled_by, is_free}
-use Rattle.placer.specs.Wanted.{AreFree}
+use Rattle.placer.proofs.Common.{list_any, cases_eq, cases_lt, nat_tests, get_or_past, bits, is_on, is_on-zero, length-bits, Cell, Table, Entry, is_taken, is_enabled_by, is_free, AreFree}
 
 -- a free pin is one of the device's, and not its last
 pub free_is_low : (t : Table) (es : List Entry) (pin : ℕ) → is_free t es pin ≡ true → pin < t.pins

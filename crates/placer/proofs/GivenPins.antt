@@ -1,38 +1,12 @@
 -- The pins of an assignment, name by name.
 use Rattle.std.proofs.Common.{◌≡◌, ℕ, zero, suc, ◌+◌, ◌<◌, ◌==◌, Bool, true, false, not, ◌&&◌, ◌||◌, Option, None, Some, List, [], ◌∷◌, ◌++◌, length, get_or, if◌then◌else◌, refl, sym, ap, ap₂, subst, ◌∙◌, arith, inl, inr}
 use Rattle.std.specs.Prelude.{is_some, bytes_eq}
-use Rattle.std.specs.List.{list_any}
-use Rattle.std.proofs.lemmas.Bool.{true≢false, and_parts, cases_lt, or_cases}
-use Rattle.std.proofs.lemmas.List.{length-map}
-use Rattle.std.proofs.lemmas.Option.{slice_get-get_or}
-use Rattle.pld_device.specs.declared.cell.Cell.{Cell}
-use Rattle.pld_device.specs.declared.flip.Flip.{Flip}
+use Rattle.placer.proofs.Common.{list_any, true≢false, and_parts, cases_lt, or_cases, length-map, slice_get-get_or, Cell, Flip, Table, Named, list_assigns, named_of, sections_assign, Kind, APin, ANode, AConstant, ADeviceName, Entry, find, kind_of, is_value, passes, names_any, ModuleTree, list_uses, declared_names, is_unnumbered, no_name, holds_of, is_buffer_by_default, names_of, always_inverts, name_refusals, is_taken, is_signal_pin, uses_refused, same_bytes, Alike, alike_kinds, alike_settled, entries_sound, found_at, kind_at, same_name, is_registered_node, IsAssignment, Pinned, released, Pins, with_pins, is_node, pin_of, node_pin_of, all_released, is_buried_register, is_enabled_by, is_free, needs_pin, to_place, to_place_from, wish, wishes}
 use Rattle.pld_device.specs.declared.flip.Flip.TheVariants.{Always, AfterRegister, BeforeRegister}
 use Rattle.pld_device.specs.Macrocells.{pin_complements}
-use Rattle.pld_device.specs.Table.{Table}
-use Rattle.abel_tree.specs.Assigned.{Named, list_assigns, named_of, sections_assign}
-use Rattle.abel_tree.specs.Entries.{Kind, APin, ANode, AConstant, ADeviceName, Entry, find, kind_of, is_value, passes, names_any}
-use Rattle.abel_tree.specs.Tree.{ModuleTree}
-use Rattle.abel_tree.specs.Uses.{list_uses}
-use Rattle.abel_meaning.specs.Declarations.{declared_names, is_unnumbered}
-use Rattle.abel_meaning.specs.Designs.{no_name}
-use Rattle.abel_meaning.specs.Held.{holds_of}
-use Rattle.abel_meaning.specs.Kinds.{is_buffer_by_default, names_of}
 use Rattle.decls.specs.declared.fault.NameFault.TheVariants as fault
-use Rattle.decls.specs.NameRefusals.{always_inverts, name_refusals}
-use Rattle.decls.specs.NamesBefore.{is_taken}
-use Rattle.decls.specs.Refused.{is_signal_pin, uses_refused}
-use Rattle.decls.proofs.FirstNames.{same_bytes}
-use Rattle.decls.proofs.NamesAlike.{Alike, alike_kinds, alike_settled}
-use Rattle.declared_names.proofs.Exact.{entries_sound}
-use Rattle.decls.proofs.Placed.{found_at, kind_at, same_name}
 use Rattle.decls.proofs.SoundEntries.{AreSound, taken_alike}
-use Rattle.design_checks.specs.SignalsRefused.{is_registered_node}
-use Rattle.pin_matching.specs.Assignments.{IsAssignment}
 use Rattle.pin_matching.proofs.Lists.{same_place}
-use Rattle.placer.specs.PlacedModule.{Pinned, released}
-use Rattle.placer.specs.Placements.{Pins, with_pins, is_node, pin_of, node_pin_of, all_released}
-use Rattle.placer.specs.Signals.{is_buried_register, is_enabled_by, is_free, needs_pin, to_place, to_place_from, wish, wishes}
 use Rattle.placer.proofs.Entering.{HasPins}
 use Rattle.placer.proofs.FittingPins.{pins_fit}
 

@@ -1,16 +1,7 @@
 -- Lists of a declaration's names, with one name more.
 use Rattle.std.proofs.Common.{◌≡◌, ℕ, ◌==◌, Bool, true, false, not, None, Some, List, [], ◌∷◌, ◌++◌, filter, if◌then◌else◌, length, map, refl, sym, ap, ◌∙◌, arith}
 use Rattle.std.specs.Prelude.{is_some, unwrap_or}
-use Rattle.std.proofs.lemmas.Bool.{true≢false}
-use Rattle.std.proofs.lemmas.Bool.Decides.{nat_tests}
-use Rattle.std.proofs.lemmas.List.{map-append}
-use Rattle.std.proofs.lemmas.List.Elements.{filter-append}
-use Rattle.abel_tree.specs.declared.words.Item.{Item}
-use Rattle.abel_tree.specs.declared.words.Span.{Span}
-use Rattle.abel_tree.specs.declared.words.Word.{Word}
-use Rattle.abel_meaning.specs.Declarations.{GivenName, given_names}
-use Rattle.placer.specs.Given.{items_left}
-use Rattle.placer.specs.PlacedModule.{Pinned, item_at, node_alone, node_declaration, node_pinned, numbers_for, span_at, spans_for}
+use Rattle.placer.proofs.Common.{true≢false, nat_tests, map-append, filter-append, Item, Span, Word, GivenName, given_names, items_left, Pinned, item_at, node_alone, node_declaration, node_pinned, numbers_for, span_at, spans_for}
 
 pub spans_push : (pin : Pinned) (xs : List GivenName) (x : GivenName) → spans_for pin (xs ++ x ∷ []) ≡ spans_for pin xs ++ span_at x.place (unwrap_or (pin x.name) 0) ∷ []
 spans_push pin [] x = refl

@@ -1,22 +1,9 @@
 -- The mark of two lists is the union of their marks.
 use Rattle.std.proofs.Common.{◌≡◌, ℕ, ◌<◌, ◌≤◌, ◌+◌, ◌==◌, Bool, ◌||◌, List, [], ◌∷◌, ◌++◌, map, take, length, get_or, sym, ap, ap₂, subst, ◌∙◌, arith}
 use Rattle.std.specs.Prelude.{IfOk, Result}
-use Rattle.std.specs.Int.Bits.{bit_or}
-use Rattle.std.specs.List.{flat_map, list_any}
-use Rattle.std.proofs.lemmas.Grind.{flat_map-append}
-use Rattle.std.proofs.lemmas.List.{append-nil, take_all}
-use Rattle.std.proofs.lemmas.List.Folds.{list_any-append}
-use Rattle.std.proofs.lemmas.Result.{IfOk-weaker}
-use Rattle.pld_base.specs.Bits.{bits, is_on}
-use Rattle.pld_base.proofs.BitLemmas.{is_on-zero}
-use Rattle.abel_tree.specs.Assigned.{Named}
-use Rattle.decls.proofs.Rows.{mapped_more}
-use Rattle.name_uses.specs.Parts.{PartTree}
+use Rattle.placer.proofs.Common.{bit_or, flat_map, list_any, flat_map-append, append-nil, take_all, list_any-append, IfOk-weaker, bits, is_on, is_on-zero, Named, mapped_more, PartTree, Seen, AreSeen, HasMark, HasMarks, IsMarkOf, IsUnion, enabled_in, read_in}
 use Rattle.placer.specs.declared.marks.Marks.{Marks}
 use Rattle.placer.specs.declared.read_names.Naming.{Naming}
-use Rattle.placer.specs.declared.seen.Seen.{Seen}
-use Rattle.placer.specs.Marks.{AreSeen, HasMark, HasMarks, IsMarkOf, IsUnion}
-use Rattle.placer.specs.PartReads.{enabled_in, read_in}
 use Rattle.placer.proofs.Bits.{is_on-or}
 
 module _ (signals : List ℕ) (small : length signals ≤ 32) where

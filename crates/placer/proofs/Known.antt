@@ -1,14 +1,9 @@
 -- Names with their marks: one that is asked for, and one more.
 use Rattle.std.proofs.Common.{◌≡◌, ℕ, ◌≤◌, ◌==◌, Bool, true, false, Option, Some, None, List, [], ◌∷◌, ◌++◌, length, if◌then◌else◌, refl, sym, ap, subst, ◌∙◌}
 use Rattle.std.specs.Prelude.{is_some, option_copied, unwrap_or, bytes_eq}
+use Rattle.placer.proofs.Common.{true≢false, same_bytes, Named, signals_of_name, number_in, earlier_number, number_of_name, number_behind, HasMark, HasSameMark, numbers_named}
 use denote.Ref.{Bor}
 use Rattle.std.specs.Global.{Vec}
-use Rattle.std.proofs.lemmas.Bool.{true≢false}
-use Rattle.decls.proofs.FirstNames.{same_bytes}
-use Rattle.abel_tree.specs.Assigned.{Named, signals_of_name}
-use Rattle.declared_names.specs.Numbered.{number_in, earlier_number, number_of_name}
-use Rattle.declared_names.proofs.Numbering.{number_behind}
-use Rattle.placer.specs.Marks.{HasMark, HasSameMark, numbers_named}
 use Rattle.placer.proofs.Joins.{none_marked}
 
 -- ---- a name that is asked for

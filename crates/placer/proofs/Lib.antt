@@ -1,4 +1,5 @@
 pub mod Bits
+pub mod Common
 pub mod Counts
 pub mod DeclarationParts
 pub mod DeclaredAt

@@ -1,30 +1,8 @@
 -- What is made of the first signals is the placed module, and what is refused of them is refused of all.
 use Rattle.std.proofs.Common.{◌≡◌, ℕ, ◌==◌, ◌<◌, ◌≤◌, Bool, true, false, List, [], ◌∷◌, All, eqb, length, get_or, map, take, refl, sym, ap, ap₂, subst, ◌∙◌, arith}
-use Rattle.std.specs.List.{IsDistinct}
-use Rattle.std.proofs.lemmas.Bool.{or_left, or_right, true≢false}
-use Rattle.std.proofs.lemmas.Bool.Decides.{nat_tests}
-use Rattle.std.proofs.lemmas.List.{get_or-take, length-map, take-map, take_all}
-use Rattle.std.proofs.lemmas.List.Elements.{All-from_get_or, All-take}
-use Rattle.std.proofs.lemmas.Option.{slice_get-get_or}
-use Rattle.pld_device.specs.Table.{Table}
-use Rattle.pld_order.specs.Graphs.{has}
-use Rattle.pld_order.proofs.Lists.{eqb_same}
-use Rattle.abel_tree.specs.Entries.{Entry}
-use Rattle.abel_tree.specs.Tree.{ModuleTree, Statement}
-use Rattle.abel_meaning.specs.Designs.{no_name}
-use Rattle.abel_meaning.specs.Kinds.{names_of}
-use Rattle.decls.specs.NameRefusals.{name_refusals}
-use Rattle.declared_names.proofs.Exact.{entries_sound}
-use Rattle.decls.proofs.Placed.{kind_at}
-use Rattle.pin_matching.specs.Assignments.{IsKept, IsTaken}
-use Rattle.placer.specs.Reads.{has_enable, is_read}
+use Rattle.placer.proofs.Common.{IsDistinct, or_left, or_right, true≢false, nat_tests, get_or-take, length-map, take-map, take_all, All-from_get_or, All-take, slice_get-get_or, Table, has, eqb_same, Entry, ModuleTree, Statement, no_name, names_of, name_refusals, entries_sound, kind_at, IsKept, IsTaken, has_enable, is_read, IsToldOf, IsUnplaced, AreKnown, placed_module, HasNoPlacement, IsPlacedModule, all_released, dc_of, node_pin_of, pin_of, placed_with, with_pins, to_place, wish, wishes}
 use Rattle.placer.specs.declared.fault.PlaceFault.{PlaceFault}
 use Rattle.placer.specs.declared.fault.PlaceFault.TheVariants.{NoPlacement, OutOfMemory}
-use Rattle.placer.specs.Faults.{IsToldOf, IsUnplaced}
-use Rattle.placer.specs.Given.{AreKnown}
-use Rattle.placer.specs.PlacedModule.{placed_module}
-use Rattle.placer.specs.Placements.{HasNoPlacement, IsPlacedModule, all_released, dc_of, node_pin_of, pin_of, placed_with, with_pins}
-use Rattle.placer.specs.Signals.{to_place, wish, wishes}
 use Rattle.placer.proofs.GivenPins.{placed_from}
 use Rattle.placer.proofs.FirstSignals.{all_taken, few_signals, kept_of_all, member_first}
 

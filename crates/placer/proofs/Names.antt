@@ -1,11 +1,6 @@
 -- What names stand for, with one name more.
 use Rattle.std.proofs.Common.{◌≡◌, ℕ, suc, ◌+◌, ◌<◌, List, [], ◌∷◌, ◌++◌, map, take, length, get_or, min, sym, ap, ◌∙◌, arith}
-use Rattle.std.proofs.lemmas.List.{length-map, length-take}
-use Rattle.abel_tree.specs.declared.names.Declared.{Declared}
-use Rattle.abel_tree.specs.Assigned.{Named, meant, named_after, named_of}
-use Rattle.abel_tree.specs.Entries.{Entry, view_declared}
-use Rattle.decls.proofs.Rows.{mapped_more}
-use Rattle.placer.specs.NamedSignals.{read_after, read_names_of, stands_for}
+use Rattle.placer.proofs.Common.{length-map, length-take, Declared, Named, meant, named_after, named_of, Entry, view_declared, mapped_more, read_after, read_names_of, stands_for}
 
 start : (n : ℕ) → n ≡ n + 0
 start n = omega arith

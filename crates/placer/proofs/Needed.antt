@@ -1,13 +1,7 @@
 -- Signals that have to be given pins, with one name more; no more than 32 of them are kept.
 use Rattle.std.proofs.Common.{◌≡◌, ℕ, suc, ◌+◌, ◌<◌, ◌≤◌, nat_lt, Bool, true, false, ◌&&◌, List, [], ◌∷◌, ◌++◌, if◌then◌else◌, map, take, length, get_or, min, refl, sym, ap, ◌∙◌, arith}
-use Rattle.std.proofs.lemmas.List.{append-nil, length-append, length-map, length-take, take_all, take-append-le}
-use Rattle.std.proofs.lemmas.Bool.Decides.{nat_tests}
-use Rattle.pld_device.specs.Table.{Table}
-use Rattle.abel_tree.specs.declared.names.Declared.{Declared}
-use Rattle.abel_tree.specs.Entries.{Entry, view_declared}
+use Rattle.placer.proofs.Common.{append-nil, length-append, length-map, length-take, take_all, take-append-le, nat_tests, Table, Declared, Entry, view_declared, needs_pin, to_place, to_place_from, with_signal}
 use Rattle.placer.proofs.Mapped.{mapped_more}
-use Rattle.placer.specs.Signals.{needs_pin, to_place, to_place_from}
-use Rattle.placer.specs.Wanted.{with_signal}
 
 place_push : (t : Table) (s : ℕ) (es : List Entry) (e : Entry) → to_place_from t s (es ++ e ∷ []) ≡ to_place_from t s es ++ (if needs_pin t e then (s + length es) ∷ [] else [])
 place_push t s [] e = by (needs_pin t e)

@@ -1,18 +1,8 @@
 -- What a placed module leaves as it is.
 use Rattle.std.proofs.Common.{◌≡◌, ℕ, ◌==◌, Bool, true, false, List, [], ◌∷◌, length, map, refl, sym, ◌∙◌, arith}
-use Rattle.std.proofs.lemmas.Bool.{true≢false}
-use Rattle.std.proofs.lemmas.Bool.Decides.{nat_tests}
-use Rattle.abel_tree.specs.declared.declarations.Decl.{Decl}
+use Rattle.placer.proofs.Common.{true≢false, nat_tests, Decl, Section, Stmt, Item, Span, Word, Equations, view_decl, view_section, view_stmt, Pinned, placed_declaration, placed_section, with_equations}
 use Rattle.abel_tree.specs.declared.declarations.Decl.TheVariants as decl
-use Rattle.abel_tree.specs.declared.sections.Section.{Section}
 use Rattle.abel_tree.specs.declared.sections.Section.TheVariants as section
-use Rattle.abel_tree.specs.declared.statements.Stmt.{Stmt}
-use Rattle.abel_tree.specs.declared.words.Item.{Item}
-use Rattle.abel_tree.specs.declared.words.Span.{Span}
-use Rattle.abel_tree.specs.declared.words.Word.{Word}
-use Rattle.abel_tree.specs.Tree.{Equations}
-use Rattle.abel_tree.specs.View.{view_decl, view_section, view_stmt}
-use Rattle.placer.specs.PlacedModule.{Pinned, placed_declaration, placed_section, with_equations}
 
 module _ (pins nodes : Pinned) (dc : List ℕ → Bool) where
   pub other_decl : (d : Decl) → ((names : List Item) (numbers : List Span) (attributes : List Word) → d ≡ decl.Pins names numbers attributes → ⊥)

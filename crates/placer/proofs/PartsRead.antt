@@ -1,17 +1,8 @@
 -- What the parts of sections read, and whose enable they assign, is what the sections do.
 use Rattle.std.proofs.Common.{◌≡◌, ℕ, ◌==◌, Bool, true, false, ◌||◌, Option, None, Some, List, [], ◌∷◌, ◌++◌, if◌then◌else◌, map, refl, sym, ap, ap₂, ◌∙◌}
-use Rattle.std.specs.List.{list_any, flat_map}
-use Rattle.std.proofs.lemmas.Grind.{flat_map-append}
-use Rattle.std.proofs.lemmas.List.Folds.{list_any-append}
-use Rattle.abel_meaning.specs.Held.{Part, ATarget, AValue}
-use Rattle.abel_tree.specs.Assigned.{Named, signals_of, target_extension, without_extension}
-use Rattle.abel_tree.specs.Tree.{Tree, SectionTree, Declarations, Equations, ATable, ADiagram, SomeVectors, DontCareSection}
-use Rattle.name_uses.specs.Parts.{PartTree, Registers, part, parts_in_section}
+use Rattle.placer.proofs.Common.{list_any, flat_map, flat_map-append, list_any-append, Part, ATarget, AValue, Named, signals_of, target_extension, without_extension, Tree, SectionTree, Declarations, Equations, ATable, ADiagram, SomeVectors, DontCareSection, PartTree, Registers, part, parts_in_section, signals_in, enabled_in, parts_of, read_in, enables, is_enable, read_parts, reads}
 use Rattle.name_uses.specs.Viewed.{with_parts}
 use Rattle.name_uses.proofs.HoldingParts.{Follows, in_list, in_rows, in_states}
-use Rattle.placer.specs.NamedSignals.{signals_in}
-use Rattle.placer.specs.PartReads.{enabled_in, parts_of, read_in}
-use Rattle.placer.specs.Reads.{enables, is_enable, read_parts, reads}
 use Rattle.placer.proofs.UsedSignals.{names_signals}
 
 -- parts give what those give that may hold a register, and the registers of a diagram what they read

@@ -1,15 +1,7 @@
 -- Lists of pins, pin by pin.
 use Rattle.std.proofs.Common.{◌≡◌, ℕ, zero, suc, ◌+◌, ◌-◌, ◌<◌, ◌≤◌, ◌==◌, Bool, true, false, ◌&&◌, List, [], ◌∷◌, ◌++◌, filter, if◌then◌else◌, map, take, length, get_or, refl, sym, ap, ◌∙◌, arith, add-one}
 use Rattle.std.specs.Prelude.{is_none}
-use Rattle.std.specs.List.{range_with_len}
-use Rattle.std.proofs.lemmas.List.{append-nil, map-append, take_all, take_more}
-use Rattle.std.proofs.lemmas.List.Elements.{filter-append}
-use Rattle.pld_device.specs.declared.cell.Cell.{Cell}
-use Rattle.pld_device.specs.Table.{Table, no_cell}
-use Rattle.abel_tree.specs.Entries.{Entry}
-use Rattle.pld_device.specs.Pins.{cell_on}
-use Rattle.placer.specs.Signals.{cells_of_room, is_free, large_to, pin_fits, small_to}
-use Rattle.placer.specs.Wanted.{wanted_of}
+use Rattle.placer.proofs.Common.{range_with_len, append-nil, map-append, take_all, take_more, filter-append, Cell, Table, no_cell, Entry, cell_on, cells_of_room, is_free, large_to, pin_fits, small_to, wanted_of}
 
 -- those of the pins so far, with one pin more
 module _ (t : Table) (es : List Entry) (read : Bool) (x : Entry) (pins : List ℕ) (k pin : ℕ) (low : k < length pins) (at : pin ≡ get_or pins k 0) where

@@ -1,15 +1,8 @@
 -- The pin of a name, by the place of its signal.
 use Rattle.std.proofs.Common.{◌≡◌, ℕ, suc, ◌+◌, ◌<◌, Bool, true, false, Option, None, Some, List, [], ◌∷◌, All, cond, if◌then◌else◌, length, get_or, refl, sym, ap, ◌∙◌, arith, zero-add}
 use Rattle.std.specs.Prelude.{bytes_eq, option_map, position}
-use Rattle.std.specs.List.{position_from}
-use Rattle.std.proofs.lemmas.Iterator.Adapters.{position_from-zero}
-use Rattle.std.proofs.lemmas.List.Elements.{All-get_or}
+use Rattle.placer.proofs.Common.{position_from, position_from-zero, All-get_or, Entry, kind_of, names_any, passes, no_name, same_bytes, AreKnown, is_node, node_pin_of, pin_of, with_pins}
 use Rattle.std.proofs.lemmas.List.Quantifiers.{position-Some}
-use Rattle.abel_tree.specs.Entries.{Entry, kind_of, names_any, passes}
-use Rattle.abel_meaning.specs.Designs.{no_name}
-use Rattle.decls.proofs.FirstNames.{same_bytes}
-use Rattle.placer.specs.Given.{AreKnown}
-use Rattle.placer.specs.Placements.{is_node, node_pin_of, pin_of, with_pins}
 
 module _ (es : List Entry) (name : List ℕ) where
   abbrev pub is_name : ℕ → Bool

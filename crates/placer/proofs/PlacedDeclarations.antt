@@ -1,30 +1,9 @@
 -- Declarations, and the same with their pins: where nothing is refused of the ones, nothing is of the others.
 use Rattle.std.proofs.Common.{◌≡◌, ℕ, zero, suc, ◌≤◌, Bool, true, false, not, ◌||◌, ◌&&◌, Option, None, Some, List, [], ◌∷◌, ◌++◌, map, filter, zip, drop, length, if◌then◌else◌, refl, sym, ap, ap₂, subst, ◌∙◌, append_assoc, arith}
 use Rattle.std.specs.Prelude.{is_some, unwrap_or, bytes_eq}
-use Rattle.std.specs.List.{list_any, list_all}
-use Rattle.std.proofs.lemmas.List.{append-nil, length-map}
-use Rattle.std.proofs.lemmas.List.Sums.{fold-append}
-use Rattle.std.proofs.Math.Seq.{drop-append_seam}
-use Rattle.pld_device.specs.Table.{Table}
-use Rattle.abel_tree.specs.declared.words.Item.{Item}
-use Rattle.abel_tree.specs.declared.words.Word.{Word}
-use Rattle.abel_tree.specs.Entries.{Words, Entry, is_signal, names_any, APin, ANode, ADeviceName}
-use Rattle.abel_tree.specs.Ranges.{numbers_of}
-use Rattle.abel_tree.specs.Tree.{Declaration, ADevice, SomePins, SomeNodes, SomeAttributes, SomeConstants, SomeOptions, DontCareFor}
-use Rattle.abel_tree.specs.Uses.{all_uses}
-use Rattle.abel_meaning.specs.Declarations.{GivenName, given_names, entry, no_words, all_said, said_by_either, pin_entries, node_entries, constant_entries, node_count, with_words, declared}
+use Rattle.placer.proofs.Common.{list_any, list_all, append-nil, length-map, fold-append, drop-append_seam, Table, Item, Word, Words, Entry, is_signal, names_any, APin, ANode, ADeviceName, numbers_of, Declaration, ADevice, SomePins, SomeNodes, SomeAttributes, SomeConstants, SomeOptions, DontCareFor, all_uses, GivenName, given_names, entry, no_words, all_said, said_by_either, pin_entries, node_entries, constant_entries, node_count, with_words, declared, strings_refused, names_behind, added, words_of_names, refused_if, names_refused, name_refused, ranges_refused, counts_refused, counts_differ, has_numbers, items_refused, is_device, given_count, parts_refused, declaration_refused, declarations_refused, same_bytes, any_append, count_append, none_left, none_right, refused_append, items_signals, Pinned, register_string, item_at, span_at, spans_for, node_declaration, unpinned, unpinned_items, placed_declaration}
 use Rattle.decls.specs.declared.fault.NameFault.TheVariants as fault
-use Rattle.decls.specs.Attributes.{strings_refused}
-use Rattle.decls.specs.NamesBefore.{names_behind, added, words_of_names}
-use Rattle.decls.specs.Refused.{refused_if, names_refused, name_refused, ranges_refused, counts_refused, counts_differ, has_numbers, items_refused, is_device, given_count, parts_refused, declaration_refused, declarations_refused}
 use Rattle.decls.proofs.DeclarationsGo.{added_is}
-use Rattle.decls.proofs.FirstNames.{same_bytes}
-use Rattle.decls.proofs.Folded.{any_append}
-use Rattle.decls.proofs.Goes.{count_append}
-use Rattle.decls.proofs.NoRefusals.{none_left, none_right}
-use Rattle.decls.proofs.Accepted.{refused_append}
-use Rattle.decls.proofs.SaidBuffers.{items_signals}
-use Rattle.placer.specs.PlacedModule.{Pinned, register_string, item_at, span_at, spans_for, node_declaration, unpinned, unpinned_items, placed_declaration}
 use Rattle.placer.proofs.Counts.{as_many}
 use Rattle.placer.proofs.DeclarationParts.{single_numbers, counts_agree, counts_none, length_pins, strings_fewer, fewer_words, register_accepted, register_said, given_single, signals_accepted, all_kept}
 use Rattle.placer.proofs.Entering.{IsWithin, HasPins, AreEnterable, enter_all, within_front, within_next, numbered_all, numbers_for, unnumbered_all, node_one, pinned_one, device_one, constants_all}

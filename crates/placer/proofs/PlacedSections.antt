@@ -1,23 +1,8 @@
 -- A module, and the same with its pins: where nothing is refused of what is declared and used in the one, nothing is in the
 -- other.
 use Rattle.std.proofs.Common.{◌≡◌, ℕ, Bool, true, false, ◌||◌, List, [], ◌∷◌, ◌++◌, map, zip, length, refl, sym, ap, ap₂, subst, ◌∙◌, append_assoc}
-use Rattle.std.specs.List.{list_any}
-use Rattle.std.proofs.lemmas.List.{append-nil}
-use Rattle.std.proofs.lemmas.List.Sums.{fold-append}
-use Rattle.pld_device.specs.Table.{Table}
-use Rattle.abel_tree.specs.Entries.{ADeviceName, Entry}
-use Rattle.abel_tree.specs.Ranges.{numbers_of}
-use Rattle.abel_tree.specs.Tree.{Declaration, ADevice, SomePins, SomeNodes, SomeAttributes, SomeConstants, SomeOptions, DontCareFor, Statement, SectionTree, Declarations, Equations, ATable, ADiagram, SomeVectors, DontCareSection, ModuleTree}
-use Rattle.abel_tree.specs.Uses.{Use, section_uses, list_uses}
-use Rattle.abel_meaning.specs.Declarations.{given_names, entry, no_words, all_said, pin_entries, node_entries, constant_entries, node_count, declared, section_declarations, declared_names}
-use Rattle.decls.specs.NamesBefore.{names_behind, is_on_pin, is_taken}
-use Rattle.decls.specs.NameRefusals.{sections_refused, read_refusals}
-use Rattle.decls.specs.Refused.{is_device, declaration_refused, declarations_refused, uses_refused}
-use Rattle.decls.proofs.Folded.{any_append}
-use Rattle.decls.proofs.NoRefusals.{none_left, none_right}
+use Rattle.placer.proofs.Common.{list_any, append-nil, fold-append, Table, ADeviceName, Entry, numbers_of, Declaration, ADevice, SomePins, SomeNodes, SomeAttributes, SomeConstants, SomeOptions, DontCareFor, Statement, SectionTree, Declarations, Equations, ATable, ADiagram, SomeVectors, DontCareSection, ModuleTree, Use, section_uses, list_uses, given_names, entry, no_words, all_said, pin_entries, node_entries, constant_entries, node_count, declared, section_declarations, declared_names, names_behind, is_on_pin, is_taken, sections_refused, read_refusals, is_device, declaration_refused, declarations_refused, uses_refused, any_append, none_left, none_right, extends_behind, Pinned, placed_declaration, placed_declarations, placed_section, placed_module, with_equations}
 use Rattle.decls.proofs.Telling.{taken_told}
-use Rattle.decls.proofs.Accepted.{extends_behind}
-use Rattle.placer.specs.PlacedModule.{Pinned, placed_declaration, placed_declarations, placed_section, placed_module, with_equations}
 use Rattle.placer.proofs.Entering.{IsWithin, HasPins}
 use Rattle.placer.proofs.PlacedDeclarations.{IsAlong, placed_step}
 use Rattle.placer.proofs.PlacedNames.{ArePlaced, uses_same}

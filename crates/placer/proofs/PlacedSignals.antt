@@ -1,30 +1,8 @@
 -- What becomes of each signal that was placed.
 use Rattle.std.proofs.Common.{◌≡◌, ℕ, zero, suc, ◌+◌, ◌<◌, Bool, true, false, not, ◌&&◌, ◌||◌, Option, None, Some, List, [], ◌∷◌, length, get_or, if◌then◌else◌, refl, sym, ap, ap₂, subst, ◌∙◌, arith, inl, inr, ◌==◌}
 use Rattle.std.specs.Prelude.{is_some, position}
-use Rattle.std.specs.List.{list_any}
-use Rattle.std.proofs.lemmas.Bool.{true≢false, and_parts, or_cases}
-use Rattle.std.proofs.lemmas.List.{length-map}
-use Rattle.pld_device.specs.declared.cell.Cell.{Cell}
-use Rattle.pld_device.specs.declared.flip.Flip.{Flip}
-use Rattle.pld_device.specs.Pins.{pair_pins}
-use Rattle.pld_device.specs.Table.{Table}
-use Rattle.abel_tree.specs.Assigned.{Assigned, named_of, sections_assign, is_assigned, is_clocked_target}
-use Rattle.abel_tree.specs.Entries.{Kind, APin, ANode, AConstant, ADeviceName, Words, Entry, is_signal, passes, names_any, is_stored}
-use Rattle.abel_tree.specs.Tree.{ModuleTree}
+use Rattle.placer.proofs.Common.{list_any, true≢false, and_parts, or_cases, length-map, Cell, Flip, pair_pins, Table, Assigned, named_of, sections_assign, is_assigned, is_clocked_target, Kind, APin, ANode, AConstant, ADeviceName, Words, Entry, is_signal, passes, names_any, is_stored, ModuleTree, declared_names, is_unnumbered, no_name, Holds, holds_of, is_registered, is_buffer_by_default, words_with_kind, with_kind, with_kinds, names_of, name_refusals, has_wrong_kind, has_wrong_kind_by, is_registered_by, is_registered_node, has_read_path, reads_by, IsAssignment, has_enable, is_read, IsFollowed, placed_module, Pins, with_pins, is_node, pin_of, node_pin_of, dc_of, all_released, module_wishes, placed_with, IsPlacedModule, is_buried_register, needs_pin, pin_fits, to_place, wish}
 use Rattle.abel_meaning.specs.Controls.{must_register}
-use Rattle.abel_meaning.specs.Declarations.{declared_names, is_unnumbered}
-use Rattle.abel_meaning.specs.Designs.{no_name}
-use Rattle.abel_meaning.specs.Held.{Holds, holds_of}
-use Rattle.abel_meaning.specs.Kinds.{is_registered, is_buffer_by_default, words_with_kind, with_kind, with_kinds, names_of}
-use Rattle.decls.specs.NameRefusals.{name_refusals}
-use Rattle.design_checks.specs.SignalsRefused.{has_wrong_kind, has_wrong_kind_by, is_registered_by, is_registered_node}
-use Rattle.design_checks.specs.RefusedUses.{has_read_path, reads_by}
-use Rattle.pin_matching.specs.Assignments.{IsAssignment}
-use Rattle.placer.specs.Reads.{has_enable, is_read}
-use Rattle.placer.specs.Following.{IsFollowed}
-use Rattle.placer.specs.PlacedModule.{placed_module}
-use Rattle.placer.specs.Placements.{Pins, with_pins, is_node, pin_of, node_pin_of, dc_of, all_released, module_wishes, placed_with, IsPlacedModule}
-use Rattle.placer.specs.Signals.{is_buried_register, needs_pin, pin_fits, to_place, wish}
 use Rattle.placer.proofs.FittingPins.{no_wrong_kind, has_path, pins_fit}
 use Rattle.placer.proofs.GivenPins.{known_at, low_signal, needs_signal, pin_at, released_quiet}
 use Rattle.placer.proofs.PlacedBuffers.{named_same, assigns_same}

@@ -1,24 +1,6 @@
 -- What is promised of the names of a placed module.
 use Rattle.std.proofs.Common.{◌≡◌, ℕ, suc, Bool, true, false, not, ◌||◌, Option, List, [], ◌∷◌, ◌++◌, length, get_or, if◌then◌else◌, refl, sym, ap, ap₂, subst, ◌∙◌, arith}
-use Rattle.std.specs.List.{list_any}
-use Rattle.std.proofs.lemmas.List.{length-map}
-use Rattle.pld_device.specs.declared.flip.Flip.{Flip}
-use Rattle.pld_device.specs.Table.{Table}
-use Rattle.abel_tree.specs.Assigned.{Assigned, named_of, sections_assign}
-use Rattle.abel_tree.specs.Entries.{Entry}
-use Rattle.abel_tree.specs.Tree.{ModuleTree}
-use Rattle.abel_meaning.specs.Declarations.{are_numbered, declared_names, is_unnumbered}
-use Rattle.abel_meaning.specs.Designs.{no_name}
-use Rattle.abel_meaning.specs.Held.{Holds, holds_of}
-use Rattle.abel_meaning.specs.Kinds.{with_kinds, names_of}
-use Rattle.decls.specs.NameRefusals.{name_refusals, read_refusals, module_buffers_refused}
-use Rattle.decls.proofs.NoRefusals.{none_left, none_right}
-use Rattle.pin_matching.specs.Assignments.{IsAssignment}
-use Rattle.placer.specs.Reads.{has_enable, is_read}
-use Rattle.placer.specs.Following.{HasNumberedNames}
-use Rattle.placer.specs.PlacedModule.{placed_module}
-use Rattle.placer.specs.Placements.{Pins, with_pins, pin_of, node_pin_of, dc_of, all_released, module_wishes, placed_with, IsPlacedModule}
-use Rattle.placer.specs.Signals.{needs_pin, to_place, to_place_from, wish}
+use Rattle.placer.proofs.Common.{list_any, length-map, Flip, Table, Assigned, named_of, sections_assign, Entry, ModuleTree, are_numbered, declared_names, is_unnumbered, no_name, Holds, holds_of, with_kinds, names_of, name_refusals, read_refusals, module_buffers_refused, none_left, none_right, IsAssignment, has_enable, is_read, HasNumberedNames, placed_module, Pins, with_pins, pin_of, node_pin_of, dc_of, all_released, module_wishes, placed_with, IsPlacedModule, needs_pin, to_place, to_place_from, wish}
 use Rattle.placer.proofs.GivenPins.{has_pins, all_known, released_quiet, unpinned_if}
 use Rattle.placer.proofs.PlacedBuffers.{buffers_none}
 use Rattle.placer.proofs.PlacedNames.{ArePlaced}

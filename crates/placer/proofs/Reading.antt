@@ -1,15 +1,6 @@
 -- Every use of a design is a read.
 use Rattle.std.proofs.Common.{◌≡◌, ◌⊎◌, ℕ, Bool, true, false, ◌==◌, Option, None, Some, List, [], ◌∷◌, ◌++◌, if◌then◌else◌, ap, sym, ◌∙◌, inl, inr}
-use Rattle.std.specs.List.{list_any, flat_map}
-use Rattle.std.proofs.lemmas.Bool.{true≢false, or_cases, or_left, or_right}
-use Rattle.std.proofs.lemmas.List.Folds.{list_any-append}
-use Rattle.abel_tree.specs.Tree.{Tree, Statement, AnAssign, AWhen, AGroup, ADontCare, Otherwise, NoElse, AnElse, Statements, NoStatement, MoreStatements, statements_of, Branch, AGoal, AnIf, ACase, OtherBranch, NoBranch, ABranch, Choices, NoChoice, MoreChoices, StateTree, SectionTree, Declarations, Equations, ATable, ADiagram, SomeVectors, DontCareSection}
-use Rattle.abel_meaning.specs.Designs.{Context}
-use Rattle.abel_meaning.specs.Held.{Part, ATarget, AValue, statement_parts, else_parts, statements_parts, list_parts, with_parts, branch_parts, other_parts, choices_parts, branches_parts, states_parts}
-use Rattle.abel_meaning.specs.Terms.{known_of}
-use Rattle.design_checks.specs.LocatedUses.{PlacedUse, located}
-use Rattle.placer.specs.NamedSignals.{read_names_of}
-use Rattle.placer.specs.Reads.{read_parts, reads}
+use Rattle.placer.proofs.Common.{list_any, flat_map, true≢false, or_cases, or_left, or_right, list_any-append, Tree, Statement, AnAssign, AWhen, AGroup, ADontCare, Otherwise, NoElse, AnElse, Statements, NoStatement, MoreStatements, statements_of, Branch, AGoal, AnIf, ACase, OtherBranch, NoBranch, ABranch, Choices, NoChoice, MoreChoices, StateTree, SectionTree, Declarations, Equations, ATable, ADiagram, SomeVectors, DontCareSection, Context, Part, ATarget, AValue, statement_parts, else_parts, statements_parts, list_parts, with_parts, branch_parts, other_parts, choices_parts, branches_parts, states_parts, known_of, PlacedUse, located, read_names_of, read_parts, reads}
 use Rattle.design_checks.specs.SectionUses.{is_compared, expression_uses, statement_uses, else_uses, statements_uses, with_uses, branch_uses, other_uses, choices_uses, branches_uses, states_uses, section_uses, sections_uses}
 use Rattle.placer.proofs.Located.{located_same}
 

@@ -1,13 +1,6 @@
 -- The equations that release the pins of nodes, signal by signal.
 use Rattle.std.proofs.Common.{◌≡◌, ℕ, suc, ◌+◌, ◌<◌, ◌≤◌, Bool, true, false, not, ◌&&◌, List, [], ◌∷◌, ◌++◌, if◌then◌else◌, drop, length, get_or, refl, sym, ap, ap₂, ◌∙◌, add-one}
-use Rattle.std.proofs.Math.Seq.{drop-cons}
-use Rattle.std.proofs.lemmas.List.{drop_all}
-use Rattle.abel_tree.specs.Entries.{Entry}
-use Rattle.abel_tree.specs.Tree.{Statement}
-use Rattle.abel_meaning.specs.Designs.{no_name}
-use Rattle.placer.specs.Given.{released_if}
-use Rattle.placer.specs.PlacedModule.{released}
-use Rattle.placer.specs.Placements.{Pins, all_released, is_node, with_pins}
+use Rattle.placer.proofs.Common.{drop-cons, drop_all, Entry, Statement, no_name, released_if, released, Pins, all_released, is_node, with_pins}
 
 module _ (es : List Entry) (has : ℕ → Bool) (ss ps : List ℕ) (k : ℕ) where
   abbrev from : ℕ → List Statement

@@ -1,9 +1,6 @@
 -- The mark of one signal.
 use Rattle.std.proofs.Common.{◌≡◌, ◌≢◌, ℕ, ◌+◌, ◌<◌, ◌≤◌, ◌==◌, Bool, true, false, ◌||◌, List, [], ◌∷◌, length, get_or, set, refl, sym, ap, subst, ◌∙◌, arith, get_or-set_same, get_or-set_other, inl, inr}
-use Rattle.std.proofs.lemmas.Bool.{cases_eq}
-use Rattle.pld_base.specs.Bits.{bits, is_on}
-use Rattle.pld_base.proofs.BitLemmas.{is_on-zero, length-bits}
-use Rattle.placer.specs.Marks.{HasMark}
+use Rattle.placer.proofs.Common.{cases_eq, bits, is_on, is_on-zero, length-bits, HasMark}
 
 -- the places so far are marked where they are the number's, and no later one is
 pub record IsMarkedTo (signals : List ℕ) (number place mark : ℕ) : Type 0 where

@@ -1,12 +1,8 @@
 -- What targets name: by the list of their names, and of the names of a range.
 use Rattle.std.proofs.Common.{◌≡◌, ℕ, List, [], ◌∷◌, ◌++◌, refl, sym, ap, ◌∙◌, append_assoc}
-use Rattle.std.specs.List.{flat_map}
-use Rattle.std.proofs.lemmas.List.{append-nil}
-use Rattle.abel_tree.specs.Assigned.{Named, signals_of, signals_of_name, signals_of_names}
-use Rattle.abel_tree.specs.Tree.{Tree}
+use Rattle.placer.proofs.Common.{flat_map, append-nil, Named, signals_of, signals_of_name, signals_of_names, Tree, signals_at}
 use Rattle.name_uses.specs.Targets.{targets_in}
 use Rattle.name_uses.proofs.TargetSignals.{targets_give}
-use Rattle.placer.specs.PartReads.{signals_at}
 
 pub target_signals : (ks : List Named) (t : Tree) → flat_map (signals_at ks) (targets_in t) ≡ signals_of ks t
 target_signals ks t = targets_give ks (λ ss. ss) refl (λ xs ys. refl) (signals_at ks) (λ w. refl) (λ v w. refl) t

@@ -1,16 +1,6 @@
 -- The first of the signals that can't be placed stands among the names.
 use Rattle.std.proofs.Common.{rules, ◌≡◌, ℕ, suc, ◌<◌, true, List, [], ◌∷◌, length, get_or, map, take, arith}
-use Rattle.std.proofs.lemmas.List.{length-map, length-take}
-use Rattle.pld_device.specs.Table.{Table}
-use Rattle.pld_order.specs.Graphs.{has}
-use Rattle.abel_tree.specs.Entries.{Entry}
-use Rattle.abel_tree.specs.Tree.{ModuleTree}
-use Rattle.abel_meaning.specs.Designs.{no_name}
-use Rattle.abel_meaning.specs.Kinds.{names_of}
-use Rattle.pin_matching.specs.Assignments.{IsCrowded}
-use Rattle.placer.specs.Placements.{HasNoPlacement, module_wishes}
-use Rattle.placer.specs.Reads.{is_read}
-use Rattle.placer.specs.Signals.{to_place, wish}
+use Rattle.placer.proofs.Common.{length-map, length-take, Table, has, Entry, ModuleTree, no_name, names_of, IsCrowded, HasNoPlacement, module_wishes, is_read, to_place, wish}
 use Rattle.placer.proofs.GivenPins.{placed_from}
 
 pub record TellsFirst (es : List Entry) (signals : List ℕ) : Type 0 where

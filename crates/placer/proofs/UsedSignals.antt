@@ -1,15 +1,7 @@
 -- The signals of the names that an expression uses are those that it names.
 use Rattle.std.proofs.Common.{◌≡◌, ℕ, Option, List, ◌++◌, refl, sym, ap₂, ◌∙◌}
-use Rattle.std.specs.List.{flat_map}
-use Rattle.std.proofs.lemmas.Grind.{flat_map-append}
-use Rattle.abel_tree.specs.declared.words.Extension.{Extension}
-use Rattle.abel_tree.specs.Assigned.{Named}
-use Rattle.abel_tree.specs.Tree.{Tree, ANumber, ASpecial, AName, ASet, AParen, AUnary, ABinary, SetMember, OneMember, SpanMember, Members, NoMember, MoreMembers}
-use Rattle.abel_tree.specs.Uses.{Use, uses, member_uses, one_member_uses}
-use Rattle.abel_tree.specs.Extensions.{innermost}
+use Rattle.placer.proofs.Common.{flat_map, flat_map-append, Extension, Named, Tree, ANumber, ASpecial, AName, ASet, AParen, AUnary, ABinary, SetMember, OneMember, SpanMember, Members, NoMember, MoreMembers, Use, uses, member_uses, one_member_uses, innermost, signals_in, signals_used, signals_at}
 use Rattle.name_uses.specs.NamesUsed.{UsedName, names_used, members_used, member_used}
-use Rattle.placer.specs.NamedSignals.{signals_in, signals_used}
-use Rattle.placer.specs.PartReads.{signals_at}
 
 module _ (ks : List Named) where
   abbrev at : List UsedName → List ℕ

@@ -1,8 +1,6 @@
 -- Why a module isn't placed (this project's rule).
 use Rattle.std.specs.Prelude.{◌≡◌, ℕ, List, map, get_or}
-use Rattle.pld_device.specs.Table.{Table}
-use Rattle.abel_tree.specs.Tree.{ModuleTree}
-use Rattle.pin_matching.specs.Assignments.{IsKept}
+use Rattle.placer.specs.Prelude.{Table, ModuleTree, IsKept}
 use Rattle.placer.specs.declared.fault.PlaceFault.{PlaceFault}
 use Rattle.placer.specs.declared.fault.PlaceFault.TheVariants.{NoPlacement, OutOfMemory}
 use Rattle.placer.specs.Placements.{HasNoPlacement}

@@ -1,18 +1,8 @@
 -- What a fitting pin gives a signal, and what is promised of a placed module (this project's rule).
 use Rattle.std.specs.Prelude.{◌≡◌, ℕ, ◌<◌, Bool, true, false, None, ◌==◌, List, [], length, get_or}
-use Rattle.std.specs.List.{list_any}
-use Rattle.pld_device.specs.Table.{Table}
-use Rattle.abel_tree.specs.Entries.{APin, Entry}
-use Rattle.abel_tree.specs.Tree.{ModuleTree}
-use Rattle.abel_meaning.specs.Declarations.{are_numbered}
-use Rattle.abel_meaning.specs.Designs.{Design, no_name}
-use Rattle.abel_meaning.specs.Kinds.{names_of}
+use Rattle.placer.specs.Prelude.{list_any, Table, APin, Entry, ModuleTree, are_numbered, Design, no_name, names_of, name_refusals, IsAssignment, has_wrong_kind, has_read_path}
 use Rattle.abel_meaning.specs.Terms.{known_of}
-use Rattle.decls.specs.NameRefusals.{name_refusals}
-use Rattle.pin_matching.specs.Assignments.{IsAssignment}
-use Rattle.design_checks.specs.SignalsRefused.{has_wrong_kind}
 use Rattle.design_checks.specs.LocatedUses.{PlacedUse}
-use Rattle.design_checks.specs.RefusedUses.{has_read_path}
 use Rattle.design_checks.specs.SectionUses.{design_uses}
 use Rattle.placer.specs.Reads.{is_read}
 use Rattle.placer.specs.Placements.{IsPlacedModule}

@@ -1,10 +1,6 @@
 -- What the code keeps of the pins that signals were given.
 use Rattle.std.specs.Prelude.{◌≡◌, ℕ, ◌<◌, Bool, ◌&&◌, Option, Some, is_some, List, [], ◌∷◌, All, not, filter, if◌then◌else◌, length, map, get_or}
-use Rattle.abel_tree.specs.Entries.{Entry, kind_of}
-use Rattle.abel_tree.specs.Tree.{Declaration, Statement, SectionTree, ModuleTree}
-use Rattle.abel_tree.specs.declared.words.Item.{Item}
-use Rattle.abel_meaning.specs.Declarations.{GivenName}
-use Rattle.abel_meaning.specs.Designs.{no_name}
+use Rattle.placer.specs.Prelude.{Entry, kind_of, Declaration, Statement, SectionTree, ModuleTree, Item, GivenName, no_name}
 use Rattle.placer.specs.declared.pins.PlacedPins.{PlacedPins}
 use Rattle.placer.specs.PlacedModule.{Pinned, item_at, placed_declaration, placed_declarations, placed_module, placed_section, released}
 use Rattle.placer.specs.Placements as placements

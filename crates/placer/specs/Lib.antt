@@ -6,6 +6,7 @@ pub mod NamedSignals
 pub mod PartReads
 pub mod PlacedModule
 pub mod Placements
+pub mod Prelude
 pub mod Reads
 pub mod Signals
 pub mod Wanted

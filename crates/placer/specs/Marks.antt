@@ -1,11 +1,7 @@
 -- Marks of names: which of some signals each of them stands for.
 use Rattle.std.specs.Prelude.{◌≡◌, ℕ, ◌<◌, ◌≤◌, ◌==◌, Bool, Option, None, Some, List, [], ◌∷◌, if◌then◌else◌, length, get_or, bytes_eq}
-use Rattle.std.specs.Int.Bits.{bit_or}
-use Rattle.std.specs.List.{flat_map, list_any}
-use Rattle.pld_base.specs.Bits.{bits, is_on}
-use Rattle.abel_tree.specs.Assigned.{Named}
+use Rattle.placer.specs.Prelude.{bit_or, flat_map, list_any, bits, is_on, Named, PartTree}
 use Rattle.declared_names.specs.Numbered.{number_in}
-use Rattle.name_uses.specs.Parts.{PartTree}
 use Rattle.placer.specs.declared.marks.Marks.{Marks}
 use Rattle.placer.specs.declared.read_names.Naming.{Naming}
 use Rattle.placer.specs.declared.seen.Seen.{Seen}

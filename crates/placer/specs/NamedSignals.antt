@@ -1,10 +1,7 @@
 -- The signals that an expression names, through constants too (ABEL-HDL Reference Manual, constants and sets).
 use Rattle.std.specs.Prelude.{ℕ, suc, List, [], ◌∷◌, ◌++◌}
-use Rattle.std.specs.List.{flat_map}
-use Rattle.abel_tree.specs.Assigned.{Named, signals_of_name, signals_of_names}
-use Rattle.abel_tree.specs.Entries.{Kind, APin, ANode, AConstant, ADeviceName, Entry}
+use Rattle.placer.specs.Prelude.{flat_map, Named, signals_of_name, signals_of_names, Kind, APin, ANode, AConstant, ADeviceName, Entry, Tree}
 use Rattle.abel_tree.specs.Ranges.{range_names}
-use Rattle.abel_tree.specs.Tree.{Tree}
 use Rattle.abel_tree.specs.Uses.{Use, OneName, Range, uses}
 
 -- those of a name, or of a range

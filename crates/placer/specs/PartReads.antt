@@ -1,12 +1,8 @@
 -- What the parts of a section read, by the names that they use, and of which signals they assign the enable.
 use Rattle.std.specs.Prelude.{Bool, true, false, List, [], ℕ, if◌then◌else◌}
-use Rattle.std.specs.List.{flat_map}
-use Rattle.abel_tree.specs.Assigned.{Named, signals_of, target_extension, without_extension}
-use Rattle.abel_tree.specs.Tree.{Tree}
+use Rattle.placer.specs.Prelude.{flat_map, Named, signals_of, target_extension, without_extension, Tree, PartRole, PartTree, Target, Value, Read, Registers, PartedSection}
 use Rattle.decls.specs.PartUses.{use_of}
 use Rattle.name_uses.specs.NamesUsed.{UsedName}
-use Rattle.name_uses.specs.Parts.{PartRole, PartTree, Target, Value, Read, Registers}
-use Rattle.name_uses.specs.Viewed.{PartedSection}
 use Rattle.placer.specs.NamedSignals.{signals_used}
 use Rattle.placer.specs.Reads.{is_enable}
 

@@ -1,14 +1,11 @@
 -- A module with pins for its pins without numbers and its buried registers (this project's rule).
 use Rattle.std.specs.Prelude.{ℕ, Bool, true, false, not, Option, None, Some, is_some, List, [], ◌∷◌, ◌++◌, map, filter, codes, unwrap_or}
-use Rattle.std.specs.List.{flat_map}
+use Rattle.placer.specs.Prelude.{flat_map, Item, ANumber, AName, Declaration, SomePins, SomeNodes, SomeAttributes, Statement, AnAssign, SectionTree, Declarations, Equations, ModuleTree, GivenName, given_names}
 use Rattle.pld_base.specs.declared.place.Place.{Place}
 use Rattle.abel_tree.specs.declared.words.Extension.TheVariants as extension
-use Rattle.abel_tree.specs.declared.words.Item.{Item}
 use Rattle.abel_tree.specs.declared.words.Sign.TheVariants as sign
 use Rattle.abel_tree.specs.declared.words.Span.{Span}
 use Rattle.abel_tree.specs.declared.words.Word.{Word}
-use Rattle.abel_tree.specs.Tree.{ANumber, AName, Declaration, SomePins, SomeNodes, SomeAttributes, Statement, AnAssign, SectionTree, Declarations, Equations, ModuleTree}
-use Rattle.abel_meaning.specs.Declarations.{GivenName, given_names}
 
 -- ---- declarations
 

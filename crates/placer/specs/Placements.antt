@@ -1,12 +1,6 @@
 -- The placed module of a module, and why there may be none (this project's rule).
 use Rattle.std.specs.Prelude.{◌≡◌, ℕ, Bool, true, false, not, ◌&&◌, None, Some, List, [], ◌∷◌, if◌then◌else◌, map, get_or, bytes_eq}
-use Rattle.pld_device.specs.Table.{Table}
-use Rattle.abel_tree.specs.Entries.{Kind, ANode, Entry, names_any}
-use Rattle.abel_tree.specs.Tree.{Statement, ModuleTree}
-use Rattle.abel_meaning.specs.Designs.{no_name}
-use Rattle.abel_meaning.specs.Kinds.{names_of}
-use Rattle.decls.specs.NameRefusals.{name_refusals}
-use Rattle.pin_matching.specs.Assignments.{IsTaken, IsKept}
+use Rattle.placer.specs.Prelude.{Table, Kind, ANode, Entry, names_any, Statement, ModuleTree, no_name, names_of, name_refusals, IsTaken, IsKept}
 use Rattle.placer.specs.Reads.{is_read, has_enable}
 use Rattle.placer.specs.PlacedModule.{Pinned, placed_module, released}
 use Rattle.placer.specs.Signals.{to_place, wishes}

@@ -1,12 +1,9 @@
 -- Which signals a module reads, and of which it assigns the enable: an expression reads, a table's inputs and a diagram's
 -- registers do; targets, rows and vectors read nothing (this project's rule).
 use Rattle.std.specs.Prelude.{ℕ, Bool, true, false, ◌==◌, Option, None, Some, List, ◌∷◌}
-use Rattle.std.specs.List.{list_any, flat_map}
+use Rattle.placer.specs.Prelude.{list_any, flat_map, Named, named_of, signals_of, target_extension, without_extension, Entry, SectionTree, ADiagram}
 use Rattle.abel_tree.specs.declared.words.Extension.{Extension}
 use Rattle.abel_tree.specs.declared.words.Extension.TheVariants as extension
-use Rattle.abel_tree.specs.Assigned.{Named, named_of, signals_of, target_extension, without_extension}
-use Rattle.abel_tree.specs.Entries.{Entry}
-use Rattle.abel_tree.specs.Tree.{SectionTree, ADiagram}
 use Rattle.abel_meaning.specs.Held.{Part, ATarget, AValue, section_parts, states_parts}
 use Rattle.placer.specs.NamedSignals.{read_names_of, signals_in}
 

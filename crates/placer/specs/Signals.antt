@@ -1,20 +1,9 @@
 -- Which signals of a module are to be placed, and which free pins fit them, the most preferred one first (this project's
 -- rule, over the devices' datasheets, macrocell diagrams).
 use Rattle.std.specs.Prelude.{ℕ, zero, suc, Bool, true, false, not, ◌&&◌, ◌||◌, ◌==◌, None, is_some, is_none, List, [], ◌∷◌, ◌++◌, if◌then◌else◌, map, filter, get_or}
-use Rattle.std.specs.List.{list_any, range_with_len}
-use Rattle.pld_device.specs.declared.cell.Cell.{Cell}
+use Rattle.placer.specs.Prelude.{list_any, range_with_len, Cell, Table, Entry, is_stored, cell_on, is_unnumbered, no_name, is_buffer_by_default, is_taken, is_signal_pin, has_wrong_kind_on, is_registered_node, has_read_path_on}
 use Rattle.pld_device.specs.declared.enable.Enable.{Enable}
 use Rattle.pld_device.specs.declared.enable.Enable.TheVariants.{Row, PinLow}
-use Rattle.pld_device.specs.Table.{Table}
-use Rattle.abel_tree.specs.Entries.{Entry, is_stored}
-use Rattle.pld_device.specs.Pins.{cell_on}
-use Rattle.abel_meaning.specs.Declarations.{is_unnumbered}
-use Rattle.abel_meaning.specs.Designs.{no_name}
-use Rattle.abel_meaning.specs.Kinds.{is_buffer_by_default}
-use Rattle.decls.specs.NamesBefore.{is_taken}
-use Rattle.decls.specs.Refused.{is_signal_pin}
-use Rattle.design_checks.specs.SignalsRefused.{has_wrong_kind_on, is_registered_node}
-use Rattle.design_checks.specs.RefusedUses.{has_read_path_on}
 
 -- ---- signals
 

@@ -1,8 +1,6 @@
 -- What the code keeps of signals and of free pins, and the pins that a signal may have among some.
 use Rattle.std.specs.Prelude.{◌≡◌, ℕ, nat_lt, Bool, ◌&&◌, List, [], ◌∷◌, ◌++◌, if◌then◌else◌, filter, length}
-use Rattle.pld_base.specs.Bits.{bits, is_on}
-use Rattle.pld_device.specs.Table.{Table}
-use Rattle.abel_tree.specs.Entries.{Entry}
+use Rattle.placer.specs.Prelude.{bits, is_on, Table, Entry}
 use Rattle.placer.specs.Signals.{is_free, needs_pin, pin_fits}
 
 -- no more than so many signals are kept

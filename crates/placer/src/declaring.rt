@@ -1,9 +1,7 @@
 //! Declarations with the pins that their names were given.
 
 ghost use Rattle.std.specs.Prelude.{◌≡◌, ◌++◌, ◌∷◌, [], IfOk, OnOk, length, map};
-ghost use Rattle.abel_tree.specs.Entries.{view_declared};
-ghost use Rattle.abel_tree.specs.Tree.{SomeAttributes, SomePins};
-ghost use Rattle.abel_tree.specs.View.{view_decl};
+ghost use Rattle.placer.specs.Prelude.{view_declared, SomeAttributes, SomePins, view_decl};
 ghost use Rattle.placer.specs.Given.{AreKnown, IsEachPinned, declaration_given, declarations_given, node_given, pin_given};
 ghost use Rattle.placer.specs.PlacedModule.{numbers_for, unpinned_items};
 

@@ -1,12 +1,7 @@
 //! Which pins are free, and which fit a signal.
 
 ghost use Rattle.std.specs.Prelude.{◌≡◌, map, is_some};
-ghost use Rattle.std.specs.List.{list_any};
-ghost use Rattle.pld_device.specs.declared.cell.Cell.{Cell};
-ghost use Rattle.abel_tree.specs.Entries.{view_declared, view_meaning};
-ghost use Rattle.pld_device.specs.Pins.{cell_on};
-ghost use Rattle.decls.specs.NamesBefore.{is_on_pin, is_taken};
-ghost use Rattle.decls.specs.Refused.{is_signal_pin};
+ghost use Rattle.placer.specs.Prelude.{list_any, Cell, view_declared, view_meaning, cell_on, is_on_pin, is_taken, is_signal_pin};
 ghost use Rattle.placer.specs.Signals.{has_cell_for, is_enabled_by, is_free, pin_fits};
 ghost use Rattle.placer.specs.Wanted.{AreFree};
 

@@ -2,8 +2,7 @@
 #![tactic(auto)]
 
 ghost use Rattle.std.specs.Prelude.{◌≤◌, IfOk, length, map};
-ghost use Rattle.abel_tree.specs.Entries.{view_declared};
-ghost use Rattle.abel_tree.specs.View.{view_module};
+ghost use Rattle.placer.specs.Prelude.{view_declared, view_module};
 ghost use Rattle.placer.specs.Marks.{HasMarks};
 ghost use Rattle.placer.specs.Reads.{has_enable, is_read};
 

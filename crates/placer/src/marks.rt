@@ -3,12 +3,8 @@
 //! A mark is a number of 32 bits: bit k is that of the signal at place k of those that are asked for.
 
 ghost use Rattle.std.specs.Prelude.{◌≡◌, ◌≤◌, ℕ, List, IfOk, OnOk, length, map, ◌++◌, ◌∷◌, []};
-ghost use Rattle.std.specs.Int.Bits.{bit_or};
-ghost use Rattle.std.specs.List.{flat_map};
-ghost use Rattle.abel_tree.specs.Assigned.{Named, signals_of_name, signals_of_names};
-ghost use Rattle.abel_tree.specs.View.{view};
+ghost use Rattle.placer.specs.Prelude.{bit_or, flat_map, Named, signals_of_name, signals_of_names, view, view_use};
 ghost use Rattle.name_uses.specs.RangeParts.{name_items};
-ghost use Rattle.name_uses.specs.Viewed.{view_use};
 ghost use Rattle.placer.specs.Marks.{AreMarks, HasMark, IsMarkOf};
 ghost use Rattle.placer.specs.NamedSignals.{signals_in};
 ghost use Rattle.placer.specs.PartReads.{signals_at};

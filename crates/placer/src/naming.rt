@@ -1,9 +1,7 @@
 //! Lists of a declaration's names: their numbers, and those that stay what they are.
 
 ghost use Rattle.std.specs.Prelude.{◌≡◌, ◌++◌, ◌∷◌, [], IfOk, OnOk, is_some, unwrap_or, length, map};
-ghost use Rattle.abel_tree.specs.Entries.{view_declared};
-ghost use Rattle.abel_meaning.specs.Declarations.{given_names};
-ghost use Rattle.decls.specs.Shown.{view_given};
+ghost use Rattle.placer.specs.Prelude.{view_declared, given_names, view_given};
 ghost use Rattle.placer.specs.Given.{AreKnown, IsEachPinned, items_left, node_given, pin_given};
 ghost use Rattle.placer.specs.PlacedModule.{item_at, numbers_for, spans_for, unpinned_items};
 

@@ -1,8 +1,7 @@
 //! Which signals have to be given pins.
 
 ghost use Rattle.std.specs.Prelude.{◌≡◌, ◌&&◌, nat_lt, IfOk, OnOk, length, map, take};
-ghost use Rattle.abel_tree.specs.Entries.{view_declared};
-ghost use Rattle.abel_meaning.specs.Kinds.{is_buffer_by_default};
+ghost use Rattle.placer.specs.Prelude.{view_declared, is_buffer_by_default};
 ghost use Rattle.placer.specs.Signals.{needs_pin, to_place};
 ghost use Rattle.placer.specs.Wanted.{with_signal};
 

@@ -1,10 +1,7 @@
 //! Declarations of nodes with the pins that some of them become.
 
 ghost use Rattle.std.specs.Prelude.{◌≡◌, IfOk, length, map};
-ghost use Rattle.abel_tree.specs.Entries.{view_declared};
-ghost use Rattle.abel_tree.specs.View.{view_decl};
-ghost use Rattle.abel_meaning.specs.Declarations.{given_names};
-ghost use Rattle.decls.specs.Shown.{view_given};
+ghost use Rattle.placer.specs.Prelude.{view_declared, view_decl, given_names, view_given};
 ghost use Rattle.placer.specs.Given.{AreKnown, IsEachPinned, node_given};
 ghost use Rattle.placer.specs.PlacedModule.{node_alone, node_declaration, node_pinned};
 ghost use Rattle.placer.specs.Placements.{dc_of};

@@ -1,10 +1,7 @@
 //! What the parts of a module read, and of which signals they assign the enable.
 
 ghost use Rattle.std.specs.Prelude.{◌≡◌, IfOk, map, ◌∷◌, []};
-ghost use Rattle.std.specs.List.{flat_map};
-ghost use Rattle.abel_tree.specs.Assigned.{target_extension};
-ghost use Rattle.abel_tree.specs.View.{view};
-ghost use Rattle.name_uses.specs.Viewed.{view_part, view_role, view_section_parts};
+ghost use Rattle.placer.specs.Prelude.{flat_map, target_extension, view, view_part, view_role, view_section_parts};
 ghost use Rattle.placer.specs.Marks.{AreSeen, IsMarkOf};
 ghost use Rattle.placer.specs.PartReads.{enabled_in, is_enabling, parts_of, read_in, reads_as};
 ghost use Rattle.placer.specs.Reads.{is_enable};

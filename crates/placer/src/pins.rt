@@ -1,8 +1,7 @@
 //! The pins that signals were given, by their names.
 
 ghost use Rattle.std.specs.Prelude.{◌≡◌, ◌<◌, All, IfSome, Some, None, if◌then◌else◌, length, map, get_or, position, bytes_eq};
-ghost use Rattle.abel_tree.specs.Entries.{has, view_declared, view_meaning};
-ghost use Rattle.abel_meaning.specs.Designs.{no_name};
+ghost use Rattle.placer.specs.Prelude.{has, view_declared, view_meaning, no_name};
 ghost use Rattle.placer.specs.Given.{AreKnown, IsEachPinned, node_given, pin_given};
 ghost use Rattle.placer.specs.Placements.{dc_of, is_node};
 

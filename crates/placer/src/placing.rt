@@ -1,12 +1,7 @@
 //! The call that places a module.
 
 ghost use Rattle.std.specs.Prelude.{◌≡◌, ◌<◌, ◌≤◌, [], ℕ, List, All, IfOk, IfErr, length, map, get_or, take};
-ghost use Rattle.abel_tree.specs.Entries.{entries_of, view_declared};
-ghost use Rattle.abel_tree.specs.View.{view_module};
-ghost use Rattle.abel_meaning.specs.Designs.{no_name};
-ghost use Rattle.abel_meaning.specs.Kinds.{names_of};
-ghost use Rattle.decls.specs.NameRefusals.{name_refusals};
-ghost use Rattle.pin_matching.specs.Assignments.{IsKept};
+ghost use Rattle.placer.specs.Prelude.{entries_of, view_declared, view_module, no_name, names_of, name_refusals, IsKept};
 ghost use Rattle.pin_matching.specs.Refusals.{IsRefusal};
 ghost use Rattle.placer.specs.Marks.{HasMarks};
 ghost use Rattle.placer.specs.Reads.{has_enable, is_read};

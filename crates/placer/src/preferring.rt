@@ -1,7 +1,7 @@
 //! Which pins a signal prefers.
 
 ghost use Rattle.std.specs.Prelude.{◌≡◌, ◌==◌, ◌++◌, IfOk, OnOk, is_none};
-ghost use Rattle.pld_device.specs.Pins.{cell_on};
+ghost use Rattle.placer.specs.Prelude.{cell_on};
 ghost use Rattle.placer.specs.Signals.{cells_of_room, large_cells, plain_pins, preferred, small_cells};
 
 use pld_base::OutOfMemory;

@@ -1,8 +1,7 @@
 //! The marks of a module's names.
 
 ghost use Rattle.std.specs.Prelude.{◌≤◌, ℕ, List, IfOk, OnOk, length, map, ◌++◌, ◌∷◌, []};
-ghost use Rattle.abel_tree.specs.Assigned.{Named, meant, named_of};
-ghost use Rattle.abel_tree.specs.Entries.{view_declared, view_meaning};
+ghost use Rattle.placer.specs.Prelude.{Named, meant, named_of, view_declared, view_meaning};
 ghost use Rattle.placer.specs.Marks.{AreMarks, HasMark};
 ghost use Rattle.placer.specs.NamedSignals.{read_names_of, stands_for};
 

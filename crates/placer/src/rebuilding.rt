@@ -1,9 +1,7 @@
 //! A module with the pins that its names were given.
 
 ghost use Rattle.std.specs.Prelude.{◌≡◌, ◌≤◌, ◌++◌, ◌&&◌, ℕ, Bool, not, IfOk, OnOk, length, map};
-ghost use Rattle.abel_tree.specs.Entries.{view_declared};
-ghost use Rattle.abel_tree.specs.Tree.{Declarations};
-ghost use Rattle.abel_tree.specs.View.{view_decl, view_module, view_section, view_stmt};
+ghost use Rattle.placer.specs.Prelude.{view_declared, Declarations, view_decl, view_module, view_section, view_stmt};
 ghost use Rattle.placer.specs.Marks.{HasMarks};
 ghost use Rattle.placer.specs.Given.{AreKnown, IsEachPinned, module_given, pins_given, released_if, section_given};
 ghost use Rattle.placer.specs.PlacedModule.{with_equations};

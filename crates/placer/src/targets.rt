@@ -1,8 +1,7 @@
 //! What targets name among some signals.
 
 ghost use Rattle.std.specs.Prelude.{IfOk};
-ghost use Rattle.abel_tree.specs.Assigned.{signals_of, without_extension};
-ghost use Rattle.abel_tree.specs.View.{view};
+ghost use Rattle.placer.specs.Prelude.{signals_of, without_extension, view};
 ghost use Rattle.placer.specs.Marks.{IsMarkOf};
 
 use crate::marks::Marks;

@@ -1,9 +1,7 @@
 //! The pins that each signal may have, the most preferred one first.
 
 ghost use Rattle.std.specs.Prelude.{◌≡◌, ◌<◌, ◌≤◌, ◌&&◌, ℕ, Bool, List, All, IfOk, length, map, get_or};
-ghost use Rattle.pld_base.specs.Bits.{bits, is_on};
-ghost use Rattle.abel_tree.specs.Entries.{Entry, view_declared};
-ghost use Rattle.abel_meaning.specs.Designs.{no_name};
+ghost use Rattle.placer.specs.Prelude.{bits, is_on, Entry, view_declared, no_name};
 ghost use Rattle.placer.specs.Marks.{HasMarks};
 ghost use Rattle.placer.specs.Signals.{is_free, pin_fits, wish};
 ghost use Rattle.placer.specs.Wanted.{AreFree, wanted_of};

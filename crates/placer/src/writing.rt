@@ -1,7 +1,7 @@
 //! What is written into a placed module.
 
 ghost use Rattle.std.specs.Prelude.{◌≡◌, [], ◌∷◌, IfOk, OnOk, ◌++◌};
-ghost use Rattle.abel_tree.specs.View.{view_decl, view_stmt};
+ghost use Rattle.placer.specs.Prelude.{view_decl, view_stmt};
 ghost use Rattle.placer.specs.PlacedModule.{item_at, register_string, released, span_at};
 
 use abel_tree::{Assign, Expr, Extension, Item, Number, Sign, Span, Stmt, Word};

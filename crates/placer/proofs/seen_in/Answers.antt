@@ -1,16 +1,6 @@
 -- The marks of all sections, with the names as the module declares them.
 use Rattle.std.proofs.Common.{◌==◌, map, get_or, ap, ◌∙◌}
-use Rattle.std.specs.List.{flat_map, list_any}
-use Rattle.std.proofs.lemmas.Result.{IfOk-weaker}
-use Rattle.abel_tree.specs.Assigned.{named_of}
-use Rattle.abel_tree.specs.Entries.{view_declared}
-use Rattle.abel_tree.specs.View.{view_module}
-use Rattle.name_uses.specs.Viewed.{view_section_parts}
-use Rattle.placer.specs.declared.seen.Seen.{Seen}
-use Rattle.placer.specs.Marks.{AreSeen, HasMarks}
-use Rattle.placer.specs.NamedSignals.{read_names_of}
-use Rattle.placer.specs.PartReads.{enabled_in, parts_of, read_in}
-use Rattle.placer.specs.Reads.{has_enable, is_read}
+use Rattle.placer.proofs.Common.{flat_map, list_any, IfOk-weaker, named_of, view_declared, view_module, view_section_parts, Seen, AreSeen, HasMarks, read_names_of, enabled_in, parts_of, read_in, has_enable, is_read}
 use Rattle.placer.proofs.PartsRead.{sections_enable, sections_read}
 use Rattle.placer.proofs.seen_in.Goals as goal
 

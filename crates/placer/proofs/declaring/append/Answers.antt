@@ -1,8 +1,6 @@
 -- One declaration more.
 use Rattle.std.proofs.Common.{[], ◌∷◌, ◌++◌, sym, ap, ◌∙◌, append_assoc, rules}
-use Rattle.std.proofs.lemmas.Iterator.Adapters.{YieldsList-from_vec}
-use Rattle.std.proofs.lemmas.Iterator.Consumers.{YieldsList-end}
-use Rattle.std.proofs.lemmas.List.{map-id}
+use Rattle.placer.proofs.Common.{YieldsList-from_vec, YieldsList-end, map-id}
 use Rattle.placer.proofs.declaring.append.Goals as goal
 
 pub loop-decl-preserved : goal.loop-decl-preserved

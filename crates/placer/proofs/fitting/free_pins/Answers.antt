@@ -1,7 +1,6 @@
 -- One pin more.
 use Rattle.std.proofs.Common.{◌≡◌, ◌<◌, ◌≤◌, ◌+◌, true, false, map, sym, subst, ◌∙◌, arith}
-use Rattle.abel_tree.specs.Entries.{view_declared}
-use Rattle.placer.specs.Signals.{is_free}
+use Rattle.placer.proofs.Common.{view_declared, is_free}
 use Rattle.placer.proofs.Free.{IsFreeTo, all_free, free_more, none_free, taken_more}
 use Rattle.placer.proofs.fitting.free_pins.Goals.{then-is_free, else-is_free}
 use Rattle.placer.proofs.fitting.free_pins.Goals as goal

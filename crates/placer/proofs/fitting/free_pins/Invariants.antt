@@ -1,6 +1,6 @@
 -- The pins so far.
 use Rattle.std.proofs.Common.{map}
-use Rattle.abel_tree.specs.Entries.{view_declared}
+use Rattle.placer.proofs.Common.{view_declared}
 use Rattle.placer.proofs.Free.{IsFreeTo}
 use Rattle.placer.proofs.fitting.free_pins.Given as goal
 

@@ -1,11 +1,6 @@
 -- One cell more.
 use Rattle.std.proofs.Common.{◌<◌, ◌≤◌, ◌||◌, ◌+◌, Bool, drop, length, sym, ap, ◌∙◌, arith}
-use Rattle.std.specs.List.{list_any}
-use Rattle.std.proofs.lemmas.Option.{get_or_from_slice_get}
-use Rattle.pld_device.specs.declared.cell.Cell.{Cell}
-use Rattle.pld_device.specs.Table.{no_cell}
-use Rattle.placer.specs.Signals.{is_enabled_by}
-use Rattle.pld_device.proofs.FirstPlaces.{any_here, any_none}
+use Rattle.placer.proofs.Common.{list_any, get_or_from_slice_get, Cell, no_cell, is_enabled_by, any_here, any_none}
 use Rattle.placer.proofs.fitting.is_enabling.Goals as goal
 
 pub returns-then-is_enabled_by : goal.returns-then-is_enabled_by

@@ -1,8 +1,6 @@
 -- None of the cells so far.
 use Rattle.std.proofs.Common.{◌≡◌, drop}
-use Rattle.std.specs.List.{list_any}
-use Rattle.pld_device.specs.declared.cell.Cell.{Cell}
-use Rattle.placer.specs.Signals.{is_enabled_by}
+use Rattle.placer.proofs.Common.{list_any, Cell, is_enabled_by}
 use Rattle.placer.proofs.fitting.is_enabling.Given as goal
 
 abbrev pub invariant-loop-index : goal.invariant-loop-index

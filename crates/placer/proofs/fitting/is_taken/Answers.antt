@@ -1,10 +1,6 @@
 -- One name more.
 use Rattle.std.proofs.Common.{◌≤◌, ◌||◌, ◌+◌, Bool, drop, length, map, sym, ap, ◌∙◌, arith}
-use Rattle.std.specs.List.{list_any}
-use Rattle.abel_tree.specs.declared.names.Declared.{Declared}
-use Rattle.abel_tree.specs.Entries.{Entry, view_declared, view_meaning}
-use Rattle.decls.specs.NamesBefore.{is_on_pin}
-use Rattle.pld_device.proofs.FirstPlaces.{any_here}
+use Rattle.placer.proofs.Common.{list_any, Declared, Entry, view_declared, view_meaning, is_on_pin, any_here}
 use Rattle.placer.proofs.Mapped.{any_mapped, any_past}
 use Rattle.placer.proofs.fitting.is_taken.Goals as goal
 

@@ -1,9 +1,6 @@
 -- None of the names so far.
 use Rattle.std.proofs.Common.{◌≡◌, drop, map}
-use Rattle.std.specs.List.{list_any}
-use Rattle.abel_tree.specs.declared.names.Declared.{Declared}
-use Rattle.abel_tree.specs.Entries.{view_declared, view_meaning}
-use Rattle.decls.specs.NamesBefore.{is_on_pin, is_taken}
+use Rattle.placer.proofs.Common.{list_any, Declared, view_declared, view_meaning, is_on_pin, is_taken}
 use Rattle.placer.proofs.fitting.is_taken.Given as goal
 
 abbrev pub invariant-loop-declared : goal.invariant-loop-declared

@@ -1,6 +1,6 @@
 -- One place more.
 use Rattle.std.proofs.Common.{◌≡◌, ◌+◌, ◌==◌, true, false, get_or, sym, subst, arith}
-use Rattle.std.proofs.lemmas.Bool.Decides.{nat_tests}
+use Rattle.placer.proofs.Common.{nat_tests}
 use Rattle.placer.proofs.Signals.{IsMarkedTo, none_met, other_met, this_met}
 use Rattle.placer.proofs.marks.mark_of.Goals.{then-signal-number, else-signal-number}
 use Rattle.placer.proofs.marks.mark_of.Goals as goal

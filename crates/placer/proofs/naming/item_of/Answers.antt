@@ -1,6 +1,5 @@
 use Rattle.std.proofs.Common.{◌≡◌, ap, ◌∙◌}
-use Rattle.std.proofs.lemmas.Result.{IfOk-weaker}
-use Rattle.placer.specs.PlacedModule.{item_at}
+use Rattle.placer.proofs.Common.{IfOk-weaker, item_at}
 use Rattle.placer.proofs.naming.item_of.Goals as goal
 
 pub returns : goal.returns

@@ -1,7 +1,6 @@
 -- With the signal, or as they were.
 use Rattle.std.proofs.Common.{◌≡◌, true, false, nat_lt, ◌&&◌, [], ◌∷◌, ◌++◌, if◌then◌else◌, length, sym, ap, ◌∙◌}
-use Rattle.abel_tree.specs.Entries.{view_declared}
-use Rattle.placer.specs.Signals.{needs_pin}
+use Rattle.placer.proofs.Common.{view_declared, needs_pin}
 use Rattle.placer.proofs.needing.add_signal.Goals as goal
 
 pub returns-then-not-is_added : goal.returns-then-not-is_added

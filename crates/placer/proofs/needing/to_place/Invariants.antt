@@ -1,7 +1,6 @@
 -- Those of the names so far.
 use Rattle.std.proofs.Common.{◌≡◌, map, take}
-use Rattle.abel_tree.specs.Entries.{view_declared}
-use Rattle.placer.specs.Signals.{to_place}
+use Rattle.placer.proofs.Common.{view_declared, to_place}
 use Rattle.placer.proofs.needing.to_place.Given as goal
 
 abbrev pub invariant-loop-number : goal.invariant-loop-number

@@ -1,9 +1,5 @@
 use Rattle.std.proofs.Common.{[], ◌∷◌, List, ap, ap₂, ◌∙◌}
-use Rattle.abel_tree.specs.declared.words.Item.{Item}
-use Rattle.abel_tree.specs.declared.words.Span.{Span}
-use Rattle.abel_tree.specs.declared.words.Word.{Word}
-use Rattle.abel_tree.specs.Tree.{SomeNodes}
-use Rattle.placer.specs.PlacedModule.{item_at}
+use Rattle.placer.proofs.Common.{Item, Span, Word, SomeNodes, item_at}
 use Rattle.placer.proofs.nodes.node_alone.Goals as goal
 
 pub returns : goal.returns

@@ -1,9 +1,5 @@
 use Rattle.std.proofs.Common.{false, [], ◌∷◌, List, ap, ap₂, ◌∙◌}
-use Rattle.abel_tree.specs.declared.words.Item.{Item}
-use Rattle.abel_tree.specs.declared.words.Span.{Span}
-use Rattle.abel_tree.specs.declared.words.Word.{Word}
-use Rattle.abel_tree.specs.Tree.{SomePins}
-use Rattle.placer.specs.PlacedModule.{item_at, span_at}
+use Rattle.placer.proofs.Common.{Item, Span, Word, SomePins, item_at, span_at}
 use Rattle.placer.proofs.nodes.node_pinned.Goals as goal
 
 pub returns : goal.returns

@@ -1,7 +1,6 @@
 -- None of the names so far is it.
 use Rattle.std.proofs.Common.{◌≡◌, drop, map}
-use Rattle.abel_tree.specs.Entries.{view_declared}
-use Rattle.placer.specs.Placements.{dc_of}
+use Rattle.placer.proofs.Common.{view_declared, dc_of}
 use Rattle.placer.proofs.pins.dc_of.Given as goal
 
 abbrev pub invariant-loop-declared : goal.invariant-loop-declared

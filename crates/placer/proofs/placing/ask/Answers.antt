@@ -1,10 +1,7 @@
 -- Of the module whose sections were gone through.
 use Rattle.std.proofs.Common.{map, subst}
+use Rattle.placer.proofs.Common.{view_declared, view_module, HasMarks, has_enable, is_read}
 use Rattle.abel_tree.specs.declared.sections.Module.{Module}
-use Rattle.abel_tree.specs.Entries.{view_declared}
-use Rattle.abel_tree.specs.View.{view_module}
-use Rattle.placer.specs.Marks.{HasMarks}
-use Rattle.placer.specs.Reads.{has_enable, is_read}
 use Rattle.placer.proofs.placing.ask.Goals as goal
 
 pub returns-clause-wishes : goal.returns-clause-wishes

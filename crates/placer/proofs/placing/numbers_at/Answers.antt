@@ -1,6 +1,6 @@
 -- One place more.
 use Rattle.std.proofs.Common.{[], ◌∷◌, ◌++◌, map, get_or, sym, ap, ap₂, ◌∙◌, arith}
-use Rattle.std.proofs.lemmas.List.{take_all}
+use Rattle.placer.proofs.Common.{take_all}
 use Rattle.placer.proofs.Mapped.{mapped_next}
 use Rattle.placer.proofs.placing.numbers_at.Goals as goal
 

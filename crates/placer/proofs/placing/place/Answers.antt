@@ -1,11 +1,6 @@
 -- Nothing to place, and some signals.
 use Rattle.std.proofs.Common.{◌≡◌, ◌==◌, ◌<◌, ℕ, [], List, length, map, take, sym, ap, ◌∙◌, subst}
-use Rattle.std.proofs.lemmas.Result.{IfOk-weaker}
-use Rattle.abel_tree.specs.declared.names.Declared.{Declared}
-use Rattle.abel_tree.specs.Entries.{view_declared}
-use Rattle.abel_tree.specs.View.{view_module}
-use Rattle.abel_meaning.specs.Kinds.{names_of}
-use Rattle.placer.specs.Signals.{to_place}
+use Rattle.placer.proofs.Common.{IfOk-weaker, Declared, view_declared, view_module, names_of, to_place}
 use Rattle.placer.proofs.MadeModules.{is_none, itself, some_there}
 use Rattle.placer.proofs.PlacedSignals.{followed}
 use Rattle.placer.proofs.Promise.{promised}

@@ -1,17 +1,6 @@
 -- What is made of the first signals is the placed module, and what is refused of them is refused of all.
 use Rattle.std.proofs.Common.{◌≡◌, ◌<◌, ◌≤◌, List, ℕ, All, length, map, get_or, take, refl, sym, ap, ◌∙◌, subst, arith}
-use Rattle.std.proofs.lemmas.List.{length-map, length-take}
-use Rattle.abel_tree.specs.Entries.{view_declared}
-use Rattle.abel_tree.specs.View.{view_module}
-use Rattle.abel_meaning.specs.Designs.{no_name}
-use Rattle.pin_matching.specs.Assignments.{IsTaken}
-use Rattle.pin_matching.specs.Refusals.{IsRefusal}
-use Rattle.placer.specs.Marks.{HasMarks}
-use Rattle.placer.specs.Reads.{has_enable, is_read}
-use Rattle.placer.specs.Faults.{IsToldOf}
-use Rattle.placer.specs.Given.{AreKnown}
-use Rattle.placer.specs.Placements.{all_released, with_pins}
-use Rattle.placer.specs.Signals.{to_place, wish}
+use Rattle.placer.proofs.Common.{length-map, length-take, view_declared, view_module, no_name, IsTaken, IsRefusal, HasMarks, has_enable, is_read, IsToldOf, AreKnown, all_released, with_pins, to_place, wish}
 use Rattle.placer.proofs.MadeModules.{each_pin, names_known, placed_by, signals_inside, unplaced_is}
 use Rattle.placer.proofs.placing.place_signals.Goals as goal
 

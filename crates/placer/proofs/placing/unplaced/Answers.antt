@@ -1,8 +1,6 @@
 -- The signals at the places that are kept.
 use Rattle.std.proofs.Common.{List, ℕ, sym, subst}
-use Rattle.std.proofs.lemmas.Result.{IfOk-weaker}
-use Rattle.pin_matching.specs.Assignments.{IsKept}
-use Rattle.pin_matching.specs.Refusals.{IsRefusal}
+use Rattle.placer.proofs.Common.{IfOk-weaker, IsKept, IsRefusal}
 use Rattle.placer.proofs.placing.unplaced.Goals as goal
 
 pub returns-in-NoPlacement : goal.returns-in-NoPlacement

@@ -1,7 +1,6 @@
 -- One cell more.
 use Rattle.std.proofs.Common.{◌<◌, ◌≤◌, ◌++◌, ◌∷◌, [], length, sym, ap, ◌∙◌, append_assoc, arith}
-use Rattle.std.proofs.lemmas.Option.{get_or_from_slice_get}
-use Rattle.pld_device.specs.Table.{no_cell}
+use Rattle.placer.proofs.Common.{get_or_from_slice_get, no_cell}
 use Rattle.placer.proofs.PinLists.{room_more, room_pins, room_same, whole_room}
 use Rattle.placer.proofs.preferring.add_room.Goals.{then-is_of_room+in_ok-push, else-is_of_room}
 use Rattle.placer.proofs.preferring.add_room.Goals as goal

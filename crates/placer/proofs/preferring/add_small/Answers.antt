@@ -1,6 +1,6 @@
 -- One room more.
 use Rattle.std.proofs.Common.{◌≡◌, ◌+◌, suc, ◌++◌, sym, ap, ◌∙◌, append_assoc, add-one, arith}
-use Rattle.placer.specs.Signals.{cells_of_room, small_to}
+use Rattle.placer.proofs.Common.{cells_of_room, small_to}
 use Rattle.placer.proofs.PinLists.{small_more}
 use Rattle.placer.proofs.preferring.add_small.Goals as goal
 

@@ -1,6 +1,6 @@
 -- The rooms so far.
 use Rattle.std.proofs.Common.{◌≡◌, ◌++◌}
-use Rattle.placer.specs.Signals.{small_to}
+use Rattle.placer.proofs.Common.{small_to}
 use Rattle.placer.proofs.preferring.add_small.Given as goal
 
 abbrev pub invariant-loop-room : goal.invariant-loop-room

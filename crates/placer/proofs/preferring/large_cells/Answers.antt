@@ -1,6 +1,6 @@
 -- One room less.
 use Rattle.std.proofs.Common.{◌≡◌, ◌-◌, ◌<◌, suc, ◌++◌, sym, ap, ◌∙◌, append_assoc, arith}
-use Rattle.placer.specs.Signals.{cells_of_room, large_to}
+use Rattle.placer.proofs.Common.{cells_of_room, large_to}
 use Rattle.placer.proofs.PinLists.{large_less}
 use Rattle.placer.proofs.preferring.large_cells.Goals as goal
 

@@ -1,6 +1,6 @@
 -- With the cells of smaller room it is the whole.
 use Rattle.std.proofs.Common.{◌≡◌, ◌++◌}
-use Rattle.placer.specs.Signals.{large_cells, large_to}
+use Rattle.placer.proofs.Common.{large_cells, large_to}
 use Rattle.placer.proofs.preferring.large_cells.Given as goal
 
 abbrev pub decreases-rooms : goal.decreases-rooms

@@ -1,6 +1,6 @@
 -- One name more.
 use Rattle.std.proofs.Common.{subst}
-use Rattle.placer.specs.Marks.{AreMarks}
+use Rattle.placer.proofs.Common.{AreMarks}
 use Rattle.placer.proofs.Names.{named_more, read_more}
 use Rattle.placer.proofs.read_names.naming_of.Goals as goal
 

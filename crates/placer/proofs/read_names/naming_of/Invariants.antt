@@ -1,9 +1,6 @@
 -- What the names so far stand for.
 use Rattle.std.proofs.Common.{map, take}
-use Rattle.abel_tree.specs.Assigned.{named_of}
-use Rattle.abel_tree.specs.Entries.{view_declared}
-use Rattle.placer.specs.Marks.{AreMarks}
-use Rattle.placer.specs.NamedSignals.{read_names_of}
+use Rattle.placer.proofs.Common.{named_of, view_declared, AreMarks, read_names_of}
 use Rattle.placer.proofs.read_names.naming_of.Given as goal
 
 abbrev pub invariant-loop-number : goal.invariant-loop-number

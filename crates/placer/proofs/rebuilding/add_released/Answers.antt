@@ -1,8 +1,6 @@
 -- A node whose enable isn't assigned is released.
 use Rattle.std.proofs.Common.{[], ◌∷◌, ◌++◌, if◌then◌else◌, map, sym, ap, ◌∙◌}
-use Rattle.std.proofs.lemmas.List.{append-nil, map-append}
-use Rattle.abel_tree.specs.View.{view_stmt}
-use Rattle.placer.specs.PlacedModule.{released}
+use Rattle.placer.proofs.Common.{append-nil, map-append, view_stmt, released}
 use Rattle.placer.proofs.rebuilding.add_released.Goals as goal
 
 pub returns-then-not-is_released : goal.returns-then-not-is_released

@@ -1,9 +1,7 @@
 -- Where there are equations, one section more.
 use Rattle.std.proofs.Common.{◌==◌, [], ◌∷◌, ◌++◌, List, length, map, sym, ap, ◌∙◌}
-use Rattle.std.proofs.lemmas.List.{append-nil, map-append}
+use Rattle.placer.proofs.Common.{append-nil, map-append, Stmt, view_section, view_stmt}
 use Rattle.abel_tree.specs.declared.sections.Section.TheVariants as section
-use Rattle.abel_tree.specs.declared.statements.Stmt.{Stmt}
-use Rattle.abel_tree.specs.View.{view_section, view_stmt}
 use Rattle.placer.proofs.Others.{no_equations, some_equations}
 use Rattle.placer.proofs.rebuilding.with_equations.Goals as goal
 

@@ -1,9 +1,6 @@
 -- No later pin is marked.
 use Rattle.std.proofs.Common.{◌≡◌, nat_lt, false, sym, ◌∙◌, arith}
-use Rattle.std.proofs.lemmas.Bool.Decides.{nat_tests}
-use Rattle.std.proofs.lemmas.List.{get_or_past}
-use Rattle.pld_base.specs.Bits.{bits}
-use Rattle.pld_base.proofs.BitLemmas.{length-bits}
+use Rattle.placer.proofs.Common.{nat_tests, get_or_past, bits, length-bits}
 use Rattle.placer.proofs.wishing.is_marked.Goals as goal
 
 pub returns-else-pin-lt32 : goal.returns-else-pin-lt32

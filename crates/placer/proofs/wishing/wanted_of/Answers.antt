@@ -1,8 +1,6 @@
 -- One pin more.
 use Rattle.std.proofs.Common.{[], ◌∷◌, ◌++◌, get_or, refl, sym, ap, ◌∙◌, arith}
-use Rattle.std.proofs.lemmas.List.{take_all}
-use Rattle.abel_tree.specs.Entries.{view_declared}
-use Rattle.placer.specs.Wanted.{wanted_of}
+use Rattle.placer.proofs.Common.{take_all, view_declared, wanted_of}
 use Rattle.placer.proofs.PinLists.{wanted_more, wanted_same}
 use Rattle.placer.proofs.wishing.wanted_of.Goals.{then-is_wanted+in_ok-push, else-is_wanted}
 use Rattle.placer.proofs.wishing.wanted_of.Goals as goal

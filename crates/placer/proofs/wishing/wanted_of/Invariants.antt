@@ -1,7 +1,6 @@
 -- The pins so far.
 use Rattle.std.proofs.Common.{◌≡◌, List, take}
-use Rattle.abel_tree.specs.Entries.{Entry, view_declared}
-use Rattle.placer.specs.Wanted.{AreFree, wanted_of}
+use Rattle.placer.proofs.Common.{Entry, view_declared, AreFree, wanted_of}
 use Rattle.placer.proofs.wishing.wanted_of.Given as goal
 
 abbrev pub invariant-loop-pin : goal.invariant-loop-pin

@@ -1,7 +1,5 @@
 use Rattle.std.proofs.Common.{ap, ◌∙◌}
-use Rattle.std.proofs.lemmas.Result.{IfOk-weaker}
-use Rattle.abel_tree.specs.Entries.{view_declared}
-use Rattle.placer.specs.Wanted.{wanted_of}
+use Rattle.placer.proofs.Common.{IfOk-weaker, view_declared, wanted_of}
 use Rattle.placer.proofs.wishing.wish_of.Goals as goal
 
 pub returns : goal.returns

@@ -1,10 +1,6 @@
 -- One signal more.
 use Rattle.std.proofs.Common.{◌≡◌, ◌<◌, ◌≤◌, [], ◌∷◌, ◌++◌, length, map, get_or, sym, ap, ap₂, ◌∙◌, arith}
-use Rattle.std.proofs.lemmas.List.{take_all}
-use Rattle.std.proofs.lemmas.List.Elements.{All-get_or}
-use Rattle.abel_tree.specs.Entries.{Entry, view_declared}
-use Rattle.abel_meaning.specs.Designs.{no_name}
-use Rattle.placer.specs.Signals.{wish}
+use Rattle.placer.proofs.Common.{take_all, All-get_or, Entry, view_declared, no_name, wish}
 use Rattle.placer.proofs.DeclaredAt.{seen_at}
 use Rattle.placer.proofs.Mapped.{mapped_next}
 use Rattle.placer.proofs.wishing.wishes_of.Goals as goal

@@ -1,9 +1,6 @@
 -- The signals so far.
 use Rattle.std.proofs.Common.{◌≡◌, ℕ, Bool, get_or, map, take}
-use Rattle.abel_tree.specs.Entries.{view_declared}
-use Rattle.abel_meaning.specs.Designs.{no_name}
-use Rattle.placer.specs.Marks.{HasMarks}
-use Rattle.placer.specs.Signals.{wish}
+use Rattle.placer.proofs.Common.{view_declared, no_name, HasMarks, wish}
 use Rattle.placer.proofs.wishing.wishes_of.Given as goal
 
 abbrev pub invariant-loop-place : goal.invariant-loop-place

@@ -1,6 +1,6 @@
 -- One word more.
 use Rattle.std.proofs.Common.{[], ◌∷◌, ◌++◌, sym, ap₂, ◌∙◌, arith}
-use Rattle.std.proofs.lemmas.List.{take_all, take_more}
+use Rattle.placer.proofs.Common.{take_all, take_more}
 use Rattle.placer.proofs.writing.copies.Goals as goal
 
 pub loop-word-preserved : goal.loop-word-preserved

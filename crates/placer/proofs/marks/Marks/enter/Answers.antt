@@ -1,11 +1,9 @@
 -- A new name stands behind the others.
 use Rattle.std.proofs.Common.{◌≡◌, true, None, ◌∷◌, [], ◌++◌, sym, ap, subst, ◌∙◌}
 use Rattle.std.specs.Prelude.{is_some, bytes_eq}
+use Rattle.placer.proofs.Common.{number_in, none_found, HasSameMark, numbers_named}
 use Rattle.std.specs.Map.{lookup}
 use Rattle.indexmap.proofs.CallerLemmas.{insert_entry-new}
-use Rattle.declared_names.specs.Numbered.{number_in}
-use Rattle.declared_names.proofs.Numbering.{none_found}
-use Rattle.placer.specs.Marks.{HasSameMark, numbers_named}
 use Rattle.placer.proofs.Known.{known_name, new_name, some_found}
 use Rattle.placer.proofs.marks.Marks.enter.Goals as goal
 

@@ -1,10 +1,6 @@
 -- The names that it uses are those that it names.
 use Rattle.std.proofs.Common.{None, map, ap, ◌∙◌}
-use Rattle.std.specs.List.{flat_map}
-use Rattle.abel_tree.specs.View.{view}
-use Rattle.name_uses.specs.Viewed.{view_use}
-use Rattle.placer.specs.NamedSignals.{signals_in}
-use Rattle.placer.specs.PartReads.{signals_at}
+use Rattle.placer.proofs.Common.{flat_map, view, view_use, signals_in, signals_at}
 use Rattle.placer.proofs.Joins.{numbers_answer}
 use Rattle.placer.proofs.UsedSignals.{names_signals}
 use Rattle.placer.proofs.marks.Marks.of_expr.Goals as goal

@@ -1,7 +1,6 @@
 -- One name more.
 use Rattle.std.proofs.Common.{ap, arith}
-use Rattle.abel_tree.specs.Assigned.{signals_of_name, signals_of_names}
-use Rattle.name_uses.specs.RangeParts.{name_items}
+use Rattle.placer.proofs.Common.{signals_of_name, signals_of_names, name_items}
 use Rattle.placer.proofs.Joins.{no_numbers, numbers_all, numbers_more, numbers_same}
 use Rattle.placer.proofs.Targeted.{names_push}
 use Rattle.placer.proofs.marks.Marks.of_names.Goals as goal

@@ -1,10 +1,6 @@
 -- The names of the target.
 use Rattle.std.proofs.Common.{map, ap, ◌∙◌}
-use Rattle.std.specs.List.{flat_map}
-use Rattle.abel_tree.specs.Assigned.{signals_of}
-use Rattle.abel_tree.specs.View.{view}
-use Rattle.name_uses.specs.Viewed.{view_use}
-use Rattle.placer.specs.PartReads.{signals_at}
+use Rattle.placer.proofs.Common.{flat_map, signals_of, view, view_use, signals_at}
 use Rattle.placer.proofs.Joins.{numbers_answer}
 use Rattle.placer.proofs.Targeted.{target_signals}
 use Rattle.placer.proofs.marks.Marks.of_target.Goals as goal

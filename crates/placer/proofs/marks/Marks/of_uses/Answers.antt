@@ -1,8 +1,6 @@
 -- One name more.
 use Rattle.std.proofs.Common.{arith}
-use Rattle.std.specs.List.{flat_map}
-use Rattle.name_uses.specs.Viewed.{view_use}
-use Rattle.placer.specs.PartReads.{signals_at}
+use Rattle.placer.proofs.Common.{flat_map, view_use, signals_at}
 use Rattle.placer.proofs.Joins.{no_numbers, numbers_all, numbers_more}
 use Rattle.placer.proofs.Mapped.{flat_push}
 use Rattle.placer.proofs.marks.Marks.of_uses.Goals as goal

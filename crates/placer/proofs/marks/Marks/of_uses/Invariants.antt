@@ -1,9 +1,6 @@
 -- The mark of the names so far.
 use Rattle.std.proofs.Common.{map, take}
-use Rattle.std.specs.List.{flat_map}
-use Rattle.name_uses.specs.Viewed.{view_use}
-use Rattle.placer.specs.Marks.{IsMarkOf}
-use Rattle.placer.specs.PartReads.{signals_at}
+use Rattle.placer.proofs.Common.{flat_map, view_use, IsMarkOf, signals_at}
 use Rattle.placer.proofs.marks.Marks.of_uses.Given as goal
 
 abbrev pub invariant-loop-used : goal.invariant-loop-used

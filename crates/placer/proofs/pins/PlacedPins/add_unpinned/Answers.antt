@@ -1,9 +1,6 @@
 -- A name with a pin is left out.
 use Rattle.std.proofs.Common.{[], ◌∷◌, ◌++◌, map, sym, ap, ◌∙◌}
-use Rattle.std.proofs.lemmas.List.{append-nil}
-use Rattle.abel_tree.specs.Entries.{view_declared}
-use Rattle.decls.specs.Shown.{view_given}
-use Rattle.placer.specs.Given.{node_given}
+use Rattle.placer.proofs.Common.{append-nil, view_declared, view_given, node_given}
 use Rattle.placer.proofs.Items.{left_none, left_one}
 use Rattle.placer.proofs.pins.PlacedPins.add_unpinned.Goals as goal
 

@@ -1,12 +1,6 @@
 -- One signal more.
 use Rattle.std.proofs.Common.{◌≡◌, ◌<◌, ◌≤◌, ◌+◌, List, ℕ, [], ◌++◌, drop, length, map, get_or, sym, ap, ap₂, ◌∙◌, append_assoc, subst}
-use Rattle.std.proofs.lemmas.List.{append-nil}
-use Rattle.std.proofs.lemmas.List.Elements.{All-get_or}
-use Rattle.abel_tree.specs.Entries.{view_declared}
-use Rattle.abel_tree.specs.View.{view_stmt}
-use Rattle.abel_meaning.specs.Designs.{no_name}
-use Rattle.placer.specs.Given.{released_if}
-use Rattle.placer.specs.Placements.{all_released, with_pins}
+use Rattle.placer.proofs.Common.{append-nil, All-get_or, view_declared, view_stmt, no_name, released_if, all_released, with_pins}
 use Rattle.placer.proofs.DeclaredAt.{seen_at}
 use Rattle.placer.proofs.Released.{released_next, released_past}
 use Rattle.placer.proofs.pins.PlacedPins.all_released.Goals as goal

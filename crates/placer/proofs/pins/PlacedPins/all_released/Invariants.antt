@@ -1,10 +1,6 @@
 -- With those of the signals that are left it is the whole.
 use Rattle.std.proofs.Common.{◌≡◌, ℕ, Bool, ◌++◌, drop, map}
-use Rattle.abel_tree.specs.Entries.{view_declared}
-use Rattle.abel_tree.specs.View.{view_stmt}
-use Rattle.placer.specs.Marks.{HasMarks}
-use Rattle.placer.specs.Given.{pins_given}
-use Rattle.placer.specs.Placements.{all_released, with_pins}
+use Rattle.placer.proofs.Common.{view_declared, view_stmt, HasMarks, pins_given, all_released, with_pins}
 use Rattle.placer.proofs.pins.PlacedPins.all_released.Given as goal
 
 abbrev pub invariant-loop-place : goal.invariant-loop-place

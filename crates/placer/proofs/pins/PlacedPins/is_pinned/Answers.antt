@@ -1,7 +1,6 @@
 use Rattle.std.proofs.Common.{map, ap, ◌∙◌}
 use Rattle.std.specs.Prelude.{is_some}
-use Rattle.abel_tree.specs.Entries.{view_declared}
-use Rattle.placer.specs.Given.{node_given}
+use Rattle.placer.proofs.Common.{view_declared, node_given}
 use Rattle.placer.proofs.pins.PlacedPins.is_pinned.Goals as goal
 
 pub returns : goal.returns

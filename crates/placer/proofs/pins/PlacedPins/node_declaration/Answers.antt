@@ -1,11 +1,6 @@
 -- By the node's pin.
 use Rattle.std.proofs.Common.{◌≡◌, Option, None, Some, map, sym, ap, ◌∙◌, List, ℕ, Bool}
-use Rattle.std.proofs.lemmas.Result.{IfOk-weaker}
-use Rattle.abel_tree.specs.Entries.{view_declared}
-use Rattle.decls.specs.Shown.{view_given}
-use Rattle.placer.specs.Given.{node_given}
-use Rattle.placer.specs.PlacedModule.{node_pinned}
-use Rattle.placer.specs.Placements.{dc_of}
+use Rattle.placer.proofs.Common.{IfOk-weaker, view_declared, view_given, node_given, node_pinned, dc_of}
 use Rattle.placer.proofs.Items.{declared_alone, declared_pinned}
 use Rattle.placer.proofs.pins.PlacedPins.node_declaration.Goals as goal
 

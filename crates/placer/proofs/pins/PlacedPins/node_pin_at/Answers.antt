@@ -1,10 +1,6 @@
 -- Its signal is what the definitions see.
 use Rattle.std.proofs.Common.{◌≡◌, ◌<◌, None, Some, if◌then◌else◌, length, map, get_or, sym, ap, ◌∙◌, subst, arith}
-use Rattle.std.proofs.lemmas.List.{get_or_read}
-use Rattle.std.proofs.lemmas.List.Elements.{All-get_or}
-use Rattle.abel_tree.specs.Entries.{Entry, view_declared}
-use Rattle.abel_meaning.specs.Designs.{no_name}
-use Rattle.placer.specs.Placements.{is_node}
+use Rattle.placer.proofs.Common.{get_or_read, All-get_or, Entry, view_declared, no_name, is_node}
 use Rattle.placer.proofs.DeclaredAt.{seen_at}
 use Rattle.placer.proofs.pins.PlacedPins.node_pin_at.Goals as goal
 

@@ -1,10 +1,5 @@
 use Rattle.std.proofs.Common.{map, ap, ◌∙◌}
-use Rattle.std.proofs.lemmas.Result.{IfOk-weaker}
-use Rattle.abel_tree.specs.Entries.{view_declared}
-use Rattle.decls.specs.Shown.{view_given}
-use Rattle.placer.specs.Given.{node_given}
-use Rattle.placer.specs.PlacedModule.{node_declaration}
-use Rattle.placer.specs.Placements.{dc_of}
+use Rattle.placer.proofs.Common.{IfOk-weaker, view_declared, view_given, node_given, node_declaration, dc_of}
 use Rattle.placer.proofs.pins.PlacedPins.nodes.Goals as goal
 
 pub returns : goal.returns

@@ -1,13 +1,7 @@
 -- One node more.
 use Rattle.std.proofs.Common.{[], ◌∷◌, ◌++◌, map, take, sym, ap, ap₂, ◌∙◌, arith}
-use Rattle.std.proofs.lemmas.List.{map-append, take_all}
-use Rattle.abel_tree.specs.Entries.{view_declared}
-use Rattle.abel_tree.specs.View.{view_decl}
-use Rattle.decls.specs.Shown.{view_given}
+use Rattle.placer.proofs.Common.{map-append, take_all, view_declared, view_decl, view_given, node_given, node_declaration, dc_of}
 use Rattle.placer.proofs.Mapped.{mapped_more}
-use Rattle.placer.specs.Given.{node_given}
-use Rattle.placer.specs.PlacedModule.{node_declaration}
-use Rattle.placer.specs.Placements.{dc_of}
 use Rattle.placer.proofs.pins.PlacedPins.nodes_of.Goals as goal
 
 pub loop-node-preserved : goal.loop-node-preserved

@@ -1,11 +1,6 @@
 -- The nodes so far.
 use Rattle.std.proofs.Common.{◌≡◌, map, take}
-use Rattle.abel_tree.specs.Entries.{view_declared}
-use Rattle.abel_tree.specs.View.{view_decl}
-use Rattle.decls.specs.Shown.{view_given}
-use Rattle.placer.specs.Given.{AreKnown, node_given}
-use Rattle.placer.specs.PlacedModule.{node_declaration}
-use Rattle.placer.specs.Placements.{dc_of}
+use Rattle.placer.proofs.Common.{view_declared, view_decl, view_given, AreKnown, node_given, node_declaration, dc_of}
 use Rattle.placer.proofs.pins.PlacedPins.nodes_of.Given as goal
 
 abbrev pub invariant-loop-node : goal.invariant-loop-node

@@ -1,7 +1,6 @@
 use Rattle.std.proofs.Common.{map, ap, ◌∙◌}
 use Rattle.std.specs.Prelude.{unwrap_or}
-use Rattle.abel_tree.specs.Entries.{view_declared}
-use Rattle.placer.specs.Given.{pin_given}
+use Rattle.placer.proofs.Common.{view_declared, pin_given}
 use Rattle.placer.proofs.pins.PlacedPins.number_of.Goals as goal
 
 pub returns : goal.returns

@@ -1,9 +1,6 @@
 -- Where there are numbers, they stand.
 use Rattle.std.proofs.Common.{◌==◌, List, length, map, sym, ap, ◌∙◌}
-use Rattle.std.proofs.lemmas.Result.{IfOk-weaker}
-use Rattle.abel_tree.specs.declared.words.Span.{Span}
-use Rattle.abel_tree.specs.Entries.{view_declared}
-use Rattle.placer.specs.Given.{pin_given}
+use Rattle.placer.proofs.Common.{IfOk-weaker, Span, view_declared, pin_given}
 use Rattle.placer.proofs.Items.{given_stand, none_given}
 use Rattle.placer.proofs.pins.PlacedPins.numbers_for.Goals as goal
 

@@ -1,8 +1,7 @@
 -- The pin at the place of the name's signal.
 use Rattle.std.proofs.Common.{◌≡◌, ◌<◌, None, Some, length, map, sym, ap, ◌∙◌, subst, arith}
 use Rattle.std.specs.Prelude.{position}
-use Rattle.std.proofs.lemmas.List.{get_or_read}
-use Rattle.abel_tree.specs.Entries.{view_declared}
+use Rattle.placer.proofs.Common.{get_or_read, view_declared}
 use Rattle.placer.proofs.Pinned.{is_name, pin_at_place}
 use Rattle.placer.proofs.pins.PlacedPins.pin_of.Goals as goal
 

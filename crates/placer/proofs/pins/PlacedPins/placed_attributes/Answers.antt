@@ -1,8 +1,5 @@
 use Rattle.std.proofs.Common.{[], ◌∷◌, List, map, ap, ◌∙◌}
-use Rattle.std.proofs.lemmas.Result.{IfOk-weaker}
-use Rattle.abel_tree.specs.declared.words.Item.{Item}
-use Rattle.abel_tree.specs.Tree.{SomeAttributes}
-use Rattle.abel_tree.specs.View.{view_decl}
+use Rattle.placer.proofs.Common.{IfOk-weaker, Item, SomeAttributes, view_decl}
 use Rattle.placer.proofs.pins.PlacedPins.placed_attributes.Goals as goal
 
 pub returns : goal.returns

@@ -1,16 +1,6 @@
 -- By its kind.
 use Rattle.std.proofs.Common.{[], ◌∷◌, List, map, sym, ap, ap₂, ◌∙◌}
-use Rattle.std.proofs.lemmas.Result.{IfOk-weaker}
-use Rattle.abel_tree.specs.declared.declarations.Decl.{Decl}
-use Rattle.abel_tree.specs.declared.words.Item.{Item}
-use Rattle.abel_tree.specs.declared.words.Word.{Word}
-use Rattle.abel_tree.specs.Entries.{view_declared}
-use Rattle.abel_tree.specs.Tree.{SomeAttributes}
-use Rattle.abel_tree.specs.View.{view_decl}
-use Rattle.abel_meaning.specs.Declarations.{given_names}
-use Rattle.placer.specs.Given.{declaration_given, node_given, pin_given}
-use Rattle.placer.specs.PlacedModule.{node_declaration, unpinned_items}
-use Rattle.placer.specs.Placements.{dc_of}
+use Rattle.placer.proofs.Common.{IfOk-weaker, Decl, Item, Word, view_declared, SomeAttributes, view_decl, given_names, declaration_given, node_given, pin_given, node_declaration, unpinned_items, dc_of}
 use Rattle.placer.proofs.Others.{other_decl}
 use Rattle.placer.proofs.pins.PlacedPins.placed_declaration.Goals as goal
 

@@ -1,11 +1,6 @@
 -- One declaration more.
 use Rattle.std.proofs.Common.{[], ◌∷◌, ◌++◌, map, sym, ap, ap₂, ◌∙◌, rules}
-use Rattle.std.proofs.lemmas.Iterator.Adapters.{YieldsList-from_vec}
-use Rattle.std.proofs.lemmas.Iterator.Consumers.{YieldsList-end}
-use Rattle.std.proofs.lemmas.List.{map-append, map-id}
-use Rattle.abel_tree.specs.Entries.{view_declared}
-use Rattle.abel_tree.specs.View.{view_decl}
-use Rattle.placer.specs.Given.{declaration_given, declarations_given}
+use Rattle.placer.proofs.Common.{YieldsList-from_vec, YieldsList-end, map-append, map-id, view_declared, view_decl, declaration_given, declarations_given}
 use Rattle.placer.proofs.Mapped.{flat_push}
 use Rattle.placer.proofs.pins.PlacedPins.placed_declarations.Goals as goal
 

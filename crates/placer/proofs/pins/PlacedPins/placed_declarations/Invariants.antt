@@ -1,8 +1,6 @@
 -- What stands for the declarations so far.
 use Rattle.std.proofs.Common.{◌≡◌, map}
-use Rattle.abel_tree.specs.Entries.{view_declared}
-use Rattle.abel_tree.specs.View.{view_decl}
-use Rattle.placer.specs.Given.{AreKnown, declarations_given}
+use Rattle.placer.proofs.Common.{view_declared, view_decl, AreKnown, declarations_given}
 use Rattle.placer.proofs.pins.PlacedPins.placed_declarations.Given as goal
 
 abbrev pub invariant-loop-decl : goal.invariant-loop-decl

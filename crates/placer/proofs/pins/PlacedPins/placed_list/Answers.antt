@@ -1,5 +1,5 @@
 use Rattle.std.proofs.Common.{ap}
-use Rattle.abel_tree.specs.Tree.{Declarations}
+use Rattle.placer.proofs.Common.{Declarations}
 use Rattle.placer.proofs.pins.PlacedPins.placed_list.Goals as goal
 
 pub returns : goal.returns

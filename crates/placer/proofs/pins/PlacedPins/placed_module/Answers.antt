@@ -1,8 +1,6 @@
 -- All else is moved.
 use Rattle.std.proofs.Common.{List, ◌++◌, map, ap, ap₂, ◌∙◌}
-use Rattle.abel_tree.specs.Tree.{Declaration, SectionTree}
-use Rattle.abel_tree.specs.View.{view_module, view_section, view_stmt}
-use Rattle.placer.specs.PlacedModule.{with_equations}
+use Rattle.placer.proofs.Common.{Declaration, SectionTree, view_module, view_section, view_stmt, with_equations}
 use Rattle.placer.proofs.pins.PlacedPins.placed_module.Goals as goal
 
 pub returns : goal.returns

@@ -1,11 +1,5 @@
 use Rattle.std.proofs.Common.{[], ◌∷◌, List, map, ap, ◌∙◌}
-use Rattle.std.proofs.lemmas.Result.{IfOk-weaker}
-use Rattle.abel_tree.specs.declared.words.Item.{Item}
-use Rattle.abel_tree.specs.Entries.{view_declared}
-use Rattle.abel_tree.specs.Tree.{SomePins}
-use Rattle.abel_tree.specs.View.{view_decl}
-use Rattle.placer.specs.Given.{pin_given}
-use Rattle.placer.specs.PlacedModule.{numbers_for}
+use Rattle.placer.proofs.Common.{IfOk-weaker, Item, view_declared, SomePins, view_decl, pin_given, numbers_for}
 use Rattle.placer.proofs.pins.PlacedPins.placed_pins.Goals as goal
 
 pub returns : goal.returns

@@ -1,11 +1,6 @@
 -- Declarations alone change.
 use Rattle.std.proofs.Common.{map, sym, ap, ◌∙◌}
-use Rattle.std.proofs.lemmas.Result.{IfOk-weaker}
-use Rattle.abel_tree.specs.declared.sections.Section.{Section}
-use Rattle.abel_tree.specs.Entries.{view_declared}
-use Rattle.abel_tree.specs.View.{view_section}
-use Rattle.placer.specs.Given.{node_given, pin_given, section_given}
-use Rattle.placer.specs.Placements.{dc_of}
+use Rattle.placer.proofs.Common.{IfOk-weaker, Section, view_declared, view_section, node_given, pin_given, section_given, dc_of}
 use Rattle.placer.proofs.Others.{other_section}
 use Rattle.placer.proofs.pins.PlacedPins.placed_section.Goals as goal
 

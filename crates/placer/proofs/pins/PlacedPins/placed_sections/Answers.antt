@@ -1,11 +1,6 @@
 -- One section more.
 use Rattle.std.proofs.Common.{[], ◌∷◌, ◌++◌, map, sym, ap, ap₂, ◌∙◌, rules}
-use Rattle.std.proofs.lemmas.Iterator.Adapters.{YieldsList-from_vec}
-use Rattle.std.proofs.lemmas.Iterator.Consumers.{YieldsList-end}
-use Rattle.std.proofs.lemmas.List.{map-append, map-id}
-use Rattle.abel_tree.specs.Entries.{view_declared}
-use Rattle.abel_tree.specs.View.{view_section}
-use Rattle.placer.specs.Given.{section_given}
+use Rattle.placer.proofs.Common.{YieldsList-from_vec, YieldsList-end, map-append, map-id, view_declared, view_section, section_given}
 use Rattle.placer.proofs.pins.PlacedPins.placed_sections.Goals as goal
 
 pub loop-section-preserved : goal.loop-section-preserved

@@ -1,8 +1,6 @@
 -- What stands for the sections so far.
 use Rattle.std.proofs.Common.{◌≡◌, map}
-use Rattle.abel_tree.specs.Entries.{view_declared}
-use Rattle.abel_tree.specs.View.{view_section}
-use Rattle.placer.specs.Given.{AreKnown, section_given}
+use Rattle.placer.proofs.Common.{view_declared, view_section, AreKnown, section_given}
 use Rattle.placer.proofs.pins.PlacedPins.placed_sections.Given as goal
 
 abbrev pub invariant-loop-section : goal.invariant-loop-section

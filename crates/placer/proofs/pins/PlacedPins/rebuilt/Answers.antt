@@ -1,9 +1,5 @@
 use Rattle.std.proofs.Common.{List, map, ap, ◌∙◌}
-use Rattle.std.proofs.lemmas.Result.{IfOk-weaker}
-use Rattle.abel_tree.specs.Entries.{view_declared}
-use Rattle.abel_tree.specs.Tree.{Statement}
-use Rattle.abel_tree.specs.View.{view_module}
-use Rattle.placer.specs.Given.{module_given}
+use Rattle.placer.proofs.Common.{IfOk-weaker, view_declared, Statement, view_module, module_given}
 use Rattle.placer.proofs.pins.PlacedPins.rebuilt.Goals as goal
 
 pub returns : goal.returns

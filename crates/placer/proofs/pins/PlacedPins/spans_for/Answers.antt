@@ -1,9 +1,5 @@
 use Rattle.std.proofs.Common.{map, ap, ◌∙◌}
-use Rattle.std.proofs.lemmas.Result.{IfOk-weaker}
-use Rattle.abel_tree.specs.Entries.{view_declared}
-use Rattle.decls.specs.Shown.{view_given}
-use Rattle.placer.specs.Given.{pin_given}
-use Rattle.placer.specs.PlacedModule.{spans_for}
+use Rattle.placer.proofs.Common.{IfOk-weaker, view_declared, view_given, pin_given, spans_for}
 use Rattle.placer.proofs.pins.PlacedPins.spans_for.Goals as goal
 
 pub returns : goal.returns

@@ -1,11 +1,7 @@
 -- One name more.
 use Rattle.std.proofs.Common.{[], ◌∷◌, ◌++◌, map, take, sym, ap, ap₂, ◌∙◌, arith}
-use Rattle.std.proofs.lemmas.List.{take_all}
-use Rattle.abel_tree.specs.Entries.{view_declared}
-use Rattle.decls.specs.Shown.{view_given}
+use Rattle.placer.proofs.Common.{take_all, view_declared, view_given, pin_given, span_at, spans_for}
 use Rattle.placer.proofs.Mapped.{mapped_more}
-use Rattle.placer.specs.Given.{pin_given}
-use Rattle.placer.specs.PlacedModule.{span_at, spans_for}
 use Rattle.placer.proofs.Items.{spans_push}
 use Rattle.placer.proofs.pins.PlacedPins.spans_of.Goals as goal
 

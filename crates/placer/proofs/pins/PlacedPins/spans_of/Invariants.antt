@@ -1,9 +1,6 @@
 -- The numbers of the names so far.
 use Rattle.std.proofs.Common.{◌≡◌, map, take}
-use Rattle.abel_tree.specs.Entries.{view_declared}
-use Rattle.decls.specs.Shown.{view_given}
-use Rattle.placer.specs.Given.{pin_given}
-use Rattle.placer.specs.PlacedModule.{spans_for}
+use Rattle.placer.proofs.Common.{view_declared, view_given, pin_given, spans_for}
 use Rattle.placer.proofs.pins.PlacedPins.spans_of.Given as goal
 
 abbrev pub invariant-loop-one : goal.invariant-loop-one

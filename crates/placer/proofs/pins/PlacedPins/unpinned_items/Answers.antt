@@ -1,8 +1,5 @@
 use Rattle.std.proofs.Common.{map, ap, ◌∙◌}
-use Rattle.std.proofs.lemmas.Result.{IfOk-weaker}
-use Rattle.abel_tree.specs.Entries.{view_declared}
-use Rattle.decls.specs.Shown.{view_given}
-use Rattle.placer.specs.Given.{items_left, node_given}
+use Rattle.placer.proofs.Common.{IfOk-weaker, view_declared, view_given, items_left, node_given}
 use Rattle.placer.proofs.pins.PlacedPins.unpinned_items.Goals as goal
 
 pub returns : goal.returns

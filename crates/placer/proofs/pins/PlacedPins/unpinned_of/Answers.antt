@@ -1,10 +1,7 @@
 -- One name more.
 use Rattle.std.proofs.Common.{[], ◌∷◌, ◌++◌, map, take, sym, ap, ◌∙◌, arith}
-use Rattle.std.proofs.lemmas.List.{take_all}
-use Rattle.abel_tree.specs.Entries.{view_declared}
-use Rattle.decls.specs.Shown.{view_given}
+use Rattle.placer.proofs.Common.{take_all, view_declared, view_given, items_left, node_given}
 use Rattle.placer.proofs.Mapped.{mapped_more}
-use Rattle.placer.specs.Given.{items_left, node_given}
 use Rattle.placer.proofs.Items.{left_push}
 use Rattle.placer.proofs.pins.PlacedPins.unpinned_of.Goals as goal
 

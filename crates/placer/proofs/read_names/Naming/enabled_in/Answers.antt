@@ -1,8 +1,6 @@
 -- What it names, where it is a target that is an enable.
 use Rattle.std.proofs.Common.{[], if◌then◌else◌, sym, ap, ◌∙◌}
-use Rattle.abel_tree.specs.Assigned.{signals_of, without_extension}
-use Rattle.name_uses.specs.Viewed.{view_part}
-use Rattle.placer.specs.PartReads.{enabled_in}
+use Rattle.placer.proofs.Common.{signals_of, without_extension, view_part, enabled_in}
 use Rattle.placer.proofs.Joins.{no_numbers, numbers_answer, numbers_same}
 use Rattle.placer.proofs.read_names.Naming.enabled_in.Goals as goal
 

@@ -1,8 +1,6 @@
 -- The names that it uses, where it is read.
 use Rattle.std.proofs.Common.{[], map, if◌then◌else◌, sym, ap, ◌∙◌}
-use Rattle.std.specs.List.{flat_map}
-use Rattle.name_uses.specs.Viewed.{view_part, view_use}
-use Rattle.placer.specs.PartReads.{read_in, signals_at}
+use Rattle.placer.proofs.Common.{flat_map, view_part, view_use, read_in, signals_at}
 use Rattle.placer.proofs.Joins.{no_numbers, numbers_answer, numbers_same}
 use Rattle.placer.proofs.read_names.Naming.read_in.Goals as goal
 

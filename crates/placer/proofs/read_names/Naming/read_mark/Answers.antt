@@ -1,11 +1,6 @@
 -- What a name stands for where it is read.
 use Rattle.std.proofs.Common.{List, ◌==◌, sym, subst}
-use Rattle.std.proofs.lemmas.Result.{IfOk-weaker}
-use Rattle.abel_tree.specs.Assigned.{Named}
-use Rattle.abel_tree.specs.Entries.{view_meaning}
-use Rattle.abel_tree.specs.View.{view}
-use Rattle.placer.specs.Marks.{AreMarks, HasMark, IsMarkOf}
-use Rattle.placer.specs.NamedSignals.{signals_in, stands_for}
+use Rattle.placer.proofs.Common.{IfOk-weaker, Named, view_meaning, view, AreMarks, HasMark, IsMarkOf, signals_in, stands_for}
 use Rattle.placer.proofs.Joins.{none_marked}
 use Rattle.placer.proofs.read_names.Naming.read_mark.Goals as goal
 

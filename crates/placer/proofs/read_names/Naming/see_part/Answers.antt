@@ -1,5 +1,5 @@
 -- What it reads, and whose enable it assigns.
-use Rattle.name_uses.specs.Viewed.{view_part}
+use Rattle.placer.proofs.Common.{view_part}
 use Rattle.placer.proofs.Joins.{one_part}
 use Rattle.placer.proofs.read_names.Naming.see_part.Goals as goal
 

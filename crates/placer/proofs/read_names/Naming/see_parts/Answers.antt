@@ -1,6 +1,6 @@
 -- One part more.
 use Rattle.std.proofs.Common.{[], ◌∷◌, refl, arith}
-use Rattle.name_uses.specs.Viewed.{view_part}
+use Rattle.placer.proofs.Common.{view_part}
 use Rattle.placer.proofs.Joins.{no_parts, parts_all, parts_more}
 use Rattle.placer.proofs.read_names.Naming.see_parts.Goals as goal
 

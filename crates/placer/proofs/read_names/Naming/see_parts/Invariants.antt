@@ -1,7 +1,6 @@
 -- The parts so far.
 use Rattle.std.proofs.Common.{map, take}
-use Rattle.name_uses.specs.Viewed.{view_part}
-use Rattle.placer.specs.Marks.{AreSeen}
+use Rattle.placer.proofs.Common.{view_part, AreSeen}
 use Rattle.placer.proofs.read_names.Naming.see_parts.Given as goal
 
 abbrev pub invariant-loop-part : goal.invariant-loop-part

@@ -1,10 +1,7 @@
 -- One section more.
 use Rattle.std.proofs.Common.{List, map, refl, subst, arith}
-use Rattle.std.specs.List.{flat_map}
+use Rattle.placer.proofs.Common.{flat_map, view_part, view_section_parts, AreSeen, parts_of}
 use Rattle.name_uses.specs.declared.part.Part.{Part}
-use Rattle.name_uses.specs.Viewed.{view_part, view_section_parts}
-use Rattle.placer.specs.Marks.{AreSeen}
-use Rattle.placer.specs.PartReads.{parts_of}
 use Rattle.placer.proofs.Joins.{no_parts, parts_all, parts_more}
 use Rattle.placer.proofs.Mapped.{flat_push}
 use Rattle.placer.proofs.read_names.Naming.see_sections.Goals as goal
