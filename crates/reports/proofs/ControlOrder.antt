@@ -1,15 +1,8 @@
 -- The first control of a source, one cell more.
 use Rattle.std.proofs.Common.{◌≡◌, ℕ, ◌+◌, ◌<◌, List, [], ◌∷◌, length, get_or, take, Option, None, Some, refl, ap, ◌∙◌}
-use Rattle.std.specs.Option.{option_to_list}
-use Rattle.std.proofs.lemmas.List.{append-nil, take_more}
+use Rattle.reports.proofs.Common.{option_to_list, append-nil, take_more, earlier, first_refusal, is_before, sooner, CellWanted, Control, SharedControl, own_control, control_order, own_controls}
 use Rattle.std.proofs.lemmas.List.Concat.{flat_map-append}
-use Rattle.abel_tree.specs.FirstRefusal.{earlier, first_refusal, is_before, sooner}
 use Rattle.abel_tree.proofs.FirstRefusals.{first_append}
-use Rattle.bit_expr.specs.declared.netlist.CellWanted.{CellWanted}
-use Rattle.bit_expr.specs.declared.netlist.Control.{Control}
-use Rattle.fitter.specs.declared.shared.SharedControl.{SharedControl}
-use Rattle.fitter.specs.Sharing.{own_control}
-use Rattle.reports.specs.Fits.{control_order, own_controls}
 
 pub before_by : (c d : Control) → is_before control_order c d ≡ sooner c.place.line c.place.column 0 d.place.line d.place.column 0
 unfolding is_before

@@ -1,22 +1,14 @@
 -- Counts over numbers in a row, one more at a time.
 use Rattle.std.proofs.Common.{◌≡◌, ℕ, zero, suc, ◌+◌, ◌<◌, ◌≤◌, Bool, true, false, cond, List, length, Option, None, Some, refl, sym, ap, ◌∙◌, arith}
+use Rattle.reports.proofs.Common.{count_by, range_with_len, sum_by, option_map, map-id, Netlist, arena, Wanted, plain_netlist, plain_wanted, wanted_at, cell_wanted, wanted_is, SummaryCountsTheDesign, assigned_cells}
 use mir.Val.{bool_byte}
 use Rattle.std.specs.Prelude.{is_some}
-use Rattle.std.specs.List.{count_by, range_with_len, sum_by}
-use Rattle.std.specs.Option.{option_map}
-use Rattle.std.proofs.lemmas.List.{map-id}
 use Rattle.std.proofs.lemmas.List.FromFn.{sum_by-map-range_with_len_more}
-use Rattle.bit_expr.specs.declared.netlist.Netlist.{Netlist}
-use Rattle.bit_expr.specs.Arena.{arena}
 use Rattle.abel_meaning.specs.Controls.{signal_on}
 use Rattle.abel_meaning.specs.Designs.{design_of}
-use Rattle.abel_meaning.specs.Netlists.{Wanted, plain_netlist, plain_wanted, wanted_at}
 use Rattle.abel_meaning.specs.SignalReads.{given_formulas}
-use Rattle.fitter.specs.Plans.{cell_wanted}
-use Rattle.fitter.proofs.WantedIds.{wanted_is}
 use Rattle.netlist_laws.proofs.CellsFound.{wanted_found, wanted_here}
 use Rattle.netlist_laws.specs.Gathered.{netlist_of}
-use Rattle.reports.specs.Summary.{SummaryCountsTheDesign, assigned_cells}
 
 -- what a Bool counts for
 abbrev pub counted : Bool → ℕ

@@ -1,3 +1,4 @@
+pub mod Common
 pub mod ControlOrder
 pub mod Counts
 pub mod NamedCells

@@ -1,13 +1,7 @@
 -- The cells that a refusal names are cells of the device.
 use Rattle.std.proofs.Common.{◌≡◌, ℕ, ◌<◌, length, slice_get, Option, Some, sym, ap, ◌∙◌, arith}
-use Rattle.std.proofs.lemmas.Option.{get_or_from_slice_get}
-use Rattle.pld_device.specs.declared.cell.Cell.{Cell}
-use Rattle.pld_device.specs.Table.{Table, cell_at, no_cell}
-use Rattle.bit_expr.specs.declared.netlist.CellWanted.{CellWanted}
-use Rattle.bit_expr.specs.declared.netlist.Netlist.{Netlist}
+use Rattle.reports.proofs.Common.{get_or_from_slice_get, Cell, Table, cell_at, no_cell, CellWanted, Netlist, cell_wanted, sound_id_at}
 use Rattle.abel_meaning.specs.SoundIds.{IsSoundNetlist}
-use Rattle.fitter.specs.Plans.{cell_wanted}
-use Rattle.fitter.proofs.WantedIds.{sound_id_at}
 use Rattle.fitter.proofs.Widths.{cell_low}
 
 pub wanted_low : (t : Table) (net : Netlist) → IsSoundNetlist t net → (c : ℕ) (o : Option CellWanted) → o ≡ cell_wanted net c → (w : CellWanted) → o ≡ Some w → w.cell < length t.cells

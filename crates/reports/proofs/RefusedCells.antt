@@ -1,30 +1,17 @@
 -- The cells and controls that a refusal of the fit names are there.
 use Rattle.std.proofs.Common.{rules, ◌≡◌, ℕ, Bool, true, false, ◌==◌, nat_lt, length, List, [], ◌∷◌, ◌++◌, map, Option, None, Some, IsSome, is_some, Err, refl, sym, ap, subst, ◌∙◌, if◌then◌else◌, inl, inr}
 use Rattle.std.specs.Prelude.{find, unwrap_or}
-use Rattle.std.specs.Option.{option_map, option_to_list}
+use Rattle.reports.proofs.Common.{option_map, option_to_list, same_Some, Table, CellWanted, Control, Netlist, arena, formula_at, earlier, first_refusal, is_before, Wanted, earlier_name, first_with, own_of, plain_control, plain_netlist, plain_wanted, wanted_at, SharedControl, bit_or, cell_wanted, enable_bit, AreNotShared, own_control, own_formula, one_is, wanted_is, control_order, first_own, own_controls}
 use Rattle.std.proofs.lemmas.Bool.{cases_Bool, true≢false}
-use Rattle.std.proofs.lemmas.Option.{same_Some}
 use Rattle.pld_base.specs.declared.point.Point.{Point}
-use Rattle.pld_device.specs.Table.{Table}
-use Rattle.bit_expr.specs.declared.netlist.CellWanted.{CellWanted}
-use Rattle.bit_expr.specs.declared.netlist.Control.{Control}
-use Rattle.bit_expr.specs.declared.netlist.Netlist.{Netlist}
-use Rattle.bit_expr.specs.Arena.{arena, formula_at}
 use Rattle.bit_expr.specs.Formulas.{Const, Formula}
-use Rattle.abel_tree.specs.FirstRefusal.{earlier, first_refusal, is_before}
-use Rattle.abel_meaning.specs.Netlists.{Wanted, earlier_name, first_with, own_of, plain_control, plain_netlist, plain_wanted, wanted_at}
 use Rattle.covers.specs.Cubes.{full_cube}
 use Rattle.covers.specs.declared.cube.Cube.{Cube}
 use Rattle.sop_lowering.specs.Written.{written}
-use Rattle.fitter.specs.declared.shared.SharedControl.{SharedControl}
 use Rattle.fitter.specs.declared.shared.SharedControl.TheVariants.{Preset, Reset}
-use Rattle.fitter.specs.Plans.{bit_or, cell_wanted, enable_bit}
 use Rattle.fitter.specs.Products.{DifferIn, IsFirstSum, IsNoProduct, IsOneProduct, IsSharedSum}
-use Rattle.fitter.specs.Sharing.{AreNotShared, own_control, own_formula}
 use Rattle.fitter.proofs.Alike.{came_from}
 use Rattle.fitter.proofs.FirstNames.{own_is}
-use Rattle.fitter.proofs.WantedIds.{one_is, wanted_is}
-use Rattle.reports.specs.Fits.{control_order, first_own, own_controls}
 
 some_is : {X : Type 0} (o : Option X) (x : X) → o ≡ Some x → IsSome o
 some_is o x is = rw is refl

@@ -1,8 +1,6 @@
 -- A line that tells a word, a place and names (this project's report).
 use Rattle.std.specs.Prelude.{ℕ, Option, Some, List, ◌++◌, codes}
-use Rattle.std.specs.List.{flat_map}
-use Rattle.pld_base.specs.declared.place.Place.{Place}
-use Rattle.abel_tree.specs.Entries.{Entry}
+use Rattle.reports.specs.Prelude.{flat_map, Place, Entry}
 use Rattle.reports.specs.SourceLines.{name_of}
 use Rattle.reports.specs.RefusalTold.{line_head, tail_text}
 

@@ -1,6 +1,6 @@
 -- How each refusal of a design is told; want of memory is no refusal (this project's report).
 use Rattle.std.specs.Prelude.{ℕ, Option, None, List, [], ◌∷◌, codes}
-use Rattle.abel_tree.specs.Entries.{Entry}
+use Rattle.reports.specs.Prelude.{Entry}
 use Rattle.design_checks.specs.declared.fault.DesignFault.{DesignFault}
 use Rattle.design_checks.specs.declared.fault.DesignFault.TheVariants as fault
 use Rattle.reports.specs.DesignTold.{told}

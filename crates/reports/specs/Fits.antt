@@ -1,21 +1,14 @@
 -- How it is told that a netlist doesn't fit; want of memory is no refusal (this project's report).
 use Rattle.std.specs.Prelude.{ℕ, Option, None, Some, List, [], ◌∷◌, ◌++◌, codes, length}
-use Rattle.std.specs.Fmt.{decimal}
+use Rattle.reports.specs.Prelude.{decimal, flat_map, option_to_list, Table, cell_at, Entry, Ranks, first_refusal, cell_wanted, own_control}
 use Rattle.std.specs.Global.{Vec}
-use Rattle.std.specs.List.{flat_map}
-use Rattle.std.specs.Option.{option_to_list}
-use Rattle.pld_device.specs.Table.{Table, cell_at}
 use Rattle.bit_expr.specs.declared.netlist.CellWanted.{CellWanted}
 use Rattle.bit_expr.specs.declared.netlist.Control.{Control}
 use Rattle.bit_expr.specs.declared.netlist.Netlist.{Netlist}
-use Rattle.abel_tree.specs.Entries.{Entry}
-use Rattle.abel_tree.specs.FirstRefusal.{Ranks, first_refusal}
 use Rattle.covers.specs.declared.cube.Cube.{Cube}
 use Rattle.fit_plans.specs.declared.choosing.Tried.{Tried}
-use Rattle.fitter.specs.Plans.{cell_wanted}
 use Rattle.fitter.specs.declared.shared.SharedControl.{SharedControl}
 use Rattle.fitter.specs.declared.shared.SharedControl.TheVariants.{Preset, Reset}
-use Rattle.fitter.specs.Sharing.{own_control}
 use Rattle.fitter.specs.declared.fault.FitFault.{FitFault}
 use Rattle.fitter.specs.declared.fault.FitFault.TheVariants as fault
 use Rattle.reports.specs.RefusalTold.{line_head}

@@ -1,8 +1,6 @@
 -- How it is told that signals can't be placed (this project's report).
 use Rattle.std.specs.Prelude.{ℕ, Option, None, List, [], ◌∷◌, ◌++◌, codes, slice_get, option_map}
-use Rattle.std.specs.Fmt.{decimal}
-use Rattle.pld_base.specs.declared.place.Place.{Place}
-use Rattle.abel_tree.specs.Entries.{Entry}
+use Rattle.reports.specs.Prelude.{decimal, Place, Entry}
 use Rattle.reports.specs.RefusalTold.{line_head}
 use Rattle.reports.specs.DesignTold.{names_text}
 

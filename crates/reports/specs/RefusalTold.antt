@@ -1,7 +1,6 @@
 -- How a refusal of a source is told (this project's report).
 use Rattle.std.specs.Prelude.{ℕ, Option, None, Some, List, [], ◌∷◌, ◌++◌, codes}
-use Rattle.std.specs.Fmt.{decimal}
-use Rattle.pld_base.specs.declared.place.Place.{Place}
+use Rattle.reports.specs.Prelude.{decimal, Place}
 
 -- the word of a refusal, its place, and the name that is told with it
 pub record Telling : Type 0 where

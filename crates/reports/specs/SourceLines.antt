@@ -1,11 +1,10 @@
 -- How each refusal of a source is told; want of memory is no refusal (this project's report).
 use Rattle.std.specs.Prelude.{ℕ, Option, None, Some, List, slice_get, codes}
-use Rattle.std.specs.Option.{option_map}
+use Rattle.reports.specs.Prelude.{option_map, Entry}
 use Rattle.abel_lexer.specs.declared.fault.ScanFault.{ScanFault}
 use Rattle.abel_lexer.specs.declared.fault.ScanFault.TheVariants as scan
 use Rattle.abel_expand.specs.declared.fault.ExpandFault.{ExpandFault}
 use Rattle.abel_expand.specs.declared.fault.ExpandFault.TheVariants as expand
-use Rattle.abel_tree.specs.Entries.{Entry}
 use Rattle.abel_parser.specs.declared.fault.ParseFault.{ParseFault}
 use Rattle.abel_parser.specs.declared.fault.ParseFault.TheVariants as parse
 use Rattle.module_reader.specs.declared.fault.ReadFault.{ReadFault}

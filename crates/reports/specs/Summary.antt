@@ -1,20 +1,16 @@
 -- The summary of a compiled source: the assigned cells, the data rows in use, the opened fuses and the fuse sum (this
 -- project's report).
 use Rattle.std.specs.Prelude.{◌≡◌, ℕ, Bool, List, ◌++◌, codes, count_by, is_some, length, sum_by}
-use Rattle.std.specs.Fmt.{decimal}
-use Rattle.std.specs.List.{range_with_len}
+use Rattle.reports.specs.Prelude.{decimal, range_with_len, Table, PlainNetlist, wanted_at, is_used}
 use Rattle.pld_base.specs.DeviceNames.{device_text}
 use Rattle.pld_device.specs.Laws.{IsDevice}
 use Rattle.pld_device.specs.Macrocells.{data_rows}
 use Rattle.pld_device.specs.OpenedFuses.{opened_of}
-use Rattle.pld_device.specs.Table.{Table}
 use Rattle.jedec_file.specs.FileText.{four_hex}
 use Rattle.jedec_file.specs.FuseSums.{fuse_sum_of}
 use Rattle.abel_tree.specs.Tree.{ModuleTree}
 use Rattle.abel_meaning.specs.Controls.{signal_on}
 use Rattle.abel_meaning.specs.Designs.{Context, design_of}
-use Rattle.abel_meaning.specs.Netlists.{PlainNetlist, wanted_at}
-use Rattle.netlist_laws.specs.RowCovers.{is_used}
 use Rattle.netlist_laws.specs.Gathered.{netlist_of}
 
 -- how many data rows of a cell aren't all 0

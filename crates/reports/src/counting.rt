@@ -1,9 +1,8 @@
 //! What a summary counts.
 
 ghost use Rattle.std.specs.Prelude.{◌≡◌, ◌+◌, ◌*◌, ◌<◌, ◌≤◌, is_some, length};
+ghost use Rattle.reports.specs.Prelude.{plain_netlist, wanted_at, is_used};
 ghost use Rattle.pld_device.specs.Rows.{row_fuses};
-ghost use Rattle.abel_meaning.specs.Netlists.{plain_netlist, wanted_at};
-ghost use Rattle.netlist_laws.specs.RowCovers.{is_used};
 ghost use Rattle.reports.specs.Summary.{assigned_cells, products_used, rows_used};
 
 use bit_expr::Netlist;

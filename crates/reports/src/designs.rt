@@ -1,7 +1,7 @@
 //! The line on a design that is refused.
 
 ghost use Rattle.std.specs.Prelude.{◌≡◌, Some, IfOk};
-ghost use Rattle.abel_tree.specs.Entries.{entries_of};
+ghost use Rattle.reports.specs.Prelude.{entries_of};
 ghost use Rattle.reports.specs.Designs.{design_text};
 
 use crate::told::told;

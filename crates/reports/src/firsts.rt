@@ -1,7 +1,7 @@
 //! The first reset, or preset, of a source.
 
 ghost use Rattle.std.specs.Prelude.{◌≡◌};
-ghost use Rattle.abel_tree.specs.FirstRefusal.{is_before};
+ghost use Rattle.reports.specs.Prelude.{is_before};
 ghost use Rattle.abel_tree.specs.FirstRefusal as first;
 ghost use Rattle.reports.specs.Fits.{control_order, first_own};
 

@@ -1,12 +1,9 @@
 //! The line on a netlist that does not fit.
 
 ghost use Rattle.std.specs.Prelude.{◌≡◌, ◌<◌, ◌++◌, [], Some, Err, IsSome, IfOk, OnOk, length};
-ghost use Rattle.pld_device.specs.Table.{cell_at};
-ghost use Rattle.abel_tree.specs.Entries.{entries_of};
+ghost use Rattle.reports.specs.Prelude.{cell_at, entries_of, cell_wanted, own_control};
 ghost use Rattle.abel_meaning.specs.SoundIds.{IsSoundNetlist};
 ghost use Rattle.fitter.specs.Answers.{FitAnswers};
-ghost use Rattle.fitter.specs.Plans.{cell_wanted};
-ghost use Rattle.fitter.specs.Sharing.{own_control};
 ghost use Rattle.reports.specs.Fits.{control_text, count_text, enable_text, first_own, fit_text, room_text, tried_text, unshared_text};
 
 use crate::firsts::first_own;

@@ -1,8 +1,7 @@
 //! The line of the report on each refusal of a source.
 
 ghost use Rattle.std.specs.Prelude.{◌≡◌, Some, IfOk};
-ghost use Rattle.std.specs.Option.{option_map};
-ghost use Rattle.abel_tree.specs.Entries.{entries_of};
+ghost use Rattle.reports.specs.Prelude.{option_map, entries_of};
 ghost use Rattle.reports.specs.RefusalTold.{told_line};
 ghost use Rattle.reports.specs.SourceLines.{read_telling, name_telling, section_telling};
 

@@ -1,8 +1,7 @@
 //! The line on signals that can't be placed.
 
 ghost use Rattle.std.specs.Prelude.{◌≡◌, ◌++◌, Some, IsSome, IfOk, OnOk, codes};
-ghost use Rattle.std.specs.Fmt.{decimal};
-ghost use Rattle.abel_tree.specs.Entries.{entries_of};
+ghost use Rattle.reports.specs.Prelude.{decimal, entries_of};
 ghost use Rattle.reports.specs.DesignTold.{names_text};
 ghost use Rattle.reports.specs.Placings.{first_place, placing_text};
 

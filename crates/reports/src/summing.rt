@@ -1,8 +1,7 @@
 //! The summary of a fuse file, as a line.
 
 ghost use Rattle.std.specs.Prelude.{◌≡◌, ◌++◌, length, IfOk, OnOk};
-ghost use Rattle.std.specs.Fmt.{decimal};
-ghost use Rattle.abel_meaning.specs.Netlists.{plain_netlist};
+ghost use Rattle.reports.specs.Prelude.{decimal, plain_netlist};
 ghost use Rattle.reports.specs.Summary.{assigned_cells, summary_of};
 
 use crate::counting::{cells_used, products_used};

@@ -1,8 +1,7 @@
 //! What a line of the report says, and its text.
 
 ghost use Rattle.std.specs.Prelude.{◌≡◌, ◌++◌, Some, IfOk, OnOk};
-ghost use Rattle.std.specs.Option.{option_map};
-ghost use Rattle.std.specs.Fmt.{decimal};
+ghost use Rattle.reports.specs.Prelude.{option_map, decimal};
 ghost use Rattle.reports.specs.RefusalTold.{line_head, tail_text, told_line, plain, with_name_if};
 
 use pld_base::{OutOfMemory, Place, put_decimal};

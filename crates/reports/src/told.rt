@@ -1,7 +1,7 @@
 //! A line that tells a word, a place and names.
 
 ghost use Rattle.std.specs.Prelude.{◌≡◌, ◌++◌, Some, IfOk, OnOk};
-ghost use Rattle.abel_tree.specs.Entries.{entries_of};
+ghost use Rattle.reports.specs.Prelude.{entries_of};
 ghost use Rattle.reports.specs.DesignTold.{names_text, told};
 
 use crate::telling::{begin_line, put_tail};

@@ -1,8 +1,7 @@
 //! The word, the place and the name of each refusal.
 
 ghost use Rattle.std.specs.Prelude.{◌≡◌};
-ghost use Rattle.std.specs.Option.{option_map};
-ghost use Rattle.abel_tree.specs.Entries.{entries_of};
+ghost use Rattle.reports.specs.Prelude.{option_map, entries_of};
 ghost use Rattle.reports.specs.SourceLines.{expand_telling, scan_telling, parse_telling, read_telling, name_telling, name_of, name_of_some, section_telling};
 
 use crate::telling::Telling;

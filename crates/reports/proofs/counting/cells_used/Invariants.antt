@@ -1,8 +1,7 @@
 -- Those of the cells so far.
 use Rattle.std.proofs.Common.{◌≡◌, ◌≤◌}
 use Rattle.std.specs.Prelude.{is_some}
-use Rattle.std.specs.List.{count_by, range_with_len}
-use Rattle.abel_meaning.specs.Netlists.{plain_netlist, wanted_at}
+use Rattle.reports.proofs.Common.{count_by, range_with_len, plain_netlist, wanted_at}
 use Rattle.reports.proofs.counting.cells_used.Given as goal
 
 abbrev pub invariant-loop-cell : goal.invariant-loop-cell

@@ -1,6 +1,5 @@
 use Rattle.std.proofs.Common.{◌≡◌, length, ◌+◌, ◌∙◌, ap, arith}
-use Rattle.std.specs.List.{range_with_len, sum_by}
-use Rattle.reports.specs.Summary.{products_used, rows_used}
+use Rattle.reports.proofs.Common.{range_with_len, sum_by, products_used, rows_used}
 use Rattle.reports.proofs.Counts.{sum_next}
 use Rattle.reports.proofs.counting.products_used.Goals as goal
 

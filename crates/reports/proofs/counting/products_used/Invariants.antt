@@ -1,7 +1,6 @@
 -- Those of the cells so far.
 use Rattle.std.proofs.Common.{◌≡◌, ◌≤◌, ◌*◌}
-use Rattle.std.specs.List.{range_with_len, sum_by}
-use Rattle.reports.specs.Summary.{rows_used}
+use Rattle.reports.proofs.Common.{range_with_len, sum_by, rows_used}
 use Rattle.reports.proofs.counting.products_used.Given as goal
 
 abbrev pub invariant-loop-cell : goal.invariant-loop-cell

@@ -1,9 +1,6 @@
 use Rattle.std.proofs.Common.{◌≡◌, ◌+◌, ◌∙◌, ap, arith}
-use Rattle.std.specs.List.{count_by, range_with_len}
-use Rattle.pld_device.specs.declared.cell.Cell.{Cell}
+use Rattle.reports.proofs.Common.{count_by, range_with_len, Cell, is_used, rows_used}
 use Rattle.device_logic.proofs.Ranges.{cell_found}
-use Rattle.netlist_laws.specs.RowCovers.{is_used}
-use Rattle.reports.specs.Summary.{rows_used}
 use Rattle.reports.proofs.Counts.{counted_is, counted_most, one_more}
 use Rattle.reports.proofs.counting.rows_used.Goals as goal
 

@@ -1,7 +1,6 @@
 -- Those of the rows so far.
 use Rattle.std.proofs.Common.{◌≡◌, ◌≤◌}
-use Rattle.std.specs.List.{count_by, range_with_len}
-use Rattle.netlist_laws.specs.RowCovers.{is_used}
+use Rattle.reports.proofs.Common.{count_by, range_with_len, is_used}
 use Rattle.reports.proofs.counting.rows_used.Given as goal
 
 abbrev pub invariant-loop-offset : goal.invariant-loop-offset

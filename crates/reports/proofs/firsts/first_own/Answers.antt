@@ -1,8 +1,5 @@
 use Rattle.std.proofs.Common.{List, ◌<◌, length, get_or, sym, ap, ap₂, subst, ◌∙◌}
-use Rattle.abel_tree.specs.FirstRefusal.{earlier}
-use Rattle.bit_expr.specs.declared.netlist.CellWanted.{CellWanted}
-use Rattle.fitter.specs.Sharing.{own_control}
-use Rattle.reports.specs.Fits.{control_order}
+use Rattle.reports.proofs.Common.{earlier, CellWanted, own_control, control_order}
 use Rattle.reports.proofs.ControlOrder.{one_cell_more}
 use Rattle.reports.proofs.firsts.first_own.Goals as goal
 

@@ -1,7 +1,6 @@
 -- The first of the cells so far.
 use Rattle.std.proofs.Common.{◌≡◌, take}
-use Rattle.abel_tree.specs.FirstRefusal.{first_refusal}
-use Rattle.reports.specs.Fits.{control_order, own_controls}
+use Rattle.reports.proofs.Common.{first_refusal, control_order, own_controls}
 use Rattle.reports.proofs.firsts.first_own.Given as goal
 
 abbrev pub invariant-loop-wanted : goal.invariant-loop-wanted

@@ -1,7 +1,6 @@
 -- The names of the signals so far.
 use Rattle.std.proofs.Common.{◌≡◌, ◌++◌, take}
-use Rattle.abel_tree.specs.Entries.{entries_of}
-use Rattle.reports.specs.DesignTold.{names_text}
+use Rattle.reports.proofs.Common.{entries_of, names_text}
 use Rattle.reports.proofs.placings.put_signals.Given as goal
 
 abbrev pub invariant-loop-signal : goal.invariant-loop-signal
