@@ -1,10 +1,8 @@
 -- Whether the last state has no transition, by the last state itself.
 use Rattle.std.proofs.Common.{◌≡◌, ℕ, suc, ◌-◌, ◌==◌, List, [], ◌∷◌, length, map, Some, refl, ap, subst, arith}
-use Rattle.std.proofs.lemmas.Bool.Decides.{nat_tests}
+use Rattle.section_parsers.proofs.Common.{nat_tests, Arm, view_arm, view_state}
 use Rattle.std.specs.Prelude.{slice_get}
-use Rattle.abel_tree.specs.declared.diagrams.Arm.{Arm}
 use Rattle.abel_tree.specs.declared.diagrams.State.{State}
-use Rattle.abel_tree.specs.View.{view_arm, view_state}
 use Rattle.abel_grammar.specs.Modules.{is_empty, last_is_bare}
 
 pub last_bare : (ss : List State) (s : State) → slice_get ss (length ss - 1) ≡ Some s → last_is_bare (map view_state ss) ≡ is_empty (map view_arm s.transitions)

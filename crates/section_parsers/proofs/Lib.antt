@@ -1,2 +1,3 @@
+pub mod Common
 mod LastState
 mod Stops

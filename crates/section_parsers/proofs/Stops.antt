@@ -1,6 +1,6 @@
 -- Where one reading stops, so does another that stops with it.
 use Rattle.std.proofs.Common.{◌≡◌, Result, Err}
-use Rattle.abel_grammar.specs.Reading.{Stop, Syntax, TooDeep}
+use Rattle.section_parsers.proofs.Common.{Stop, Syntax, TooDeep}
 use Rattle.abel_lexer.specs.declared.token.Token.{Token}
 use Rattle.abel_grammar.specs.declared.halt.Halt.{Halt}
 use Rattle.abel_grammar.specs.declared.halt.Halt.TheVariants as halt

@@ -1,10 +1,7 @@
 //! Assignments from tokens.
 
 ghost use Rattle.std.specs.Prelude.{◌≡◌, ℕ, [], ◌∷◌};
-ghost use Rattle.abel_tree.specs.View.{view, view_stmt};
-ghost use Rattle.abel_grammar.specs.Gives.{Gives};
-ghost use Rattle.abel_grammar.specs.Statements.{sign_of_terminal};
-ghost use Rattle.abel_grammar.specs.StatementReaders.{read_bare_target, read_complemented_at, read_target, read_assign, read_dont_care_stmt};
+ghost use Rattle.section_parsers.specs.Prelude.{view, view_stmt, Gives, sign_of_terminal, read_bare_target, read_complemented_at, read_target, read_assign, read_dont_care_stmt};
 
 use abel_grammar::{Halt, Terminal, expect, starts, terminal_of};
 use abel_lexer::Token;

@@ -1,16 +1,9 @@
 //! Declarations from tokens: the names first, and then what they are declared as.
 
 ghost use Rattle.std.specs.Prelude.{◌≡◌, ℕ, List, length, map, [], ◌∷◌, option_map, unwrap_or, IfOk};
+ghost use Rattle.section_parsers.specs.Prelude.{read_made, ◌then_read◌, read_repeated, read_times, view, view_decl, Gives, among, read_one, read_expr, read_kept, read_istype, bare_item, only_name, bare_names, read_device, read_values_for, read_constants, read_declared, read_naming, read_option_decl, read_dont_care_decl, read_decl, read_other_decl, decl_starts};
 ghost use Rattle.std.specs.Option.{option_copied};
-ghost use Rattle.abel_grammar.specs.Reading.{read_made, ◌then_read◌, read_repeated};
-ghost use Rattle.abel_grammar.specs.Further.{read_times};
-ghost use Rattle.abel_tree.specs.View.{view, view_decl};
-ghost use Rattle.abel_grammar.specs.Gives.{Gives};
-ghost use Rattle.abel_grammar.specs.Terminals.{among};
-ghost use Rattle.abel_grammar.specs.WordReaders.{read_one};
-ghost use Rattle.abel_grammar.specs.ExpressionReaders.{read_expr};
 ghost use Rattle.abel_grammar.specs.Declarations.{pins_of, nodes_of, attributes_of, value_of};
-ghost use Rattle.abel_grammar.specs.DeclarationReaders.{read_kept, read_istype, bare_item, only_name, bare_names, read_device, read_values_for, read_constants, read_declared, read_naming, read_option_decl, read_dont_care_decl, read_decl, read_other_decl, decl_starts};
 
 use crate::items::{istype, names, option, some_istype, some_nums};
 use abel_grammar::{Halt, Terminal, expect, starts};

@@ -1,11 +1,7 @@
 //! State diagrams from tokens.
 
 ghost use Rattle.std.specs.Prelude.{◌≡◌, ℕ, map, [], ◌∷◌};
-ghost use Rattle.abel_grammar.specs.Reading.{read_repeated};
-ghost use Rattle.abel_tree.specs.View.{view_arm, view_state, view_section};
-ghost use Rattle.abel_grammar.specs.Gives.{Gives};
-ghost use Rattle.abel_grammar.specs.Terminals.{among};
-ghost use Rattle.abel_grammar.specs.DiagramReaders.{read_trans, trans_starts, read_state, read_diagram};
+ghost use Rattle.section_parsers.specs.Prelude.{read_repeated, view_arm, view_state, view_section, Gives, among, read_trans, trans_starts, read_state, read_diagram};
 
 use crate::statements::stmts;
 use crate::transitions::trans;

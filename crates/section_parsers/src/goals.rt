@@ -1,9 +1,7 @@
 //! Goals of transitions from tokens.
 
 ghost use Rattle.std.specs.Prelude.{◌≡◌, ℕ, map, option_map, [], ◌∷◌};
-ghost use Rattle.abel_tree.specs.View.{view, view_stmt, view_arm};
-ghost use Rattle.abel_grammar.specs.Gives.{Gives};
-ghost use Rattle.abel_grammar.specs.DiagramReaders.{read_braced, read_listed, read_with_part, read_goal, read_goal_arm, read_goto};
+ghost use Rattle.section_parsers.specs.Prelude.{view, view_stmt, view_arm, Gives, read_braced, read_listed, read_with_part, read_goal, read_goal_arm, read_goto};
 
 use crate::statements::{plain, stmts};
 use abel_grammar::{Halt, Terminal, expect, starts};

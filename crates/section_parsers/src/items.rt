@@ -1,10 +1,7 @@
 //! The parts of declarations from tokens.
 
 ghost use Rattle.std.specs.Prelude.{◌≡◌, [], ◌∷◌, option_map};
-ghost use Rattle.abel_grammar.specs.Reading.{read_optional};
-ghost use Rattle.abel_grammar.specs.Gives.{Gives};
-ghost use Rattle.abel_grammar.specs.Terminals.{among};
-ghost use Rattle.abel_grammar.specs.DeclarationReaders.{read_item, read_names, read_num, read_nums, read_texts, read_istype, read_option};
+ghost use Rattle.section_parsers.specs.Prelude.{read_optional, Gives, among, read_item, read_names, read_num, read_nums, read_texts, read_istype, read_option};
 
 use abel_grammar::{Halt, Terminal, behind, expect, starts};
 use abel_lexer::Token;

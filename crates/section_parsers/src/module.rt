@@ -1,11 +1,7 @@
 //! A module from tokens.
 
 ghost use Rattle.std.specs.Prelude.{◌≡◌, ℕ, map, [], ◌∷◌, option_map};
-ghost use Rattle.abel_grammar.specs.Reading.{read_optional};
-ghost use Rattle.abel_tree.specs.View.{view_decl, view_section, view_module};
-ghost use Rattle.abel_grammar.specs.Gives.{Gives};
-ghost use Rattle.abel_grammar.specs.Terminals.{among};
-ghost use Rattle.abel_grammar.specs.ModuleReaders.{read_title, read_options, read_first_decls, read_ending, read_body, read_source};
+ghost use Rattle.section_parsers.specs.Prelude.{read_optional, view_decl, view_section, view_module, Gives, among, read_title, read_options, read_first_decls, read_ending, read_body, read_source};
 
 use crate::declarations::{decls, other_decl};
 use crate::items::option;

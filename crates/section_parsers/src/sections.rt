@@ -1,13 +1,8 @@
 //! Sections from tokens.
 
 ghost use Rattle.std.specs.Prelude.{◌≡◌, ℕ, map, [], ◌∷◌};
-ghost use Rattle.abel_grammar.specs.Reading.{read_made, read_followed, read_repeated};
-ghost use Rattle.abel_grammar.specs.Further.{read_unless};
-ghost use Rattle.abel_tree.specs.View.{view_decl, view_state, view_section};
-ghost use Rattle.abel_grammar.specs.Gives.{Gives};
-ghost use Rattle.abel_grammar.specs.Terminals.{among};
+ghost use Rattle.section_parsers.specs.Prelude.{read_made, read_followed, read_repeated, read_unless, view_decl, view_state, view_section, Gives, among, read_declarations, read_equations, read_proper, read_dont_care_section, read_sections};
 ghost use Rattle.abel_grammar.specs.Modules.{last_is_bare, takes_dont_care, section_group_of};
-ghost use Rattle.abel_grammar.specs.ModuleReaders.{read_declarations, read_equations, read_proper, read_dont_care_section, read_sections};
 
 use crate::declarations::decls;
 use crate::diagrams::diagram;

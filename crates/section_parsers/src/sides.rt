@@ -1,12 +1,7 @@
 //! What rows and headers share: two expressions with an arrow between them.
 
-ghost use Rattle.abel_grammar.specs.Reading.{read_token, ◌then_read◌};
+ghost use Rattle.section_parsers.specs.Prelude.{read_token, ◌then_read◌, view, Gives, among, read_one, read_expr};
 ghost use Rattle.std.specs.Prelude.{◌≡◌, ℕ, [], ◌∷◌};
-ghost use Rattle.abel_tree.specs.View.{view};
-ghost use Rattle.abel_grammar.specs.Gives.{Gives};
-ghost use Rattle.abel_grammar.specs.Terminals.{among};
-ghost use Rattle.abel_grammar.specs.WordReaders.{read_one};
-ghost use Rattle.abel_grammar.specs.ExpressionReaders.{read_expr};
 
 use abel_grammar::{Halt, Terminal, expect};
 use abel_lexer::Token;

@@ -1,16 +1,7 @@
 //! Statements from tokens.
 
 ghost use Rattle.std.specs.Prelude.{◌≡◌, ℕ, map, option_map, [], ◌∷◌, None};
-ghost use Rattle.abel_grammar.specs.Reading.{read_optional, ◌then_read◌};
-ghost use Rattle.abel_grammar.specs.Further.{read_unless};
-ghost use Rattle.abel_tree.specs.Tree.{AWhen, otherwise_of};
-ghost use Rattle.abel_tree.specs.View.{view, view_stmt};
-ghost use Rattle.abel_grammar.specs.Gives.{Gives};
-ghost use Rattle.abel_grammar.specs.Terminals.{among};
-ghost use Rattle.abel_grammar.specs.WordReaders.{read_one};
-ghost use Rattle.abel_grammar.specs.ExpressionReaders.{read_expr};
-ghost use Rattle.abel_grammar.specs.Statements.{is_open};
-ghost use Rattle.abel_grammar.specs.StatementReaders.{read_when, read_stmts, read_group, read_stmt, read_plain_stmt};
+ghost use Rattle.section_parsers.specs.Prelude.{read_optional, ◌then_read◌, read_unless, AWhen, otherwise_of, view, view_stmt, Gives, among, read_one, read_expr, is_open, read_when, read_stmts, read_group, read_stmt, read_plain_stmt};
 
 use crate::assignments::{assign, dont_care_stmt};
 use abel_grammar::{Halt, Terminal, expect, starts};

@@ -1,10 +1,8 @@
 //! Truth tables from tokens.
 
 ghost use Rattle.std.specs.Prelude.{◌≡◌, ℕ, map, [], ◌∷◌};
-ghost use Rattle.abel_tree.specs.View.{view_row, view_section};
-ghost use Rattle.abel_grammar.specs.Gives.{Gives};
+ghost use Rattle.section_parsers.specs.Prelude.{view_row, view_section, Gives, read_row, read_header, read_rows, read_table};
 ghost use Rattle.abel_grammar.specs.Tables.{is_clocked};
-ghost use Rattle.abel_grammar.specs.TableReaders.{read_row, read_header, read_rows, read_table};
 
 use crate::sides::{EXPR_STARTS, sides};
 use abel_grammar::{Halt, Terminal, expect, starts, terminal_of};

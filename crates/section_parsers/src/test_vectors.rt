@@ -1,12 +1,7 @@
 //! Test vectors from tokens.
 
 ghost use Rattle.std.specs.Prelude.{◌≡◌, ℕ, map, [], ◌∷◌};
-ghost use Rattle.abel_grammar.specs.Reading.{read_optional};
-ghost use Rattle.abel_tree.specs.View.{view_vector_row, view_section};
-ghost use Rattle.abel_grammar.specs.Gives.{Gives};
-ghost use Rattle.abel_grammar.specs.Terminals.{among};
-ghost use Rattle.abel_grammar.specs.WordReaders.{read_text};
-ghost use Rattle.abel_grammar.specs.TableReaders.{read_vector_row, read_vector_header, read_vector_rows, read_vectors};
+ghost use Rattle.section_parsers.specs.Prelude.{read_optional, view_vector_row, view_section, Gives, among, read_text, read_vector_row, read_vector_header, read_vector_rows, read_vectors};
 
 use crate::sides::{EXPR_STARTS, sides};
 use abel_grammar::{Halt, Terminal, expect, starts};

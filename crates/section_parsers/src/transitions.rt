@@ -1,16 +1,8 @@
 //! Transitions from tokens.
 
 ghost use Rattle.std.specs.Prelude.{◌≡◌, ℕ, map, option_map, [], ◌∷◌, None};
-ghost use Rattle.abel_grammar.specs.Reading.{read_optional, ◌then_read◌};
-ghost use Rattle.abel_grammar.specs.Further.{read_unless};
-ghost use Rattle.abel_tree.specs.Tree.{AnIf, ACase, other_of, choices_of};
-ghost use Rattle.abel_tree.specs.View.{view, view_arm, view_choice};
-ghost use Rattle.abel_grammar.specs.Gives.{Gives};
-ghost use Rattle.abel_grammar.specs.Terminals.{among};
-ghost use Rattle.abel_grammar.specs.WordReaders.{read_one};
-ghost use Rattle.abel_grammar.specs.ExpressionReaders.{read_expr};
+ghost use Rattle.section_parsers.specs.Prelude.{read_optional, ◌then_read◌, read_unless, AnIf, ACase, other_of, choices_of, view, view_arm, view_choice, Gives, among, read_one, read_expr, read_if, read_choice, read_choices, read_case, read_arm, read_leading, read_trans};
 ghost use Rattle.abel_grammar.specs.Diagrams.{is_open_arm, is_closed};
-ghost use Rattle.abel_grammar.specs.DiagramReaders.{read_if, read_choice, read_choices, read_case, read_arm, read_leading, read_trans};
 
 use crate::goals::{goal_arm, goto_goal};
 use abel_grammar::{Halt, Terminal, expect, starts};

@@ -1,7 +1,7 @@
 -- The words so far, and those that follow.
 use Rattle.std.proofs.Common.{◌≡◌, ◌++◌, drop}
 use Rattle.std.specs.Prelude.{option_map}
-use Rattle.abel_grammar.specs.DeclarationReaders.{bare_names}
+use Rattle.section_parsers.proofs.Common.{bare_names}
 use Rattle.section_parsers.proofs.declarations.bare_names.Given as goal
 
 abbrev pub invariant-names : goal.invariant-names

@@ -1,12 +1,6 @@
 -- Each turn reads one entry.
 use Rattle.std.proofs.Common.{◌≡◌, [], ◌∷◌, ◌++◌, length, map, sym, ◌∙◌}
-use Rattle.std.proofs.lemmas.List.{map_push}
-use Rattle.abel_grammar.proofs.ListTurns.{list_turn}
-use Rattle.abel_grammar.specs.Reading.{read_repeated}
-use Rattle.abel_tree.specs.View.{view_decl}
-use Rattle.abel_grammar.specs.Terminals.{among}
-use Rattle.abel_grammar.specs.DeclarationReaders.{decl_starts, read_decl}
-use Rattle.abel_grammar.proofs.Shorter.{decl_shorter}
+use Rattle.section_parsers.proofs.Common.{map_push, list_turn, read_repeated, view_decl, among, decl_starts, read_decl, decl_shorter}
 use Rattle.section_parsers.proofs.declarations.decls.Goals as goal
 
 pub list-smaller : goal.list-smaller

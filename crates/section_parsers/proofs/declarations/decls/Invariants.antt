@@ -1,10 +1,6 @@
 -- What was read before and what is still read is what is read from the start.
 use Rattle.std.proofs.Common.{◌≡◌, [], ◌∷◌, length, map}
-use Rattle.abel_grammar.proofs.ListTurns.{with_front}
-use Rattle.abel_grammar.specs.Reading.{read_repeated}
-use Rattle.abel_tree.specs.View.{view_decl}
-use Rattle.abel_grammar.specs.Terminals.{among}
-use Rattle.abel_grammar.specs.DeclarationReaders.{decl_starts, read_decl}
+use Rattle.section_parsers.proofs.Common.{with_front, read_repeated, view_decl, among, decl_starts, read_decl}
 use Rattle.section_parsers.proofs.declarations.decls.Given as goal
 
 abbrev pub invariant-list : goal.invariant-list

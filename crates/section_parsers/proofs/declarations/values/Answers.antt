@@ -1,17 +1,9 @@
 -- Each turn reads one value.
 use Rattle.std.proofs.Common.{◌≡◌, ℕ, suc, [], ◌∷◌, ◌++◌, ◌-◌, ◌<◌, map, sym, subst, arith}
-use Rattle.std.proofs.lemmas.Bool.Decides.{nat_tests}
+use Rattle.section_parsers.proofs.Common.{nat_tests, map_push, read_made, ◌then_read◌, read_times, with_front, view, read_one, read_expr, value_of}
 use Rattle.std.proofs.lemmas.Result.{err_from_is_err_and}
-use Rattle.std.proofs.lemmas.List.{map_push}
-use Rattle.abel_grammar.specs.Reading.{read_made, ◌then_read◌}
-use Rattle.abel_grammar.specs.Further.{read_times}
-use Rattle.abel_grammar.proofs.ListTurns.{with_front}
 use Rattle.abel_grammar.proofs.TimesTurns.{times_turn, times_fails}
-use Rattle.abel_tree.specs.View.{view}
 use Rattle.abel_grammar.specs.declared.terminal.Terminal.TheVariants as terminal
-use Rattle.abel_grammar.specs.WordReaders.{read_one}
-use Rattle.abel_grammar.specs.ExpressionReaders.{read_expr}
-use Rattle.abel_grammar.specs.Declarations.{value_of}
 use Rattle.section_parsers.proofs.Stops.{fails_as}
 use Rattle.section_parsers.proofs.declarations.values.Goals as goal
 

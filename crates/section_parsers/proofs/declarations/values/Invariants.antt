@@ -1,13 +1,7 @@
 -- What was read before and what is still read is what is read from the start.
 use Rattle.std.proofs.Common.{◌≡◌, [], ◌∷◌, length, map}
-use Rattle.abel_grammar.specs.Reading.{read_made, ◌then_read◌}
-use Rattle.abel_grammar.specs.Further.{read_times}
-use Rattle.abel_grammar.proofs.ListTurns.{with_front}
-use Rattle.abel_tree.specs.View.{view}
+use Rattle.section_parsers.proofs.Common.{read_made, ◌then_read◌, read_times, with_front, view, read_one, read_expr, value_of}
 use Rattle.abel_grammar.specs.declared.terminal.Terminal.TheVariants as terminal
-use Rattle.abel_grammar.specs.WordReaders.{read_one}
-use Rattle.abel_grammar.specs.ExpressionReaders.{read_expr}
-use Rattle.abel_grammar.specs.Declarations.{value_of}
 use Rattle.section_parsers.proofs.declarations.values.Given as goal
 
 abbrev pub invariant-list : goal.invariant-list

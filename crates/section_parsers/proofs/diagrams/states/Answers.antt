@@ -1,13 +1,7 @@
 -- Each turn reads one entry.
 use Rattle.std.proofs.Common.{◌≡◌, [], ◌∷◌, ◌++◌, length, map, sym, ◌∙◌}
-use Rattle.std.proofs.lemmas.List.{map_push}
-use Rattle.abel_grammar.proofs.ListTurns.{list_turn}
-use Rattle.abel_grammar.specs.Reading.{read_repeated}
-use Rattle.abel_tree.specs.View.{view_state}
+use Rattle.section_parsers.proofs.Common.{map_push, list_turn, read_repeated, view_state, among, read_state, state_shorter}
 use Rattle.abel_grammar.specs.declared.terminal.Terminal.TheVariants as terminal
-use Rattle.abel_grammar.specs.Terminals.{among}
-use Rattle.abel_grammar.specs.DiagramReaders.{read_state}
-use Rattle.abel_grammar.proofs.Shorter.{state_shorter}
 use Rattle.section_parsers.proofs.diagrams.states.Goals as goal
 
 pub list-smaller : goal.list-smaller

@@ -1,11 +1,7 @@
 -- What was read before and what is still read is what is read from the start.
 use Rattle.std.proofs.Common.{◌≡◌, [], ◌∷◌, length, map}
-use Rattle.abel_grammar.proofs.ListTurns.{with_front}
-use Rattle.abel_grammar.specs.Reading.{read_repeated}
-use Rattle.abel_tree.specs.View.{view_state}
+use Rattle.section_parsers.proofs.Common.{with_front, read_repeated, view_state, among, read_state}
 use Rattle.abel_grammar.specs.declared.terminal.Terminal.TheVariants as terminal
-use Rattle.abel_grammar.specs.Terminals.{among}
-use Rattle.abel_grammar.specs.DiagramReaders.{read_state}
 use Rattle.section_parsers.proofs.diagrams.states.Given as goal
 
 abbrev pub invariant-list : goal.invariant-list

@@ -1,12 +1,6 @@
 -- Each turn reads one entry.
 use Rattle.std.proofs.Common.{◌≡◌, [], ◌∷◌, ◌++◌, length, map, sym, ◌∙◌}
-use Rattle.std.proofs.lemmas.List.{map_push}
-use Rattle.abel_grammar.proofs.ListTurns.{list_turn}
-use Rattle.abel_grammar.specs.Reading.{read_repeated}
-use Rattle.abel_tree.specs.View.{view_arm}
-use Rattle.abel_grammar.specs.Terminals.{among}
-use Rattle.abel_grammar.specs.DiagramReaders.{trans_starts, read_trans}
-use Rattle.abel_grammar.proofs.Shorter.{trans_shorter}
+use Rattle.section_parsers.proofs.Common.{map_push, list_turn, read_repeated, view_arm, among, trans_starts, read_trans, trans_shorter}
 use Rattle.section_parsers.proofs.diagrams.transitions.Goals as goal
 
 pub list-smaller : goal.list-smaller

@@ -1,10 +1,7 @@
 -- Each turn reads an entry and a sign.
 use Rattle.std.proofs.Common.{[], ◌∷◌, sym}
-use Rattle.abel_grammar.proofs.SeparatedTurns.{separated_turn, separated_shorter}
+use Rattle.section_parsers.proofs.Common.{separated_turn, separated_shorter, among, read_item, read_names, item_shorter}
 use Rattle.abel_grammar.specs.declared.terminal.Terminal.TheVariants as terminal
-use Rattle.abel_grammar.specs.Terminals.{among}
-use Rattle.abel_grammar.specs.DeclarationReaders.{read_item, read_names}
-use Rattle.abel_grammar.proofs.Shorter.{item_shorter}
 use Rattle.section_parsers.proofs.items.names.Goals as goal
 
 pub list-smaller : goal.list-smaller

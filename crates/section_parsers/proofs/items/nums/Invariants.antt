@@ -1,7 +1,6 @@
 -- What was read before and what is still read is what is read from the start.
 use Rattle.std.proofs.Common.{◌≡◌, length}
-use Rattle.abel_grammar.proofs.ListTurns.{with_front}
-use Rattle.abel_grammar.specs.DeclarationReaders.{read_nums}
+use Rattle.section_parsers.proofs.Common.{with_front, read_nums}
 use Rattle.section_parsers.proofs.items.nums.Given as goal
 
 abbrev pub invariant-list : goal.invariant-list

@@ -1,11 +1,7 @@
 -- Each turn reads an entry and a sign.
 use Rattle.std.proofs.Common.{[], ◌∷◌, sym}
-use Rattle.abel_grammar.proofs.SeparatedTurns.{separated_turn, separated_shorter}
+use Rattle.section_parsers.proofs.Common.{separated_turn, separated_shorter, among, read_text, read_texts, text_shorter}
 use Rattle.abel_grammar.specs.declared.terminal.Terminal.TheVariants as terminal
-use Rattle.abel_grammar.specs.Terminals.{among}
-use Rattle.abel_grammar.specs.WordReaders.{read_text}
-use Rattle.abel_grammar.specs.DeclarationReaders.{read_texts}
-use Rattle.abel_grammar.proofs.Shorter.{text_shorter}
 use Rattle.section_parsers.proofs.items.texts.Goals as goal
 
 pub list-smaller : goal.list-smaller

@@ -1,13 +1,6 @@
 -- Each turn reads one list.
 use Rattle.std.proofs.Common.{◌≡◌, [], ◌∷◌, ◌++◌, length, map, sym, ◌∙◌}
-use Rattle.std.proofs.lemmas.List.{map-append}
-use Rattle.abel_grammar.specs.Reading.{read_repeated}
-use Rattle.abel_grammar.proofs.JoinedTurns.{lists_turn}
-use Rattle.abel_grammar.specs.Terminals.{among}
-use Rattle.abel_grammar.specs.Declarations.{option_words}
-use Rattle.abel_grammar.specs.DeclarationReaders.{read_option}
-use Rattle.abel_grammar.specs.ModuleReaders.{read_options}
-use Rattle.abel_grammar.proofs.Shorter.{option_shorter}
+use Rattle.section_parsers.proofs.Common.{map-append, read_repeated, lists_turn, among, option_words, read_option, read_options, option_shorter}
 use Rattle.section_parsers.proofs.module.options.Goals as goal
 
 pub list-smaller : goal.list-smaller

@@ -1,11 +1,6 @@
 -- What was read before and what is still read is what is read from the start.
 use Rattle.std.proofs.Common.{◌≡◌, [], ◌∷◌, length, map}
-use Rattle.abel_grammar.specs.Reading.{read_repeated}
-use Rattle.abel_grammar.proofs.JoinedTurns.{with_lists}
-use Rattle.abel_grammar.specs.Terminals.{among}
-use Rattle.abel_grammar.specs.Declarations.{option_words}
-use Rattle.abel_grammar.specs.DeclarationReaders.{read_option}
-use Rattle.abel_grammar.specs.ModuleReaders.{read_options}
+use Rattle.section_parsers.proofs.Common.{read_repeated, with_lists, among, option_words, read_option, read_options}
 use Rattle.section_parsers.proofs.module.options.Given as goal
 
 abbrev pub invariant-list : goal.invariant-list

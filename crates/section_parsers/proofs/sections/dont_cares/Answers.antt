@@ -1,13 +1,7 @@
 -- Each turn reads one entry.
 use Rattle.std.proofs.Common.{◌≡◌, [], ◌∷◌, ◌++◌, length, map, sym, ◌∙◌}
-use Rattle.std.proofs.lemmas.List.{map_push}
-use Rattle.abel_grammar.proofs.ListTurns.{list_turn}
-use Rattle.abel_grammar.specs.Reading.{read_repeated}
-use Rattle.abel_tree.specs.View.{view_section}
+use Rattle.section_parsers.proofs.Common.{map_push, list_turn, read_repeated, view_section, among, read_dont_care_section, dont_care_section_shorter}
 use Rattle.abel_grammar.specs.declared.terminal.Terminal.TheVariants as terminal
-use Rattle.abel_grammar.specs.Terminals.{among}
-use Rattle.abel_grammar.specs.ModuleReaders.{read_dont_care_section}
-use Rattle.abel_grammar.proofs.Shorter.{dont_care_section_shorter}
 use Rattle.section_parsers.proofs.sections.dont_cares.Goals as goal
 
 pub list-smaller : goal.list-smaller

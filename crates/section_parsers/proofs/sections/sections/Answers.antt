@@ -1,12 +1,6 @@
 -- Each turn reads one list.
 use Rattle.std.proofs.Common.{◌≡◌, [], ◌∷◌, ◌++◌, length, map, sym, ◌∙◌}
-use Rattle.std.proofs.lemmas.List.{map-append}
-use Rattle.abel_grammar.specs.Reading.{read_repeated}
-use Rattle.abel_grammar.proofs.JoinedTurns.{lists_turn}
-use Rattle.abel_tree.specs.View.{view_section}
-use Rattle.abel_grammar.specs.Terminals.{among}
-use Rattle.abel_grammar.specs.ModuleReaders.{proper_starts, read_section_group, read_sections}
-use Rattle.abel_grammar.proofs.Shorter.{section_group_shorter}
+use Rattle.section_parsers.proofs.Common.{map-append, read_repeated, lists_turn, view_section, among, proper_starts, read_section_group, read_sections, section_group_shorter}
 use Rattle.section_parsers.proofs.sections.sections.Goals as goal
 
 pub list-smaller : goal.list-smaller

@@ -1,10 +1,6 @@
 -- What was read before and what is still read is what is read from the start.
 use Rattle.std.proofs.Common.{◌≡◌, [], ◌∷◌, length, map}
-use Rattle.abel_grammar.specs.Reading.{read_repeated}
-use Rattle.abel_grammar.proofs.JoinedTurns.{with_lists}
-use Rattle.abel_tree.specs.View.{view_section}
-use Rattle.abel_grammar.specs.Terminals.{among}
-use Rattle.abel_grammar.specs.ModuleReaders.{proper_starts, read_section_group, read_sections}
+use Rattle.section_parsers.proofs.Common.{read_repeated, with_lists, view_section, among, proper_starts, read_section_group, read_sections}
 use Rattle.section_parsers.proofs.sections.sections.Given as goal
 
 abbrev pub invariant-list : goal.invariant-list

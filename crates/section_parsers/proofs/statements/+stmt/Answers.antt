@@ -1,11 +1,6 @@
 -- Each turn reads one entry.
 use Rattle.std.proofs.Common.{◌≡◌, [], ◌∷◌, ◌++◌, map, sym, ◌∙◌}
-use Rattle.std.proofs.lemmas.List.{map_push}
-use Rattle.abel_grammar.proofs.ListTurns.{list_turn}
-use Rattle.abel_tree.specs.View.{view_stmt}
-use Rattle.abel_grammar.specs.Terminals.{among}
-use Rattle.abel_grammar.specs.StatementReaders.{stmt_starts, read_stmts, read_stmt}
-use Rattle.abel_grammar.proofs.Shorter.{stmt_shorter}
+use Rattle.section_parsers.proofs.Common.{map_push, list_turn, view_stmt, among, stmt_starts, read_stmts, read_stmt, stmt_shorter}
 use Rattle.section_parsers.proofs.statements.+stmt.Goals as goal
 
 pub stmts-list-smaller : goal.stmts-list-smaller

@@ -1,8 +1,6 @@
 -- What was read before and what is still read is what is read from the start; and how deep calls go.
 use Rattle.std.proofs.Common.{◌≡◌, length, map, ◌+◌, ◌*◌}
-use Rattle.abel_grammar.proofs.ListTurns.{with_front}
-use Rattle.abel_tree.specs.View.{view_stmt}
-use Rattle.abel_grammar.specs.StatementReaders.{read_stmts, read_stmt}
+use Rattle.section_parsers.proofs.Common.{with_front, view_stmt, read_stmts, read_stmt}
 use Rattle.section_parsers.proofs.statements.+stmt.Given as goal
 
 abbrev pub decreases-plain : goal.decreases-plain

@@ -1,11 +1,6 @@
 -- Each turn reads one entry.
 use Rattle.std.proofs.Common.{◌≡◌, [], ◌∷◌, ◌++◌, length, map, sym, ◌∙◌}
-use Rattle.std.proofs.lemmas.List.{map_push}
-use Rattle.abel_grammar.proofs.ListTurns.{list_turn}
-use Rattle.abel_tree.specs.View.{view_row}
-use Rattle.abel_grammar.specs.Terminals.{among}
-use Rattle.abel_grammar.specs.TableReaders.{expr_starts, read_row, read_rows}
-use Rattle.abel_grammar.proofs.Shorter.{row_shorter}
+use Rattle.section_parsers.proofs.Common.{map_push, list_turn, view_row, among, expr_starts, read_row, read_rows, row_shorter}
 use Rattle.section_parsers.proofs.tables.rows.Goals as goal
 
 pub list-smaller : goal.list-smaller

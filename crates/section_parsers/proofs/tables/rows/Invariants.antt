@@ -1,9 +1,6 @@
 -- What was read before and what is still read is what is read from the start.
 use Rattle.std.proofs.Common.{◌≡◌, [], ◌∷◌, length, map}
-use Rattle.abel_grammar.proofs.ListTurns.{with_front}
-use Rattle.abel_tree.specs.View.{view_row}
-use Rattle.abel_grammar.specs.Terminals.{among}
-use Rattle.abel_grammar.specs.TableReaders.{expr_starts, read_row, read_rows}
+use Rattle.section_parsers.proofs.Common.{with_front, view_row, among, expr_starts, read_row, read_rows}
 use Rattle.section_parsers.proofs.tables.rows.Given as goal
 
 abbrev pub invariant-list : goal.invariant-list

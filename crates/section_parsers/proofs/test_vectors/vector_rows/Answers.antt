@@ -1,11 +1,6 @@
 -- Each turn reads one entry.
 use Rattle.std.proofs.Common.{◌≡◌, [], ◌∷◌, ◌++◌, length, map, sym, ◌∙◌}
-use Rattle.std.proofs.lemmas.List.{map_push}
-use Rattle.abel_grammar.proofs.ListTurns.{list_turn}
-use Rattle.abel_tree.specs.View.{view_vector_row}
-use Rattle.abel_grammar.specs.Terminals.{among}
-use Rattle.abel_grammar.specs.TableReaders.{expr_starts, read_vector_row, read_vector_rows}
-use Rattle.abel_grammar.proofs.Shorter.{vector_row_shorter}
+use Rattle.section_parsers.proofs.Common.{map_push, list_turn, view_vector_row, among, expr_starts, read_vector_row, read_vector_rows, vector_row_shorter}
 use Rattle.section_parsers.proofs.test_vectors.vector_rows.Goals as goal
 
 pub list-smaller : goal.list-smaller

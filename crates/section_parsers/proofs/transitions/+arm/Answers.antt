@@ -1,13 +1,6 @@
 -- Each turn reads one entry.
 use Rattle.std.proofs.Common.{◌≡◌, [], ◌∷◌, ◌++◌, map, sym, ◌∙◌}
-use Rattle.std.proofs.lemmas.List.{map_push}
-use Rattle.abel_grammar.proofs.ListTurns.{list_turn}
-use Rattle.abel_tree.specs.View.{view_choice}
-use Rattle.abel_grammar.specs.Terminals.{among}
-use Rattle.abel_grammar.specs.TableReaders.{expr_starts}
-use Rattle.abel_grammar.specs.ExpressionReaders.{read_expr}
-use Rattle.abel_grammar.specs.DiagramReaders.{read_choice, read_choices, read_arm}
-use Rattle.abel_grammar.proofs.Shorter.{choice_shorter}
+use Rattle.section_parsers.proofs.Common.{map_push, list_turn, view_choice, among, expr_starts, read_expr, read_choice, read_choices, read_arm, choice_shorter}
 use Rattle.section_parsers.proofs.transitions.+arm.Goals as goal
 
 pub choices-list-smaller : goal.choices-list-smaller

@@ -1,9 +1,6 @@
 -- What was read before and what is still read is what is read from the start; and how deep calls go.
 use Rattle.std.proofs.Common.{◌≡◌, length, map, ◌+◌, ◌*◌}
-use Rattle.abel_grammar.proofs.ListTurns.{with_front}
-use Rattle.abel_tree.specs.View.{view_choice}
-use Rattle.abel_grammar.specs.ExpressionReaders.{read_expr}
-use Rattle.abel_grammar.specs.DiagramReaders.{read_choices, read_arm}
+use Rattle.section_parsers.proofs.Common.{with_front, view_choice, read_expr, read_choices, read_arm}
 use Rattle.section_parsers.proofs.transitions.+arm.Given as goal
 
 abbrev pub decreases-arm : goal.decreases-arm

@@ -1,14 +1,10 @@
 -- An IF is seen part by part, whether or not it has an ELSE.
 use Rattle.std.proofs.Common.{◌≡◌, Option, Some, None, rules}
 use Rattle.std.specs.Prelude.{option_map}
-use Rattle.pld_base.specs.declared.place.Place.{Place}
-use Rattle.abel_tree.specs.declared.expressions.Expr.{Expr}
-use Rattle.abel_tree.specs.declared.diagrams.Arm.{Arm, the_lemmas}
+use Rattle.section_parsers.proofs.Common.{Place, Expr, Arm, the_lemmas, AnIf, other_of, view, view_arm}
 use Rattle.abel_tree.specs.declared.diagrams.Arm as arm
 use Rattle.abel_tree.specs.declared.diagrams.Arm.TheVariants as variants
 use Rattle.abel_tree.specs.declared.diagrams.If.{roll-If}
-use Rattle.abel_tree.specs.Tree.{AnIf, other_of}
-use Rattle.abel_tree.specs.View.{view, view_arm}
 use Rattle.section_parsers.proofs.transitions.make_if.Goals as goal
 
 seen : (p : Place) (c : Expr) (s : Arm) (o : Option Arm) → view_arm (arm.If (roll-If record { place = p; condition = c; then = s; otherwise = o })) ≡ AnIf p (view c) (view_arm s) (other_of (option_map view_arm o))
