@@ -1,21 +1,7 @@
 -- What units leave that are made one after another.
 use Rattle.std.proofs.Common.{◌≡◌, ℕ, suc, ◌+◌, ◌<◌, Bool, true, false, List, [], ◌∷◌, ◌++◌, All, Result, Ok, Err, map, length, get_or, if◌then◌else◌, refl, sym, ap, ap₂, ◌∙◌, subst, arith, append_assoc, append-nil}
-use Rattle.std.proofs.lemmas.List.{map-append}
-use Rattle.std.proofs.lemmas.List.Elements.{All-append}
-use Rattle.std.proofs.lemmas.Option.{slice_get-get_or, get_or_from_slice_get, slice_get_within}
-use Rattle.pld_base.specs.declared.place.Place.{Place}
-use Rattle.bit_expr.specs.declared.node.ExprId.{ExprId}
-use Rattle.bit_expr.specs.Arena.{arena, formula_at, Grew}
-use Rattle.bit_expr.specs.Formulas.{Formula, Const}
+use Rattle.section_targets.proofs.Common.{map-append, All-append, slice_get-get_or, get_or_from_slice_get, slice_get_within, Place, ExprId, arena, formula_at, Grew, Formula, Const, Contribution, Contributions, SectionFault, Keeps, view_contribution, Stops, NoMemory, AtLimit, StopsWith, IsBuilt, Builds, Appends, Leaves, Contributed, CountedUnit, is_past, limit_at, limit_refused, units_refused, units_nodes, all_refused}
 use Rattle.abel_meaning.specs.Contributions as meant
-use Rattle.set_expr.specs.declared.contributions.Contribution.{Contribution}
-use Rattle.set_expr.specs.declared.contributions.Contributions.{Contributions}
-use Rattle.set_expr.specs.declared.fault.SectionFault.{SectionFault}
-use Rattle.set_expr.specs.Answer.{Keeps}
-use Rattle.set_expr.specs.Given.{view_contribution}
-use Rattle.section_targets.specs.Building.{Stops, NoMemory, AtLimit, StopsWith, IsBuilt, Builds}
-use Rattle.section_targets.specs.Appending.{Appends, Leaves, Contributed}
-use Rattle.section_targets.specs.Units.{CountedUnit, is_past, limit_at, limit_refused, units_refused, units_nodes, all_refused}
 
 pub left_empty : {A : Type 0} (xs ys : List A) → xs ++ ys ≡ [] → xs ≡ []
 left_empty [] ys e = refl

@@ -1,26 +1,9 @@
 -- What is given by one unit, signal after signal.
 use Rattle.std.proofs.Common.{◌≡◌, ℕ, zero, suc, ◌+◌, ◌<◌, ◌≤◌, List, [], ◌∷◌, ◌++◌, Result, Ok, Err, map, length, drop, get_or, refl, sym, ap, subst, subst₂, arith, append-nil}
-use Rattle.pld_base.specs.declared.place.Place.{Place}
-use Rattle.bit_expr.specs.declared.node.ExprId.{ExprId}
-use Rattle.bit_expr.specs.declared.node.Node.{Node}
-use Rattle.bit_expr.specs.Arena.{arena, formula_at}
-use Rattle.bit_expr.specs.Formulas.{Formula}
+use Rattle.section_targets.proofs.Common.{Place, ExprId, Node, arena, formula_at, Formula, Contribution, Contributions, SectionFault, Keeps, view_contribution, Context, Aim, one_given, one_part, each_given, each_part, places_of, drop_all, Leaves, NoMemory, StopsWith, IsBuilt, Builds, CountedUnit}
 use Rattle.abel_meaning.specs.Contributions as meant
-use Rattle.set_expr.specs.declared.contributions.Contribution.{Contribution}
-use Rattle.set_expr.specs.declared.contributions.Contributions.{Contributions}
-use Rattle.set_expr.specs.declared.fault.SectionFault.{SectionFault}
 use Rattle.set_expr.specs.declared.fault.SectionFault.TheVariants as fault
-use Rattle.set_expr.specs.Answer.{Keeps}
-use Rattle.set_expr.specs.Given.{view_contribution}
-use Rattle.abel_meaning.specs.Designs.{Context}
-use Rattle.section_targets.specs.declared.aim.Aim.{Aim}
 use Rattle.section_targets.specs.declared.giving.Giving.{Giving}
-use Rattle.section_targets.specs.GivenUnits.{one_given, one_part, each_given, each_part}
-use Rattle.section_targets.specs.Given.{places_of}
-use Rattle.std.proofs.lemmas.List.{drop_all}
-use Rattle.section_targets.specs.Appending.{Leaves}
-use Rattle.section_targets.specs.Building.{NoMemory, StopsWith, IsBuilt, Builds}
-use Rattle.section_targets.specs.Units.{CountedUnit}
 use Rattle.section_targets.proofs.Parts.{leaves_nodes}
 use Rattle.section_targets.proofs.Built.{builds_none, builds_stop, builds_then, kept_formula}
 use Rattle.section_targets.proofs.Looks.{next_of}

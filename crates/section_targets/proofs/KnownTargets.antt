@@ -1,14 +1,7 @@
 -- The targets of a design are signals.
 use Rattle.std.proofs.Common.{◌≡◌, ℕ, suc, Bool, true, false, Option, None, Some, List, [], ◌∷◌, ◌++◌, length, get_or, refl, sym, ap, subst, ◌∙◌, arith, append_assoc, length-append, if◌then◌else◌, bytes_eq}
 use Rattle.std.specs.Prelude.{codes}
-use Rattle.std.proofs.Math.Seq.{get_or-append_seam}
-use Rattle.abel_tree.specs.declared.words.Extension.{Extension}
-use Rattle.abel_tree.specs.Entries.{Kind, APin, ANode, AConstant, ADeviceName, Entry, is_signal}
-use Rattle.abel_tree.specs.Ranges.{range_names}
-use Rattle.abel_tree.specs.Tree.{Tree, ANumber, ASpecial, AName, ASet, AParen, AUnary, ABinary, SetMember, OneMember, SpanMember, Members, NoMember, MoreMembers}
-use Rattle.abel_meaning.specs.Designs.{Context, name_at, no_name}
-use Rattle.abel_meaning.specs.Targets.{targets_of, all_targets}
-use Rattle.abel_meaning.specs.Terms.{Term, Terms, X, Pulse, Release, Set, Known, term_named, extended_if, named_before, member_before, special_term, term_of, terms_of, term_meant, known_after, known_of}
+use Rattle.section_targets.proofs.Common.{get_or-append_seam, Extension, Kind, APin, ANode, AConstant, ADeviceName, Entry, is_signal, range_names, Tree, ANumber, ASpecial, AName, ASet, AParen, AUnary, ABinary, SetMember, OneMember, SpanMember, Members, NoMember, MoreMembers, Context, name_at, no_name, targets_of, all_targets, Term, Terms, X, Pulse, Release, Set, Known, term_named, extended_if, named_before, member_before, special_term, term_of, terms_of, term_meant, known_after, known_of}
 use Rattle.section_targets.proofs.SignalLists.{extended_targets}
 
 module _ (Q : ℕ → Type 0) where

@@ -1,4 +1,5 @@
 pub mod Built
+pub mod Common
 pub mod Gives
 pub mod KnownTargets
 pub mod Looks

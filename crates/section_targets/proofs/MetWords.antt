@@ -1,23 +1,14 @@
 -- The bits of a value, position after position.
 use Rattle.std.proofs.Common.{◌≡◌, ℕ, zero, suc, ◌<◌, false, true, List, [], ◌∷◌, All, Option, None, Some, length, get_or, replicate, unwrap_or, refl, ap, ap₂, ◌∙◌, subst, sym, arith}
-use Rattle.std.proofs.lemmas.List.{length-map}
-use Rattle.bit_expr.specs.declared.node.ExprId.{ExprId}
-use Rattle.bit_expr.specs.declared.node.Node.{Node}
-use Rattle.bit_expr.specs.Arena.{arena, formula_at}
-use Rattle.bit_expr.specs.Formulas.{Formula, Const}
+use Rattle.section_targets.proofs.Common.{length-map, ExprId, Node, arena, formula_at, Formula, Const, met_by, met_word, Value, IsShaped, AreIn, bits_at, positions, digit_ids, resized_ids, AreBits, IsBit, known_ids}
 use Rattle.bit_expr.proofs.ArenaLists.{arena_count, first_formula}
-use Rattle.abel_meaning.specs.FormulaBits.{met_by, met_word}
-use Rattle.abel_meaning.specs.Numbers.{Value}
 use Rattle.abel_meaning.specs.Numbers as number
-use Rattle.set_expr.specs.Answer.{IsShaped, AreIn, bits_at, positions}
 use Rattle.set_expr.specs.Shapes.{HasShape}
 use Rattle.set_expr.specs.declared.shaped.Shape.{Shape}
 use Rattle.set_expr.specs.declared.shaped.Shape.TheVariants as shape
 use Rattle.set_expr.specs.declared.shaped.Shaped.{Shaped}
 use Rattle.expr_bits.specs.Making.{AllIn, word_at, ShowsAll}
-use Rattle.expr_bits.specs.Positions.{digit_ids, resized_ids}
 use Rattle.expr_bits.proofs.PositionWords.{digits_in, digits_at, resized_in, resized_at, spread_in, spread_at}
-use Rattle.section_targets.specs.Building.{AreBits, IsBit, known_ids}
 
 pub low_bit : (ns : List Node) (id : ExprId) → id.0 ≡ 0 → IsBit (arena ns) id (Const false)
 low_bit ns id e = (omega (arith, arena_count ns, e), ap (λ k. get_or (arena ns) k (Const false)) e ∙ first_formula ns 0 (omega arith))

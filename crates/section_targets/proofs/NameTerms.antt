@@ -1,17 +1,6 @@
 -- What names stand for, and the members of sets one at a time.
 use Rattle.std.proofs.Common.{◌≡◌, ℕ, zero, suc, ◌+◌, ◌≤◌, Bool, true, false, Option, None, Some, List, [], ◌∷◌, ◌++◌, if◌then◌else◌, length, map, get_or, slice_get, cond, bytes_eq, refl, sym, ap, ◌∙◌, subst, arith, append_assoc, append-nil, length-append}
-use Rattle.std.specs.List.{position_from}
-use Rattle.std.proofs.lemmas.Iterator.Adapters.{position_from-zero}
-use Rattle.std.proofs.lemmas.List.{map-append}
-use Rattle.std.proofs.lemmas.Option.{slice_get_past, slice_get-get_or}
-use Rattle.std.proofs.Math.Seq.{get_or-append_seam}
-use Rattle.abel_tree.specs.Entries.{Entry, find}
-use Rattle.abel_tree.specs.Ranges.{range_names}
-use Rattle.abel_tree.specs.Tree.{SetMember, OneMember, SpanMember, members_of}
-use Rattle.abel_meaning.specs.Targets.{targets_of, all_targets}
-use Rattle.abel_meaning.specs.Terms.{Term, Terms, Number, NoTerm, Known, term_named, term_meant, term_of, terms_of, member_before, named_before, known_after, known_of}
-use Rattle.section_targets.specs.declared.named.NamedSignals.{NamedSignals}
-use Rattle.section_targets.specs.NamedTargets.{IsOfTerm, AreOfTerms, StandFor}
+use Rattle.section_targets.proofs.Common.{position_from, position_from-zero, map-append, slice_get_past, slice_get-get_or, get_or-append_seam, Entry, find, range_names, SetMember, OneMember, SpanMember, members_of, targets_of, all_targets, Term, Terms, Number, NoTerm, Known, term_named, term_meant, term_of, terms_of, member_before, named_before, known_after, known_of, NamedSignals, IsOfTerm, AreOfTerms, StandFor}
 
 -- ---- names by place
 

@@ -1,16 +1,8 @@
 -- A unit that is made in parts.
 use Rattle.std.proofs.Common.{◌≡◌, ℕ, ◌+◌, Bool, true, false, List, [], ◌∷◌, Result, Ok, Err, length, refl, sym, ap, ◌∙◌, subst, arith}
-use Rattle.std.proofs.lemmas.Bool.Decides.{nat_tests}
-use Rattle.pld_base.specs.declared.place.Place.{Place}
-use Rattle.bit_expr.specs.Arena.{arena}
-use Rattle.bit_expr.specs.Formulas.{Formula}
+use Rattle.section_targets.proofs.Common.{nat_tests, Place, arena, Formula, Contributions, SectionFault, Contributed, IsBuilt, Builds, CountedUnit, part, is_past, limit_at, limit_refused, units_nodes}
 use Rattle.abel_meaning.specs.Contributions as meant
-use Rattle.set_expr.specs.declared.contributions.Contributions.{Contributions}
-use Rattle.set_expr.specs.declared.fault.SectionFault.{SectionFault}
-use Rattle.section_targets.specs.Appending.{Contributed}
-use Rattle.section_targets.specs.Building.{IsBuilt, Builds}
 use Rattle.section_targets.proofs.Built.{stops_on, builds_then}
-use Rattle.section_targets.specs.Units.{CountedUnit, part, is_past, limit_at, limit_refused, units_nodes}
 
 -- parts of a unit at this place
 abbrev pub AreParts : Place → List CountedUnit → Type 0

@@ -1,6 +1,6 @@
 -- Names that are those of a scope.
 use Rattle.std.proofs.Common.{◌≡◌, ℕ, List, Option, sym, subst}
-use Rattle.abel_tree.specs.Entries.{Entry, find}
+use Rattle.section_targets.proofs.Common.{Entry, find}
 
 -- a place among them
 pub found_in : (w : List ℕ) {es fs : List Entry} {o : Option ℕ} → es ≡ fs → o ≡ find fs w → o ≡ find es w

@@ -1,17 +1,7 @@
 -- The parts of a unit: nodes that are added one after another.
 use Rattle.std.proofs.Common.{◌≡◌, ℕ, ◌+◌, nat_lt, Bool, true, false, ◌&&◌, List, [], ◌∷◌, length, refl, sym, ap, ◌∙◌, arith}
-use Rattle.std.proofs.lemmas.Bool.Decides.{nat_tests}
-use Rattle.std.proofs.lemmas.List.{append-nil}
-use Rattle.pld_base.specs.declared.place.Place.{Place}
-use Rattle.bit_expr.specs.declared.node.Node.{Node}
-use Rattle.bit_expr.specs.Arena.{arena, MOST, Grew, PassesLimit}
-use Rattle.set_expr.specs.declared.contributions.Contribution.{Contribution}
-use Rattle.set_expr.specs.declared.contributions.Contributions.{Contributions}
+use Rattle.section_targets.proofs.Common.{nat_tests, append-nil, Place, Node, arena, MOST, Grew, PassesLimit, Contribution, Contributions, Keeps, Appends, Leaves, Stops, AtLimit, IsBuilt, part, is_past, limit_at}
 use Rattle.set_expr.specs.declared.fault.SectionFault.TheVariants as fault
-use Rattle.set_expr.specs.Answer.{Keeps}
-use Rattle.section_targets.specs.Appending.{Appends, Leaves}
-use Rattle.section_targets.specs.Building.{Stops, AtLimit, IsBuilt}
-use Rattle.section_targets.specs.Units.{part, is_past, limit_at}
 
 not_past : (count n : ℕ) → (PassesLimit MOST count n → ⊥) → is_past count n ≡ false
 not_past count n h = past_by (nat_lt 0 n) (nat_lt MOST (count + n)) refl refl

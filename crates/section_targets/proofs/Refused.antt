@@ -1,26 +1,10 @@
 -- What is refused of the signals of a target, one more.
 use Rattle.std.proofs.Common.{◌≡◌, ℕ, Bool, true, false, List, [], ◌∷◌, ◌++◌, Option, Some, ◌≤◌, ◌||◌, if◌then◌else◌, length, map, take, get_or, refl, sym, ap, ap₂, ◌∙◌, subst, append_assoc, append-nil, add-one, ◌<◌, ◌+◌, arith}
-use Rattle.std.proofs.lemmas.Bool.Decides.{nat_tests}
-use Rattle.pld_base.specs.declared.place.Place.{Place}
-use Rattle.std.proofs.Math.Seq.{take-suc}
-use Rattle.std.proofs.lemmas.List.{map-append}
-use Rattle.std.proofs.lemmas.Option.{get_or_from_slice_get}
-use Rattle.abel_tree.specs.declared.words.Extension.{Extension}
-use Rattle.abel_tree.specs.FirstRefusal.{sooner, is_before, earlier, first_refusal}
-use Rattle.abel_tree.proofs.FirstRefusals.{before_by, first_append}
+use Rattle.section_targets.proofs.Common.{nat_tests, Place, take-suc, map-append, get_or_from_slice_get, Extension, sooner, is_before, earlier, first_refusal, before_by, first_append, Entry, entries_of, view_declared, IsContextOf, Context, name_at, no_name, SectionFault, section_order, Aim, Manner, NotAnOutput, MixedAssignment, is_output, no_output, mixed, first_manner, manner_of, aims_refused, AreFirsts, part_of, differs_from, is_against_kind}
 use Rattle.abel_tree.specs.declared.names.Declared.{Declared}
 use Rattle.abel_tree.specs.declared.names.Names.{Names}
-use Rattle.abel_tree.specs.Entries.{Entry, entries_of, view_declared}
 use Rattle.pld_device.specs.Table.{Table}
-use Rattle.set_expr.specs.Answer.{IsContextOf}
-use Rattle.abel_meaning.specs.Designs.{Context, name_at, no_name}
-use Rattle.set_expr.specs.declared.fault.SectionFault.{SectionFault}
-use Rattle.set_expr.specs.SectionOrder.{section_order}
 use Rattle.expr_bits.proofs.NamesBefore.{entry_at, entries_long}
-use Rattle.section_targets.specs.declared.aim.Aim.{Aim}
-use Rattle.section_targets.specs.declared.manner.Manner.{Manner}
-use Rattle.set_expr.specs.declared.fault.SectionFault.TheVariants.{NotAnOutput, MixedAssignment}
-use Rattle.section_targets.specs.Manners.{is_output, no_output, mixed, first_manner, manner_of, aims_refused, AreFirsts, part_of, differs_from, is_against_kind}
 
 pub first_of_both : (fs gs : List SectionFault) → first_refusal section_order (fs ++ gs) ≡ earlier section_order (first_refusal section_order fs) (first_refusal section_order gs)
 first_of_both fs gs = first_append section_order fs gs

@@ -1,19 +1,6 @@
 -- The signals of a target that isn't refused are those of its term, position by position.
 use Rattle.std.proofs.Common.{◌≡◌, ℕ, Bool, true, false, ◌&&◌, Option, None, Some, List, [], ◌∷◌, ◌++◌, if◌then◌else◌, length, map, append_assoc, refl, sym, ap, ap₂, ◌∙◌}
-use Rattle.std.proofs.lemmas.List.{map-append}
-use Rattle.pld_base.specs.declared.place.Place.{Place}
-use Rattle.abel_tree.specs.declared.words.Extension.{Extension}
-use Rattle.abel_tree.specs.Entries.{find}
-use Rattle.abel_tree.specs.Ranges.{range_names}
-use Rattle.abel_tree.specs.Tree.{Tree, ANumber, ASpecial, AName, ASet, AParen, AUnary, ABinary, OneMember, SpanMember, Members, NoMember, MoreMembers}
-use Rattle.abel_meaning.specs.Designs.{Context}
-use Rattle.abel_meaning.specs.Targets.{targets_of, all_targets, some_signals}
-use Rattle.abel_meaning.specs.Terms.{Term, Terms, Number, X, Pulse, Release, Read, Set, UnaryOf, BinaryOf, NoTerm, Before, extended_if, term_named, term_of, terms_of, named_before}
-use Rattle.set_expr.specs.declared.fault.SectionFault.TheVariants.{NotAnOutput}
-use Rattle.set_expr.specs.FoundNames.{found_use, name_found, names_found}
-use Rattle.set_expr.specs.Refusals.{too_wide}
-use Rattle.section_targets.specs.declared.aim.Aim.{Aim}
-use Rattle.section_targets.specs.TargetSignals.{TargetFound, aims_at, names_signals, all_name_signals, no_signals, target_name, target_range, target_member, target_members, left_side, start_of}
+use Rattle.section_targets.proofs.Common.{map-append, Place, Extension, find, range_names, Tree, ANumber, ASpecial, AName, ASet, AParen, AUnary, ABinary, OneMember, SpanMember, Members, NoMember, MoreMembers, Context, targets_of, all_targets, some_signals, Term, Terms, Number, X, Pulse, Release, Read, Set, UnaryOf, BinaryOf, NoTerm, Before, extended_if, term_named, term_of, terms_of, named_before, NotAnOutput, found_use, name_found, names_found, too_wide, Aim, TargetFound, aims_at, names_signals, all_name_signals, no_signals, target_name, target_range, target_member, target_members, left_side, start_of}
 use Rattle.section_targets.proofs.Built.{left_empty, right_empty}
 use Rattle.section_targets.proofs.SignalLists.{some_append, extended_targets}
 

@@ -1,29 +1,7 @@
 -- The signals of several names, one after another.
 use Rattle.std.proofs.Common.{◌≡◌, ℕ, zero, suc, ◌<◌, ◌≤◌, ◌==◌, min, Bool, true, false, ◌&&◌, Option, None, Some, List, [], ◌∷◌, ◌++◌, All, length, take, get_or, refl, sym, ap, ap₂, ◌∙◌, subst, arith, append_assoc, if◌then◌else◌, bytes_eq}
 use Rattle.std.specs.Prelude.{codes}
-use Rattle.std.proofs.lemmas.List.{take-map, take-take, take_all, length-take}
-use Rattle.std.proofs.lemmas.List.Elements.{All-append, All-map, All-take}
-use Rattle.std.proofs.lemmas.Bool.Decides.{nat_tests}
-use Rattle.pld_base.specs.declared.place.Place.{Place}
-use Rattle.abel_tree.specs.declared.words.Extension.{Extension}
-use Rattle.abel_tree.specs.FirstRefusal.{earlier, first_refusal}
-use Rattle.abel_tree.proofs.FirstRefusals.{first_append}
-use Rattle.abel_tree.specs.Entries.{Entry, find}
-use Rattle.abel_tree.specs.Tree.{Tree}
-use Rattle.abel_meaning.specs.Designs.{Context}
-use Rattle.set_expr.specs.Answer.{first_place}
-use Rattle.set_expr.specs.declared.fault.SectionFault.TheVariants.{NotAnOutput}
-use Rattle.abel_meaning.specs.Targets.{targets_of, all_targets, some_signals}
-use Rattle.abel_meaning.specs.Terms.{Term, Terms, Number, X, Pulse, Release, Read, Set, UnaryOf, BinaryOf, NoTerm, Before, extended, extended_each, special_term, term_named}
-use Rattle.set_expr.specs.declared.fault.SectionFault.{SectionFault}
-use Rattle.set_expr.specs.SectionOrder.{section_order}
-use Rattle.set_expr.specs.Refusals.{too_wide}
-use Rattle.section_targets.specs.declared.aim.Aim.{Aim}
-use Rattle.section_targets.specs.declared.named.NamedSignals.{NamedSignals}
-use Rattle.section_targets.specs.declared.sides.Side.{Side}
-use Rattle.section_targets.specs.Given.{AreNamed}
-use Rattle.section_targets.specs.NamedTargets.{AreSignals, IsOfTerm, IsOfMembers, IsSide}
-use Rattle.section_targets.specs.TargetSignals.{TargetFound, aim_at, aims_at, names_signals, all_name_signals, is_only, is_itself, start_at, first_name, no_target, targets_both, target_set, target_member}
+use Rattle.section_targets.proofs.Common.{take-map, take-take, take_all, length-take, All-append, All-map, All-take, nat_tests, Place, Extension, earlier, first_refusal, first_append, Entry, find, Tree, Context, first_place, NotAnOutput, targets_of, all_targets, some_signals, Term, Terms, Number, X, Pulse, Release, Read, Set, UnaryOf, BinaryOf, NoTerm, Before, extended, extended_each, special_term, term_named, SectionFault, section_order, too_wide, Aim, NamedSignals, Side, AreNamed, AreSignals, IsOfTerm, IsOfMembers, IsSide, TargetFound, aim_at, aims_at, names_signals, all_name_signals, is_only, is_itself, start_at, first_name, no_target, targets_both, target_set, target_member}
 
 -- ---- signals
 

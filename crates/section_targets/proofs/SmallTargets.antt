@@ -1,26 +1,10 @@
 -- A target that isn't refused has at most 32 signals.
 use Rattle.std.proofs.Common.{◌≡◌, ℕ, ◌+◌, ◌≤◌, nat_lt, Option, None, Some, List, [], ◌++◌, length, refl, sym, ap, ◌∙◌, subst, arith, length-append}
-use Rattle.std.proofs.lemmas.Bool.{ltb-false}
-use Rattle.std.proofs.lemmas.List.{length-map}
-use Rattle.pld_base.specs.declared.place.Place.{Place}
-use Rattle.abel_tree.specs.Entries.{find}
-use Rattle.abel_tree.specs.Tree.{Tree, ANumber, ASpecial, AName, ASet, AParen, AUnary, ABinary}
-use Rattle.abel_tree.proofs.FirstRefusals.{none_refused}
-use Rattle.abel_meaning.specs.Designs.{Context}
-use Rattle.abel_meaning.specs.Numbers.{Shape, Number, Single, Set, Value, member_width, width_of}
-use Rattle.abel_meaning.specs.Targets.{targets_of, all_targets, some_signals}
-use Rattle.abel_meaning.specs.Terms.{Term, Terms, NoTerm, Before, term_named, known_of}
+use Rattle.section_targets.proofs.Common.{ltb-false, length-map, Place, find, Tree, ANumber, ASpecial, AName, ASet, AParen, AUnary, ABinary, none_refused, Context, Shape, Single, Value, member_width, width_of, targets_of, all_targets, some_signals, Term, Terms, NoTerm, Before, term_named, known_of, SectionFault, BadWidth, name_found, found_use, names_found, too_wide, section_order, Side, IsSide, TargetFound, aim_at, target_name, target_set, target_member, target_members, left_side, no_signals, start_of}
+use Rattle.abel_meaning.specs.Numbers.{Number, Set}
 use Rattle.abel_meaning.specs.Terms as term
 use Rattle.abel_meaning.specs.Values.{constant_of, set_value, nowhere}
-use Rattle.set_expr.specs.declared.fault.SectionFault.{SectionFault}
-use Rattle.set_expr.specs.declared.fault.SectionFault.TheVariants.{BadWidth}
-use Rattle.set_expr.specs.FoundNames.{name_found, found_use, names_found}
-use Rattle.set_expr.specs.Refusals.{too_wide}
-use Rattle.set_expr.specs.SectionOrder.{section_order}
 use Rattle.expr_bits.proofs.Linked.{IsLinkedIf, expression_linked}
-use Rattle.section_targets.specs.declared.sides.Side.{Side}
-use Rattle.section_targets.specs.NamedTargets.{IsSide}
-use Rattle.section_targets.specs.TargetSignals.{TargetFound, aim_at, target_name, target_set, target_member, target_members, left_side, no_signals, start_of}
 use Rattle.section_targets.proofs.Built.{left_empty, right_empty, none_told}
 use Rattle.section_targets.proofs.SignalLists.{some_append, side_all}
 

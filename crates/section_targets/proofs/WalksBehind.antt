@@ -1,22 +1,8 @@
 -- Walks one after another, and the walk over one unit.
 use Rattle.std.proofs.Common.{◌≡◌, ℕ, ◌+◌, Bool, true, false, if◌then◌else◌, Option, None, Some, List, [], ◌∷◌, ◌++◌, Result, Ok, Err, length, refl, sym, ap, ap₂, ◌∙◌, subst, append_assoc, append-nil}
-use Rattle.std.specs.Option.{is_some}
-use Rattle.pld_base.specs.declared.place.Place.{Place}
-use Rattle.bit_expr.specs.Arena.{arena}
-use Rattle.bit_expr.specs.Formulas.{Formula}
-use Rattle.abel_tree.specs.FirstRefusal.{is_before, earlier, first_refusal}
-use Rattle.abel_tree.proofs.FirstRefusals.{earlier_assoc, first_append, none_refused}
+use Rattle.section_targets.proofs.Common.{is_some, Place, arena, Formula, is_before, earlier, first_refusal, earlier_assoc, first_append, none_refused, SectionFault, Keeps, section_order, Manner, Contributed, Stops, NoMemory, AtLimit, Builds, AreFirsts, CountedUnit, is_past, limit_at, limit_refused, units_refused, units_nodes, all_refused, AfterMaking, Walks, fault_behind, standing}
 use Rattle.abel_meaning.specs.Contributions as meant
-use Rattle.set_expr.specs.declared.fault.SectionFault.{SectionFault}
-use Rattle.set_expr.specs.Answer.{Keeps}
-use Rattle.set_expr.specs.SectionOrder.{section_order}
 use Rattle.section_targets.specs.declared.walked.Walked.{Walked}
-use Rattle.section_targets.specs.declared.manner.Manner.{Manner}
-use Rattle.section_targets.specs.Appending.{Contributed}
-use Rattle.section_targets.specs.Building.{Stops, NoMemory, AtLimit, Builds}
-use Rattle.section_targets.specs.Manners.{AreFirsts}
-use Rattle.section_targets.specs.Units.{CountedUnit, is_past, limit_at, limit_refused, units_refused, units_nodes, all_refused}
-use Rattle.section_targets.specs.Walking.{AfterMaking, Walks, fault_behind, standing}
 use Rattle.section_targets.proofs.Built.{left_empty, right_empty, both_empty, refused_append, nodes_append, limit_append, limit_stays, keeps_on, made_then, builds_none}
 
 not_none : (f : SectionFault) → ◌≡◌ {A = Option SectionFault} (Some f) None → ⊥

@@ -1,13 +1,7 @@
 -- What stands in the list of contributions after some were appended (this project's rule).
 use Rattle.std.specs.Prelude.{◌≡◌, ℕ, ◌<◌, List, [], ◌++◌, All, length, map}
-use Rattle.pld_base.specs.declared.place.Place.{Place}
-use Rattle.bit_expr.specs.Arena.{arena, Grew}
-use Rattle.bit_expr.specs.Formulas.{Formula}
+use Rattle.section_targets.specs.Prelude.{Place, arena, Grew, Formula, Contribution, Contributions, Keeps, view_contribution}
 use Rattle.abel_meaning.specs.Contributions as meant
-use Rattle.set_expr.specs.declared.contributions.Contribution.{Contribution}
-use Rattle.set_expr.specs.declared.contributions.Contributions.{Contributions}
-use Rattle.set_expr.specs.Answer.{Keeps}
-use Rattle.set_expr.specs.Given.{view_contribution}
 
 -- these contributions were appended, and what is given and at which places begins with them
 pub record Appends (old new : Contributions) (given : List (meant.Contribution Formula)) (places : List Place)

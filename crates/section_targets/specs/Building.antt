@@ -1,14 +1,7 @@
 -- What making units leaves, and why it stops (this project's rule).
 use Rattle.std.specs.Prelude.{◌≡◌, ℕ, ◌<◌, Option, List, [], ◌∷◌, All, length, map, unwrap_or, Result, Ok, Err}
-use Rattle.pld_base.specs.declared.place.Place.{Place}
-use Rattle.bit_expr.specs.declared.node.ExprId.{ExprId}
-use Rattle.bit_expr.specs.declared.node.Node.{Node}
-use Rattle.bit_expr.specs.Arena.{arena, formula_at}
-use Rattle.bit_expr.specs.Formulas.{Formula}
+use Rattle.section_targets.specs.Prelude.{Place, ExprId, Node, arena, formula_at, Formula, Contribution, Contributions, SectionFault}
 use Rattle.abel_meaning.specs.Contributions as meant
-use Rattle.set_expr.specs.declared.contributions.Contribution.{Contribution}
-use Rattle.set_expr.specs.declared.contributions.Contributions.{Contributions}
-use Rattle.set_expr.specs.declared.fault.SectionFault.{SectionFault}
 use Rattle.set_expr.specs.declared.fault.SectionFault.TheVariants as fault
 use Rattle.section_targets.specs.Appending.{Leaves, Contributed}
 use Rattle.section_targets.specs.Units.{CountedUnit, units_refused, units_nodes, limit_refused}

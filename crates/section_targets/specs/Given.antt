@@ -1,7 +1,6 @@
 -- The signals of targets by their numbers, and bits by their places in an arena.
 use Rattle.std.specs.Prelude.{ℕ, ◌<◌, List, All, map}
-use Rattle.pld_base.specs.declared.place.Place.{Place}
-use Rattle.bit_expr.specs.declared.node.ExprId.{ExprId}
+use Rattle.section_targets.specs.Prelude.{Place, ExprId}
 use Rattle.section_targets.specs.declared.aim.Aim.{Aim}
 
 -- where the signals are named

@@ -1,12 +1,8 @@
 -- What signals are given by a unit under a guard (ABEL-HDL Reference Manual, equations).
 use Rattle.std.specs.Prelude.{List, [], ◌∷◌, map}
-use Rattle.bit_expr.specs.Arena.{formula_at}
+use Rattle.section_targets.specs.Prelude.{formula_at, Formula, contribution, Context, view_gives, view_guard}
 use Rattle.bit_expr.specs.Folding.{make_and}
-use Rattle.bit_expr.specs.Formulas.{Formula}
-use Rattle.abel_meaning.specs.Contributions.{contribution}
 use Rattle.abel_meaning.specs.Contributions as meant
-use Rattle.abel_meaning.specs.Designs.{Context}
-use Rattle.set_expr.specs.Given.{view_gives, view_guard}
 use Rattle.section_targets.specs.declared.aim.Aim.{Aim}
 use Rattle.section_targets.specs.Units.{CountedUnit, part}
 use Rattle.section_targets.specs.declared.giving.Giving.{Giving}

@@ -1,13 +1,6 @@
 -- What is left by giving signals their bits under a guard (ABEL-HDL Reference Manual, equations).
 use Rattle.std.specs.Prelude.{◌≡◌, List, [], ◌∷◌, map, Result}
-use Rattle.bit_expr.specs.declared.node.ExprId.{ExprId}
-use Rattle.bit_expr.specs.declared.node.Node.{Node}
-use Rattle.bit_expr.specs.Arena.{arena, formula_at}
-use Rattle.abel_tree.specs.declared.names.Names.{Names}
-use Rattle.abel_tree.specs.Entries.{entries_of}
-use Rattle.abel_meaning.specs.Designs.{Context}
-use Rattle.set_expr.specs.declared.contributions.Contribution.{Contribution}
-use Rattle.set_expr.specs.declared.fault.SectionFault.{SectionFault}
+use Rattle.section_targets.specs.Prelude.{ExprId, Node, arena, formula_at, Names, entries_of, Context, Contribution, SectionFault}
 use Rattle.section_targets.specs.declared.aim.Aim.{Aim}
 use Rattle.section_targets.specs.declared.giving.Giving.{Giving}
 use Rattle.section_targets.specs.Building.{Builds}

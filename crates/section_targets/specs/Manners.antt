@@ -1,18 +1,12 @@
 -- How signals are assigned, and what may not differ (ABEL-HDL Reference Manual, equations; one kind for each signal and one
 -- polarity for each control are this project's rule).
 use Rattle.std.specs.Prelude.{◌≡◌, ℕ, ◌==◌, Bool, true, false, ◌&&◌, ◌||◌, Option, None, Some, List, [], ◌∷◌, ◌++◌, if◌then◌else◌}
-use Rattle.pld_base.specs.declared.place.Place.{Place}
+use Rattle.section_targets.specs.Prelude.{Place, Table, differ, Kind, APin, ANode, AConstant, ADeviceName, Entry, Context, name_at, SectionFault, NotAnOutput, MixedAssignment}
 use Rattle.std.specs.List.{list_any}
 use Rattle.pld_device.specs.declared.cell.Cell.{Cell}
-use Rattle.pld_device.specs.Table.{Table}
-use Rattle.bit_expr.specs.Formulas.{differ}
 use Rattle.abel_tree.specs.declared.words.Extension.{Extension}
 use Rattle.abel_tree.specs.declared.words.Extension.TheVariants as extension
-use Rattle.abel_tree.specs.Entries.{Kind, APin, ANode, AConstant, ADeviceName, Entry}
 use Rattle.abel_tree.specs.Extensions.{is_data, is_raw}
-use Rattle.abel_meaning.specs.Designs.{Context, name_at}
-use Rattle.set_expr.specs.declared.fault.SectionFault.{SectionFault}
-use Rattle.set_expr.specs.declared.fault.SectionFault.TheVariants.{NotAnOutput, MixedAssignment}
 use Rattle.section_targets.specs.declared.aim.Aim.{Aim}
 use Rattle.section_targets.specs.declared.manner.Manner.{Manner}
 

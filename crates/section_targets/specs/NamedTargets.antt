@@ -1,13 +1,7 @@
 -- The signals that names stand for as targets, and those of a target (ABEL-HDL Reference Manual, equations, sets and
 -- constants).
 use Rattle.std.specs.Prelude.{◌≡◌, ℕ, ◌<◌, Bool, List, [], ◌∷◌, ◌++◌, All, length, map, take}
-use Rattle.abel_tree.specs.declared.names.Names.{Names}
-use Rattle.abel_tree.specs.Entries.{Entry, entries_of}
-use Rattle.abel_tree.specs.FirstRefusal.{first_refusal}
-use Rattle.abel_meaning.specs.Designs.{Context}
-use Rattle.abel_meaning.specs.Targets.{targets_of, all_targets, some_signals}
-use Rattle.abel_meaning.specs.Terms.{Term, Terms, Known, known_of}
-use Rattle.set_expr.specs.SectionOrder.{section_order}
+use Rattle.section_targets.specs.Prelude.{Names, Entry, entries_of, first_refusal, Context, targets_of, all_targets, some_signals, Term, Terms, Known, known_of, section_order}
 use Rattle.section_targets.specs.declared.named.NamedSignals.{NamedSignals}
 use Rattle.section_targets.specs.declared.sides.Side.{Side}
 use Rattle.section_targets.specs.Given.{AreNamed}

@@ -1,19 +1,10 @@
 -- The signals of a target with their places, and what is no target (ABEL-HDL Reference Manual, equations and sets).
 use Rattle.std.specs.Prelude.{ℕ, ◌==◌, Bool, true, false, ◌&&◌, Option, None, Some, List, [], ◌∷◌, ◌++◌, length, map, if◌then◌else◌}
-use Rattle.pld_base.specs.declared.place.Place.{Place}
+use Rattle.section_targets.specs.Prelude.{Place, Entry, find, Tree, ASpecial, AName, ASet, AParen, ABinary, SetMember, OneMember, SpanMember, Members, NoMember, MoreMembers, Context, targets_of, some_signals, Term, Terms, term_named, SectionFault, MisplacedSpecial, NotAnOutput, first_place, Found, too_wide}
 use Rattle.abel_tree.specs.declared.words.Word.{Word}
-use Rattle.abel_tree.specs.Entries.{Entry, find}
 use Rattle.abel_tree.specs.Ranges.{range_names}
-use Rattle.abel_tree.specs.Tree.{Tree, ASpecial, AName, ASet, AParen, ABinary, SetMember, OneMember, SpanMember, Members, NoMember, MoreMembers}
-use Rattle.abel_meaning.specs.Designs.{Context}
-use Rattle.abel_meaning.specs.Targets.{targets_of, some_signals}
-use Rattle.abel_meaning.specs.Terms.{Term, Terms, term_named}
 use Rattle.abel_meaning.specs.Terms as term
-use Rattle.set_expr.specs.declared.fault.SectionFault.{SectionFault}
-use Rattle.set_expr.specs.declared.fault.SectionFault.TheVariants.{MisplacedSpecial, NotAnOutput}
-use Rattle.set_expr.specs.Answer.{first_place}
 use Rattle.set_expr.specs.FoundNames.{name_found, names_found, found_use}
-use Rattle.set_expr.specs.Refusals.{Found, too_wide}
 use Rattle.section_targets.specs.declared.aim.Aim.{Aim}
 
 -- what is found of a target: its refusals, and its signals from the left

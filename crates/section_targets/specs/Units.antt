@@ -1,9 +1,7 @@
 -- Units of a source with what is refused of each and the nodes that it makes, and the limit of nodes (this project's
 -- rule).
 use Rattle.std.specs.Prelude.{ℕ, ◌+◌, nat_lt, Bool, true, false, ◌&&◌, List, [], ◌∷◌, ◌++◌}
-use Rattle.pld_base.specs.declared.place.Place.{Place}
-use Rattle.bit_expr.specs.Arena.{MOST}
-use Rattle.set_expr.specs.declared.fault.SectionFault.{SectionFault}
+use Rattle.section_targets.specs.Prelude.{Place, MOST, SectionFault}
 use Rattle.set_expr.specs.declared.fault.SectionFault.TheVariants as fault
 
 -- a unit at its first token: what is refused of it, and the nodes that it makes

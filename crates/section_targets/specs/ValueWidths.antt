@@ -1,10 +1,6 @@
 -- What is refused of a value that meets so many signals (ABEL-HDL Reference Manual, equations and sets).
 use Rattle.std.specs.Prelude.{ℕ, ◌==◌, Option, None, Some, List, [], ◌∷◌, ◌++◌, if◌then◌else◌}
-use Rattle.pld_base.specs.declared.place.Place.{Place}
-use Rattle.abel_meaning.specs.Numbers.{Shape, Set, Value}
-use Rattle.set_expr.specs.declared.fault.SectionFault.{SectionFault}
-use Rattle.set_expr.specs.declared.fault.SectionFault.TheVariants.{BadWidth}
-use Rattle.set_expr.specs.Refusals.{Found}
+use Rattle.section_targets.specs.Prelude.{Place, Shape, Set, Value, SectionFault, BadWidth, Found}
 
 -- a set meets a target of as many signals; a number is cut or filled, and one bit is spread
 abbrev pub wrong_width : Place → ℕ → Shape → List SectionFault

@@ -1,16 +1,9 @@
 -- What a walk over the units of sections leaves: each is checked, and made where nothing is refused so far (this project's
 -- rule).
 use Rattle.std.specs.Prelude.{◌≡◌, ◌≢◌, ℕ, Option, None, Some, List, ◌++◌, length, Result, Ok, Err}
-use Rattle.pld_base.specs.declared.place.Place.{Place}
-use Rattle.bit_expr.specs.Arena.{arena}
-use Rattle.bit_expr.specs.Formulas.{Formula}
-use Rattle.abel_tree.specs.FirstRefusal.{earlier, first_refusal}
+use Rattle.section_targets.specs.Prelude.{Place, arena, Formula, earlier, first_refusal, Contributions, SectionFault, Keeps, section_order}
 use Rattle.abel_meaning.specs.Contributions as meant
-use Rattle.set_expr.specs.declared.contributions.Contributions.{Contributions}
-use Rattle.set_expr.specs.declared.fault.SectionFault.{SectionFault}
 use Rattle.set_expr.specs.declared.fault.SectionFault.TheVariants as fault
-use Rattle.set_expr.specs.Answer.{Keeps}
-use Rattle.set_expr.specs.SectionOrder.{section_order}
 use Rattle.section_targets.specs.declared.walked.Walked.{Walked}
 use Rattle.section_targets.specs.declared.manner.Manner.{Manner}
 use Rattle.section_targets.specs.Appending.{Contributed}

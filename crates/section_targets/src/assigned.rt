@@ -1,7 +1,7 @@
 //! How signals were assigned before.
 
 ghost use Rattle.std.specs.Prelude.{◌≡◌, List, [], ◌∷◌, ◌++◌, OnOk};
-ghost use Rattle.section_targets.specs.Manners.{first_manner, part_of, AreFirsts};
+ghost use Rattle.section_targets.specs.{first_manner, part_of, AreFirsts};
 ghost use Rattle.section_targets.specs.declared.manner.Manner.{Manner};
 
 use crate::manner::Manner;

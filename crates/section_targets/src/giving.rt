@@ -1,15 +1,8 @@
 //! What signals are given under a guard.
 
 ghost use Rattle.std.specs.Prelude.{◌≡◌, ◌<◌, List, length};
-ghost use Rattle.bit_expr.specs.Arena.{arena};
-ghost use Rattle.bit_expr.specs.Formulas.{Formula};
-ghost use Rattle.abel_tree.specs.Entries.{entries_of};
-ghost use Rattle.abel_meaning.specs.Contributions.{is_dontcare};
-ghost use Rattle.abel_meaning.specs.Designs.{Context, name_at};
-ghost use Rattle.set_expr.specs.Answer.{Keeps};
-ghost use Rattle.set_expr.specs.Given.{view_guard};
-ghost use Rattle.section_targets.specs.Given.{AreNamed, AreIn};
-ghost use Rattle.section_targets.specs.Gives.{GivesOne, GivesAll};
+ghost use Rattle.section_targets.specs.Prelude.{arena, Formula, entries_of, is_dontcare, Context, name_at, Keeps, view_guard};
+ghost use Rattle.section_targets.specs.{AreNamed, AreIn, GivesOne, GivesAll};
 
 use crate::aim::Aim;
 use crate::nodes::add_node;

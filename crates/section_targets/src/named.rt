@@ -1,11 +1,8 @@
 //! The signals that names stand for as targets.
 
 ghost use Rattle.std.specs.Prelude.{◌≡◌, ◌==◌, ◌<◌, ℕ, Bool, List, [], ◌∷◌, ◌++◌, ◌&&◌, true, if◌then◌else◌, IfOk, length};
-ghost use Rattle.abel_tree.specs.Entries.{entries_of};
-ghost use Rattle.abel_meaning.specs.Targets.{targets_of, some_signals};
-ghost use Rattle.abel_meaning.specs.Terms.{Term, Known, term_named, extended_if};
-ghost use Rattle.section_targets.specs.NamedTargets.{AreSignals, IsOfTerm, StandFor};
-ghost use Rattle.section_targets.specs.TargetSignals.{is_itself, is_only};
+ghost use Rattle.section_targets.specs.Prelude.{entries_of, targets_of, some_signals, Term, Known, term_named, extended_if};
+ghost use Rattle.section_targets.specs.{AreSignals, IsOfTerm, StandFor, is_itself, is_only};
 
 use abel_tree::Extension;
 use pld_base::{ListOf, OutOfMemory, Place};

@@ -1,10 +1,8 @@
 //! The signals of all names of a source, made once for all its targets.
 
 ghost use Rattle.std.specs.Prelude.{◌≡◌, ◌+◌, ◌<◌, ℕ, List, IfOk, length};
-ghost use Rattle.abel_tree.specs.Entries.{entries_of, view_meaning};
-ghost use Rattle.abel_tree.specs.View.{view, view_member};
-ghost use Rattle.abel_meaning.specs.Terms.{Terms, Known, term_of, term_meant, known_of, member_before};
-ghost use Rattle.section_targets.specs.NamedTargets.{IsOfTerm, IsOfMembers, StandFor};
+ghost use Rattle.section_targets.specs.Prelude.{entries_of, view_meaning, view, view_member, Terms, Known, term_of, term_meant, known_of, member_before};
+ghost use Rattle.section_targets.specs.{IsOfTerm, IsOfMembers, StandFor};
 
 use crate::named::{NamedSignals, Targets};
 use abel_tree::{Expr, Meaning, Member};

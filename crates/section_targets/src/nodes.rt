@@ -1,10 +1,9 @@
 //! Nodes that the units of a source add, and guards with one condition more.
 
 ghost use Rattle.std.specs.Prelude.{◌≡◌, ◌<◌, [], ◌∷◌, length, IfOk};
-ghost use Rattle.bit_expr.specs.Arena.{arena, folded, formula_at, LiesIn};
+ghost use Rattle.section_targets.specs.Prelude.{arena, folded, formula_at, LiesIn};
 ghost use Rattle.abel_meaning.specs.CountedNodes as counted;
-ghost use Rattle.section_targets.specs.Building.{BuildsNodes, IsBit};
-ghost use Rattle.section_targets.specs.Units.{part};
+ghost use Rattle.section_targets.specs.{BuildsNodes, IsBit, part};
 
 use bit_expr::{ExprFault, ExprId, Exprs, Node};
 use pld_base::Place;

@@ -1,14 +1,9 @@
 //! What may be assigned, and how.
 
 ghost use Rattle.std.specs.Prelude.{◌≡◌, List, ◌++◌, length, map, IfOk, OnOk};
-ghost use Rattle.abel_tree.specs.Entries.{entries_of, view_meaning, view_declared};
-ghost use Rattle.abel_tree.specs.FirstRefusal.{first_refusal};
-ghost use Rattle.abel_meaning.specs.Designs.{Context};
-ghost use Rattle.set_expr.specs.Answer.{IsContextOf};
-ghost use Rattle.set_expr.specs.SectionOrder.{section_order};
-ghost use Rattle.section_targets.specs.Manners.{is_output_kind, is_output, no_output, mixed, is_against_kind, manner_of, aims_refused, AreFirsts};
+ghost use Rattle.section_targets.specs.Prelude.{entries_of, view_meaning, view_declared, first_refusal, Context, IsContextOf, section_order};
+ghost use Rattle.section_targets.specs.{is_output_kind, is_output, no_output, mixed, is_against_kind, manner_of, aims_refused, AreFirsts, AreNamed};
 ghost use Rattle.section_targets.specs.declared.manner.Manner.{Manner};
-ghost use Rattle.section_targets.specs.Given.{AreNamed};
 
 use crate::aim::Aim;
 use crate::assigned::Assigned;

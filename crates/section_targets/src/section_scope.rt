@@ -1,16 +1,11 @@
 //! What the sections of a source are over.
 
 ghost use Rattle.std.specs.Prelude.{◌≡◌, IfOk, None, length};
-ghost use Rattle.abel_tree.specs.Entries.{entries_of};
-ghost use Rattle.abel_tree.specs.View.{view};
-ghost use Rattle.abel_meaning.specs.Terms.{known_of, term_of};
-ghost use Rattle.set_expr.specs.Answer.{refusal_of};
+ghost use Rattle.section_targets.specs.Prelude.{entries_of, view, known_of, term_of, refusal_of, Table};
 ghost use Rattle.set_expr.specs.Contexts.{context_for};
 ghost use Rattle.expr_bits.specs.ExpressionBits.{MakesBits};
 ghost use Rattle.expr_bits.specs.Reads.{reads_signal};
-ghost use Rattle.section_targets.specs.NamedTargets.{AreNames, IsSide};
-ghost use Rattle.section_targets.specs.TargetSignals.{left_side, target_member};
-ghost use Rattle.pld_device.specs.Table.{Table};
+ghost use Rattle.section_targets.specs.{AreNames, IsSide, left_side, target_member};
 
 use crate::named::{NamedSignals, Targets};
 use crate::naming::target_names;

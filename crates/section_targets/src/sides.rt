@@ -1,14 +1,8 @@
 //! The signals of targets with their places, and what is no target.
 
 ghost use Rattle.std.specs.Prelude.{◌≡◌, ℕ, Bool, min, if◌then◌else◌, List, [], ◌∷◌, IfOk, length};
-ghost use Rattle.abel_tree.specs.Entries.{entries_of, find};
-ghost use Rattle.abel_tree.specs.FirstRefusal.{first_refusal};
-ghost use Rattle.abel_meaning.specs.Designs.{Context};
-ghost use Rattle.set_expr.specs.declared.fault.SectionFault.TheVariants.{NotAnOutput};
-ghost use Rattle.set_expr.specs.Refusals.{too_wide};
-ghost use Rattle.set_expr.specs.SectionOrder.{section_order};
-ghost use Rattle.section_targets.specs.NamedTargets.{AreSignals, IsSide, AreTargets};
-ghost use Rattle.section_targets.specs.TargetSignals.{TargetFound, aims_at, no_target, targets_both, target_name, start_at};
+ghost use Rattle.section_targets.specs.Prelude.{entries_of, find, first_refusal, Context, NotAnOutput, too_wide, section_order};
+ghost use Rattle.section_targets.specs.{AreSignals, IsSide, AreTargets, TargetFound, aims_at, no_target, targets_both, target_name, start_at};
 
 use crate::aim::Aim;
 use crate::named::{NamedSignals, Targets};

@@ -1,14 +1,8 @@
 //! The walk of a target.
 
 ghost use Rattle.std.specs.Prelude.{◌≡◌, IfOk, length, map};
-ghost use Rattle.abel_tree.specs.Entries.{entries_of};
-ghost use Rattle.abel_tree.specs.Tree.{members_of};
-ghost use Rattle.abel_tree.specs.View.{view, view_member};
-ghost use Rattle.abel_meaning.specs.Designs.{Context};
-ghost use Rattle.set_expr.specs.declared.fault.SectionFault.TheVariants.{NotAnOutput};
-ghost use Rattle.set_expr.specs.Answer.{first_place};
-ghost use Rattle.section_targets.specs.NamedTargets.{IsSide, AreTargets};
-ghost use Rattle.section_targets.specs.TargetSignals.{TargetFound, targets_both, target_one, target_member, target_members, target_set, left_side, first_name};
+ghost use Rattle.section_targets.specs.Prelude.{entries_of, members_of, view, view_member, Context, NotAnOutput, first_place};
+ghost use Rattle.section_targets.specs.{IsSide, AreTargets, TargetFound, targets_both, target_one, target_member, target_members, target_set, left_side, first_name};
 
 use crate::named::Targets;
 use crate::sides::{Side, number_of, refuse_wide};

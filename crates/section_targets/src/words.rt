@@ -1,13 +1,10 @@
 //! The bits of a value that meets so many signals.
 
 ghost use Rattle.std.specs.Prelude.{◌≡◌, List, get_or, IfOk};
-ghost use Rattle.bit_expr.specs.declared.node.Node.{Node};
-ghost use Rattle.bit_expr.specs.Arena.{arena};
+ghost use Rattle.section_targets.specs.Prelude.{Node, arena, Value, IsShaped};
 ghost use Rattle.abel_meaning.specs.BitWords.{Word};
 ghost use Rattle.abel_meaning.specs.FormulaBits.{met_word};
-ghost use Rattle.abel_meaning.specs.Numbers.{Value};
-ghost use Rattle.set_expr.specs.Answer.{IsShaped};
-ghost use Rattle.section_targets.specs.Building.{AreBits, known_ids};
+ghost use Rattle.section_targets.specs.{AreBits, known_ids};
 
 use bit_expr::ExprId;
 use expr_bits::{digit_word, resized_word, spread_word};

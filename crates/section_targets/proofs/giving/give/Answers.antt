@@ -1,6 +1,5 @@
 use Rattle.std.proofs.Common.{refl}
-use Rattle.std.proofs.lemmas.Result.{err_from_is_err_and}
-use Rattle.bit_expr.specs.Arena.{arena}
+use Rattle.section_targets.proofs.Common.{err_from_is_err_and, arena}
 use Rattle.section_targets.proofs.Gives.{stops_nodes, memory_after, given_after}
 use Rattle.section_targets.proofs.giving.give.Goals as goal
 

@@ -1,6 +1,5 @@
 use Rattle.std.proofs.Common.{sym, Ok, Err, arith}
-use Rattle.std.proofs.lemmas.Result.{err_from_is_err_and}
-use Rattle.bit_expr.specs.Arena.{arena}
+use Rattle.section_targets.proofs.Common.{err_from_is_err_and, arena}
 use Rattle.section_targets.proofs.Built.{kept_inside, keeps_on}
 use Rattle.section_targets.proofs.Gives.{one_kept, each_next, each_stops, each_none}
 use Rattle.section_targets.proofs.giving.give_all.Goals as goal

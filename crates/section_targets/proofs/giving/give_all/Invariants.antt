@@ -1,11 +1,6 @@
 -- Whatever giving the signals that are left leaves, giving all of them leaves.
 use Rattle.std.proofs.Common.{◌≡◌, Result, drop}
-use Rattle.bit_expr.specs.Arena.{arena}
-use Rattle.abel_tree.specs.Entries.{entries_of}
-use Rattle.abel_meaning.specs.Designs.{Context}
-use Rattle.set_expr.specs.declared.contributions.Contributions.{Contributions}
-use Rattle.set_expr.specs.declared.fault.SectionFault.{SectionFault}
-use Rattle.set_expr.specs.Answer.{Keeps}
+use Rattle.section_targets.proofs.Common.{arena, entries_of, Context, Contributions, SectionFault, Keeps}
 use Rattle.section_targets.proofs.Gives.{GivesEach}
 use Rattle.section_targets.proofs.giving.give_all.Given as goal
 

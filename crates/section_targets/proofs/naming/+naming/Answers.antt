@@ -1,16 +1,9 @@
 -- One member before others.
 use Rattle.std.proofs.Common.{◌≡◌, ◌-◌, ◌∷◌, inl, inr, ap, ap₂, sym, ◌∙◌, subst, drop, map, arith}
-use Rattle.std.proofs.lemmas.Result.{IfOk-weaker}
-use Rattle.abel_tree.specs.Ranges.{range_names}
-use Rattle.abel_tree.specs.Tree.{Tree, AParen, members_of}
-use Rattle.abel_tree.specs.View.{view, view_member}
-use Rattle.abel_meaning.specs.Terms.{term_of, term_named, terms_of, named_before, member_before}
+use Rattle.section_targets.proofs.Common.{IfOk-weaker, range_names, Tree, AParen, members_of, view, view_member, term_of, term_named, terms_of, named_before, member_before, name_items, IsOfTerm, IsOfMembers, view_one, view_span, view_number, view_special, view_name, view_set, view_paren, view_unary, view_binary}
 use Rattle.abel_meaning.specs.Terms as term
-use Rattle.name_uses.specs.RangeParts.{name_items}
-use Rattle.section_targets.specs.NamedTargets.{IsOfTerm, IsOfMembers}
 use Rattle.section_targets.proofs.Looks.{back_more, back_none}
 use Rattle.section_targets.proofs.SignalLists.{signals_before, special_none}
-use Rattle.expr_bits.proofs.Views.{view_one, view_span, view_number, view_special, view_name, view_set, view_paren, view_unary, view_binary}
 use Rattle.section_targets.proofs.naming.+naming.Goals as goal
 
 pub named_member-returns-in_ok-signals-in-One : goal.named_member-returns-in_ok-signals-in-One

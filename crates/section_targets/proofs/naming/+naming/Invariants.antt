@@ -1,11 +1,6 @@
 -- The members, and the names of a range, from this one on are there.
 use Rattle.std.proofs.Common.{ℕ, List, drop, map}
-use Rattle.abel_tree.specs.Entries.{entries_of}
-use Rattle.abel_tree.specs.Tree.{members_of}
-use Rattle.abel_tree.specs.View.{view_member}
-use Rattle.abel_meaning.specs.Terms.{Known, Terms, terms_of, named_before}
-use Rattle.name_uses.specs.RangeParts.{name_items}
-use Rattle.section_targets.specs.NamedTargets.{IsOfMembers, StandFor}
+use Rattle.section_targets.proofs.Common.{entries_of, members_of, view_member, Known, Terms, terms_of, named_before, name_items, IsOfMembers, StandFor}
 use Rattle.section_targets.proofs.naming.+naming.Given as goal
 
 abbrev pub invariant-named_expr-loop-index : goal.invariant-named_expr-loop-index

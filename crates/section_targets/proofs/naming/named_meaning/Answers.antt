@@ -1,8 +1,5 @@
 use Rattle.std.proofs.Common.{sym, subst}
-use Rattle.std.proofs.lemmas.Result.{IfOk-weaker}
-use Rattle.abel_tree.specs.Entries.{view_meaning}
-use Rattle.abel_meaning.specs.Terms.{term_meant}
-use Rattle.section_targets.specs.NamedTargets.{IsOfTerm}
+use Rattle.section_targets.proofs.Common.{IfOk-weaker, view_meaning, term_meant, IsOfTerm}
 use Rattle.section_targets.proofs.naming.named_meaning.Goals as goal
 
 pub returns-in-Constant : goal.returns-in-Constant

@@ -1,8 +1,6 @@
 -- The names so far.
 use Rattle.std.proofs.Common.{◌≡◌, map, take, length}
-use Rattle.abel_tree.specs.Entries.{view_declared}
-use Rattle.abel_meaning.specs.Terms.{known_of}
-use Rattle.section_targets.specs.NamedTargets.{AreOfTerms}
+use Rattle.section_targets.proofs.Common.{view_declared, known_of, AreOfTerms}
 use Rattle.section_targets.proofs.naming.target_names.Given as goal
 
 abbrev pub invariant-loop-declared : goal.invariant-loop-declared

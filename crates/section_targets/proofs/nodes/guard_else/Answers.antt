@@ -1,9 +1,7 @@
 -- Two nodes of one unit, the second over the first.
 use Rattle.std.proofs.Common.{[], ◌∷◌, ap₂, ◌∙◌, subst₂}
-use Rattle.std.proofs.lemmas.Result.{IfOk-weaker}
+use Rattle.section_targets.proofs.Common.{IfOk-weaker, Builds, part}
 use Rattle.bit_expr.specs.Folding.{make_and}
-use Rattle.section_targets.specs.Building.{Builds}
-use Rattle.section_targets.specs.Units.{part}
 use Rattle.section_targets.proofs.Built.{kept_formula, kept_inside}
 use Rattle.section_targets.proofs.OneUnit.{two_parts}
 use Rattle.section_targets.proofs.nodes.guard_else.Goals as goal

@@ -1,6 +1,5 @@
 use Rattle.std.proofs.Common.{refl, ap₂, sym, ◌∙◌}
-use Rattle.abel_tree.specs.FirstRefusal.{earlier}
-use Rattle.set_expr.specs.SectionOrder.{section_order}
+use Rattle.section_targets.proofs.Common.{earlier, section_order}
 use Rattle.section_targets.proofs.Refused.{refused_next, noted_next, noted_none, aim_refused_as}
 use Rattle.section_targets.proofs.outputs.check_aims.Goals as goal
 

@@ -1,11 +1,6 @@
 -- So many signals are checked and noted.
 use Rattle.std.proofs.Common.{◌≡◌, List, ◌++◌, take, map}
-use Rattle.abel_tree.specs.FirstRefusal.{first_refusal}
-use Rattle.abel_meaning.specs.Designs.{Context}
-use Rattle.set_expr.specs.Answer.{IsContextOf}
-use Rattle.set_expr.specs.SectionOrder.{section_order}
-use Rattle.section_targets.specs.declared.manner.Manner.{Manner}
-use Rattle.section_targets.specs.Manners.{manner_of, aims_refused, AreFirsts}
+use Rattle.section_targets.proofs.Common.{first_refusal, Context, IsContextOf, section_order, Manner, manner_of, aims_refused, AreFirsts}
 use Rattle.section_targets.proofs.outputs.check_aims.Given as goal
 
 abbrev pub invariant-loop-aim : goal.invariant-loop-aim

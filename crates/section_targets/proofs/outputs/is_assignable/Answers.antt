@@ -1,8 +1,6 @@
 use Rattle.std.proofs.Common.{sym, ap, ◌==◌, ◌∙◌}
-use Rattle.std.specs.Option.{is_some}
+use Rattle.section_targets.proofs.Common.{is_some, view_meaning, is_output_kind}
 use Rattle.pld_device.specs.declared.cell.Cell.{Cell}
-use Rattle.abel_tree.specs.Entries.{view_meaning}
-use Rattle.section_targets.specs.Manners.{is_output_kind}
 use Rattle.section_targets.proofs.Looks.{placed_any}
 use Rattle.section_targets.proofs.outputs.is_assignable.Goals as goal
 

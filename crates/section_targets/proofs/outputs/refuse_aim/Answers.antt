@@ -1,4 +1,4 @@
-use Rattle.abel_tree.specs.Entries.{view_declared}
+use Rattle.section_targets.proofs.Common.{view_declared}
 use Rattle.section_targets.proofs.Refused.{output_first}
 use Rattle.section_targets.proofs.outputs.refuse_aim.Goals as goal
 

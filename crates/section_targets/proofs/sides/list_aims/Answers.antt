@@ -1,7 +1,5 @@
 use Rattle.std.proofs.Common.{sym, ap, ◌++◌, ◌∷◌, [], ◌∙◌, get_or, take}
-use Rattle.std.proofs.lemmas.List.{map-append, take_more}
-use Rattle.set_expr.proofs.FoundMembers.{whole_front}
-use Rattle.section_targets.specs.TargetSignals.{aim_at, aims_at}
+use Rattle.section_targets.proofs.Common.{map-append, take_more, whole_front, aim_at, aims_at}
 use Rattle.section_targets.proofs.sides.list_aims.Goals as goal
 
 pub loop-signal-preserved : goal.loop-signal-preserved

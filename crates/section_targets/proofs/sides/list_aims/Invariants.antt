@@ -1,6 +1,6 @@
 -- So many signals are listed.
 use Rattle.std.proofs.Common.{◌≡◌, take}
-use Rattle.section_targets.specs.TargetSignals.{aims_at}
+use Rattle.section_targets.proofs.Common.{aims_at}
 use Rattle.section_targets.proofs.sides.list_aims.Given as goal
 
 abbrev pub invariant-loop-signal : goal.invariant-loop-signal

@@ -1,17 +1,8 @@
 -- What each variant is refused as, and one member more.
 use Rattle.std.proofs.Common.{◌≡◌, ◌-◌, ◌∷◌, inl, inr, refl, ap, ap₂, sym, ◌∙◌, subst, length, drop, map, arith}
-use Rattle.std.proofs.lemmas.Result.{IfOk-weaker}
-use Rattle.abel_tree.specs.Ranges.{range_names}
-use Rattle.abel_tree.specs.Tree.{Tree, AName, ASet, members_of}
-use Rattle.abel_tree.specs.View.{view, view_member}
-use Rattle.name_uses.specs.RangeParts.{name_items}
-use Rattle.set_expr.specs.declared.fault.SectionFault.TheVariants.{NotAnOutput}
-use Rattle.set_expr.specs.Answer.{first_place}
+use Rattle.section_targets.proofs.Common.{IfOk-weaker, range_names, Tree, AName, ASet, members_of, view, view_member, name_items, NotAnOutput, first_place, IsSide, target_member, target_members, target_name, target_one, target_range, start_at, targets_both, no_target, first_name, view_number, view_special, view_name, view_set, view_unary, view_binary, view_one, view_span}
 use Rattle.section_targets.proofs.Looks.{back_more, back_none}
-use Rattle.section_targets.specs.NamedTargets.{IsSide}
-use Rattle.section_targets.specs.TargetSignals.{target_member, target_members, target_name, target_one, target_range, start_at, targets_both, no_target, first_name}
 use Rattle.section_targets.proofs.SignalLists.{both_assoc, side_length, side_refused, side_set, start_same}
-use Rattle.expr_bits.proofs.Views.{view_number, view_special, view_name, view_set, view_unary, view_binary, view_one, view_span}
 use Rattle.section_targets.proofs.siding.+siding.Goals as goal
 
 pub member_side-returns-in-Special : goal.member_side-returns-in-Special

@@ -1,12 +1,6 @@
 -- The members, and the names of a range, from this one on are there.
 use Rattle.std.proofs.Common.{◌≡◌, length, drop, map}
-use Rattle.abel_tree.specs.Entries.{entries_of}
-use Rattle.abel_tree.specs.Tree.{members_of}
-use Rattle.abel_tree.specs.View.{view_member}
-use Rattle.abel_meaning.specs.Designs.{Context}
-use Rattle.name_uses.specs.RangeParts.{name_items}
-use Rattle.section_targets.specs.NamedTargets.{IsSide, AreTargets}
-use Rattle.section_targets.specs.TargetSignals.{TargetFound, target_members, target_range, targets_both}
+use Rattle.section_targets.proofs.Common.{entries_of, members_of, view_member, Context, name_items, IsSide, AreTargets, TargetFound, target_members, target_range, targets_both}
 use Rattle.section_targets.proofs.siding.+siding.Given as goal
 
 abbrev pub invariant-set_side-loop-index : goal.invariant-set_side-loop-index

@@ -1,8 +1,5 @@
 use Rattle.std.proofs.Common.{Option, None, sym, unwrap_or, ◌∙◌, ap, ap₂, ◌++◌, ◌∷◌, [], take, get_or}
-use Rattle.std.proofs.lemmas.List.{take_more, map-append}
-use Rattle.bit_expr.specs.declared.node.ExprId.{ExprId}
-use Rattle.set_expr.proofs.FoundMembers.{whole_front}
-use Rattle.section_targets.specs.Building.{known_ids}
+use Rattle.section_targets.proofs.Common.{take_more, map-append, ExprId, whole_front, known_ids}
 use Rattle.section_targets.proofs.words.known_word.Goals as goal
 
 pub loop-place-preserved : goal.loop-place-preserved

@@ -1,6 +1,6 @@
 -- So many positions are there.
 use Rattle.std.proofs.Common.{◌≡◌, take}
-use Rattle.section_targets.specs.Building.{known_ids}
+use Rattle.section_targets.proofs.Common.{known_ids}
 use Rattle.section_targets.proofs.words.known_word.Given as goal
 
 abbrev pub invariant-loop-place : goal.invariant-loop-place

@@ -1,10 +1,6 @@
 -- The bits by shape.
 use Rattle.std.proofs.Common.{get_or, replicate, sym, ap, ◌∙◌, subst}
-use Rattle.std.proofs.lemmas.Result.{IfOk-weaker}
-use Rattle.bit_expr.specs.Arena.{arena}
-use Rattle.abel_meaning.specs.FormulaBits.{met_word}
-use Rattle.expr_bits.specs.Positions.{resized_ids}
-use Rattle.section_targets.specs.Building.{AreBits, known_ids}
+use Rattle.section_targets.proofs.Common.{IfOk-weaker, arena, met_word, resized_ids, AreBits, known_ids}
 use Rattle.section_targets.proofs.MetWords.{met_number, met_set, met_single}
 use Rattle.section_targets.proofs.words.meet.Goals as goal
 

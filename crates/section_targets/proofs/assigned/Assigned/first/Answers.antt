@@ -1,5 +1,5 @@
 use Rattle.std.proofs.Common.{sym, ◌∙◌}
-use Rattle.section_targets.specs.Manners.{part_of}
+use Rattle.section_targets.proofs.Common.{part_of}
 use Rattle.section_targets.proofs.Looks.{first_is, first_not, first_in, first_end}
 use Rattle.section_targets.proofs.assigned.Assigned.first.Goals as goal
 

@@ -1,6 +1,6 @@
 -- None of those so far is the first.
 use Rattle.std.proofs.Common.{◌≡◌, drop}
-use Rattle.section_targets.specs.Manners.{first_manner, part_of}
+use Rattle.section_targets.proofs.Common.{first_manner, part_of}
 use Rattle.section_targets.proofs.assigned.Assigned.first.Given as goal
 
 abbrev pub invariant-loop-earlier : goal.invariant-loop-earlier

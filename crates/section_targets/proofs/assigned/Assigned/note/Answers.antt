@@ -1,5 +1,5 @@
 use Rattle.std.proofs.Common.{sym, ap, subst, ◌∙◌, ◌++◌, ◌∷◌, []}
-use Rattle.section_targets.specs.Manners.{AreFirsts}
+use Rattle.section_targets.proofs.Common.{AreFirsts}
 use Rattle.section_targets.proofs.Looks.{firsts_stay, firsts_push}
 use Rattle.section_targets.proofs.assigned.Assigned.note.Goals as goal
 

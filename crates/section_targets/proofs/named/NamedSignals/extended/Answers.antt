@@ -1,7 +1,5 @@
 use Rattle.std.proofs.Common.{refl, sym, subst}
-use Rattle.abel_meaning.specs.Terms.{extended_if}
-use Rattle.section_targets.specs.declared.named.NamedSignals.{NamedSignals}
-use Rattle.section_targets.specs.NamedTargets.{IsOfTerm}
+use Rattle.section_targets.proofs.Common.{extended_if, NamedSignals, IsOfTerm}
 use Rattle.section_targets.proofs.SignalLists.{signals_extended}
 use Rattle.section_targets.proofs.named.NamedSignals.extended.Goals as goal
 

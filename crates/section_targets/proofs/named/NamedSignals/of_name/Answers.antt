@@ -1,10 +1,6 @@
 -- What isn't one of the names is a number.
 use Rattle.std.proofs.Common.{◌≡◌, None, Some, [], true, length, slice_get, refl, sym, subst, ltb-true}
-use Rattle.std.proofs.lemmas.Bool.{ltb-false}
-use Rattle.std.proofs.lemmas.Option.{slice_get_past, slice_get_read}
-use Rattle.std.proofs.lemmas.Result.{IfOk-weaker}
-use Rattle.abel_tree.specs.Entries.{entries_of}
-use Rattle.section_targets.specs.NamedTargets.{IsOfTerm}
+use Rattle.section_targets.proofs.Common.{ltb-false, slice_get_past, slice_get_read, IfOk-weaker, entries_of, IsOfTerm}
 use Rattle.section_targets.proofs.NameTerms.{named_none, named_at}
 use Rattle.section_targets.proofs.named.NamedSignals.of_name.Goals as goal
 

@@ -1,6 +1,5 @@
 use Rattle.std.proofs.Common.{if◌then◌else◌, sym, ap, ◌∙◌}
-use Rattle.abel_meaning.specs.Targets.{targets_of, some_signals}
-use Rattle.section_targets.specs.TargetSignals.{is_itself, is_only, names_signals}
+use Rattle.section_targets.proofs.Common.{targets_of, some_signals, is_itself, is_only, names_signals}
 use Rattle.section_targets.proofs.SignalLists.{only_by}
 use Rattle.section_targets.proofs.named.NamedSignals.start.Goals as goal
 

@@ -1,16 +1,7 @@
 -- What is found of a name, and its signals.
 use Rattle.std.proofs.Common.{if◌then◌else◌, refl, ap, ap₂, sym, subst, ◌∙◌, [], ◌∷◌, ◌++◌, length}
-use Rattle.abel_tree.specs.Entries.{find}
-use Rattle.abel_tree.specs.FirstRefusal.{earlier, first_refusal}
-use Rattle.abel_tree.proofs.FirstRefusals.{first_append}
-use Rattle.abel_meaning.specs.Targets.{targets_of, some_signals}
-use Rattle.abel_meaning.specs.Terms.{term_named}
-use Rattle.set_expr.specs.declared.fault.SectionFault.TheVariants.{NotAnOutput}
-use Rattle.set_expr.specs.FoundNames.{found_use, name_found, names_found}
+use Rattle.section_targets.proofs.Common.{find, earlier, first_refusal, first_append, targets_of, some_signals, term_named, NotAnOutput, found_use, name_found, names_found, section_order, StandFor, aims_at, is_itself, no_signals, names_signals, start_at, target_name}
 use Rattle.set_expr.specs.KnownNames.{SumsUp}
-use Rattle.set_expr.specs.SectionOrder.{section_order}
-use Rattle.section_targets.specs.NamedTargets.{StandFor}
-use Rattle.section_targets.specs.TargetSignals.{aims_at, is_itself, no_signals, names_signals, start_at, target_name}
 use Rattle.section_targets.proofs.OverNames.{found_in}
 use Rattle.section_targets.proofs.SignalLists.{side_named}
 use Rattle.section_targets.proofs.sides.Side.of_name.Goals as goal
