@@ -1,3 +1,4 @@
+pub mod Common
 pub mod FoundMembers
 pub mod NamesMore
 pub mod SetMembers

@@ -1,18 +1,11 @@
 -- Look-ups in the table of names, and what is known with one name more.
 use Rattle.std.proofs.Common.{◌≡◌, ℕ, ◌+◌, Bool, true, false, Option, None, Some, List, [], ◌∷◌, ◌++◌, length, refl, sym, ap, ap₂, subst, ◌∙◌, arith, if◌then◌else◌, bytes_eq, cond, append_assoc, append-nil}
+use Rattle.set_expr.proofs.Common.{option_or, Entry, find, earlier, first_refusal, first_append, KnownName, NameFound, named, names_found, found_after, found_entry, found_refusals, Table, by_bytes, under, IsKnownIf, IsKnownName, IsPlaced, IsKnown, section_order}
 use Rattle.std.specs.Global.{Vec}
 use Rattle.std.specs.List.{position_from}
 use Rattle.std.specs.Map.{lookup}
-use Rattle.std.specs.Option.{option_or}
 use Rattle.std.proofs.lemmas.Iterator.Adapters.{position_from-zero}
 use Rattle.indexmap.specs.IndexMap.{insert_entry}
-use Rattle.abel_tree.specs.Entries.{Entry, find}
-use Rattle.abel_tree.specs.FirstRefusal.{earlier, first_refusal}
-use Rattle.abel_tree.proofs.FirstRefusals.{first_append}
-use Rattle.set_expr.specs.declared.known_name.KnownName.{KnownName}
-use Rattle.set_expr.specs.FoundNames.{NameFound, named, names_found, found_after, found_entry, found_refusals}
-use Rattle.set_expr.specs.KnownNames.{Table, by_bytes, under, IsKnownIf, IsKnownName, IsPlaced, IsKnown}
-use Rattle.set_expr.specs.SectionOrder.{section_order}
 
 pub looked_up : (es : List (Vec ℕ × KnownName)) (w : List ℕ) → lookup (λ k. bytes_eq w k.items) es ≡ under (by_bytes es) w
 looked_up [] w = refl

@@ -1,19 +1,12 @@
 -- One member more, and the set of all.
 use Rattle.std.proofs.Common.{◌≡◌, ℕ, ◌+◌, ◌≤◌, min, nat_lt, Bool, true, false, if◌then◌else◌, List, [], ◌∷◌, ◌++◌, Option, Some, None, refl, sym, ap, ap₂, ◌∙◌, arith, append_assoc, append-nil}
+use Rattle.set_expr.proofs.Common.{Place, earlier, first_refusal, Value, SectionFault, HasShapeIf, AreValued, Found, members_refused, members_specials, members_width, members_value, large_member, width_with, too_wide, value_or_none, section_order}
 use Rattle.std.specs.Bool.{then_some}
 use Rattle.std.proofs.lemmas.Bool.{ltb-false}
 use Rattle.std.proofs.lemmas.Bool.Decides.{nat_tests}
-use Rattle.pld_base.specs.declared.place.Place.{Place}
-use Rattle.abel_tree.specs.FirstRefusal.{earlier, first_refusal}
-use Rattle.abel_meaning.specs.Numbers.{Value}
 use Rattle.abel_meaning.specs.Numbers as number
-use Rattle.set_expr.specs.declared.fault.SectionFault.{SectionFault}
 use Rattle.set_expr.specs.declared.fault.SectionFault.TheVariants.{BadWidth}
 use Rattle.set_expr.specs.declared.shaped.Shape.TheVariants as shape
-use Rattle.set_expr.specs.KnownNames.{HasShapeIf}
-use Rattle.set_expr.specs.Members.{AreValued}
-use Rattle.set_expr.specs.Refusals.{Found, members_refused, members_specials, members_width, members_value, large_member, width_with, too_wide, value_or_none}
-use Rattle.set_expr.specs.SectionOrder.{section_order}
 use Rattle.set_expr.proofs.SummedUp.{first_both, left_empty, right_empty}
 
 specials_more : (fs : List Found) (f : Found) → members_specials (fs ++ f ∷ []) ≡ members_specials fs ++ f.specials

@@ -1,15 +1,8 @@
 -- Operators in a row, from their first operand on: the whole that they make up, and that each right side lies less deep.
 use Rattle.std.proofs.Common.{◌≡◌, ◌<◌, ◌≤◌, List, [], ◌∷◌, ◌++◌, refl, sym, ap, subst, ◌∙◌, arith, rules, Bor}
-use Rattle.pld_base.specs.declared.place.Place.{Place}
-use Rattle.abel_tree.specs.declared.words.Binary.{Binary}
-use Rattle.abel_tree.specs.declared.expressions.Expr.{Expr, size-Expr, the_lemmas}
+use Rattle.set_expr.proofs.Common.{Place, Binary, Expr, size-Expr, the_lemmas, view, Entry, NameFound, names_found, found_of, Table, IsKnown, SumsUp, Found, found_both}
 use Rattle.abel_tree.specs.declared.expressions.Expr as expr
-use Rattle.abel_tree.specs.View.{view}
-use Rattle.abel_tree.specs.Entries.{Entry}
 use Rattle.set_expr.specs.declared.checked.Checked.{Checked}
-use Rattle.set_expr.specs.FoundNames.{NameFound, names_found, found_of}
-use Rattle.set_expr.specs.KnownNames.{Table, IsKnown, SumsUp}
-use Rattle.set_expr.specs.Refusals.{Found, found_both}
 
 -- an operator with its place and its right side
 abbrev pub Link : Type 0

@@ -1,16 +1,8 @@
 -- What sums up the parts of an expression sums up the whole.
 use Rattle.std.proofs.Common.{◌≡◌, List, [], ◌∷◌, ◌++◌, Option, None, Some, refl, sym, ap₂, ◌∙◌}
-use Rattle.abel_tree.specs.FirstRefusal.{earlier, first_refusal}
-use Rattle.abel_tree.proofs.FirstRefusals.{first_append}
-use Rattle.set_expr.specs.declared.fault.SectionFault.{SectionFault}
-use Rattle.set_expr.specs.SectionOrder.{section_order}
-use Rattle.abel_tree.specs.declared.words.Binary.{Binary}
+use Rattle.set_expr.proofs.Common.{earlier, first_refusal, first_append, SectionFault, section_order, Binary, Value, binary_value, unary_value, HasShapeIf, value_of_both, value_or_none}
 use Rattle.abel_tree.specs.declared.words.Unary.{Unary}
-use Rattle.abel_meaning.specs.Numbers.{Value}
-use Rattle.abel_meaning.specs.Values.{binary_value, unary_value}
 use Rattle.set_expr.specs.declared.shaped.Shape.{Shape}
-use Rattle.set_expr.specs.KnownNames.{HasShapeIf}
-use Rattle.set_expr.specs.Refusals.{value_of_both, value_or_none}
 
 -- a list of two parts that is empty
 pub left_empty : {A : Type 0} (xs ys : List A) → xs ++ ys ≡ [] → xs ≡ []

@@ -1,5 +1,6 @@
 -- The machine's operators on numbers of 32 bits are those by position.
 use Rattle.std.proofs.Common.{◌≡◌, ℕ, zero, suc, ◌+◌, ◌-◌, ◌/◌, ◌%◌, ◌^◌, ◌<◌, ◌==◌, min, max, Bool, true, false, not, ◌&&◌, ◌||◌, List, [], ◌∷◌, map, length, bit_and, bit_or, refl, sym, ap, ap₂, ◌∙◌, arith}
+use Rattle.set_expr.proofs.Common.{one_bit, number_with, zipped, by_position, digits_low_first}
 use Rattle.std.specs.Int.{bit_at}
 use Rattle.std.specs.Int.Bits.{bit_xor}
 use Rattle.std.proofs.lemmas.Nat.Bits.{same_from_bits, bit_at_and, bit_at_or, bit_at_xor, bit_at_lowest, bit_at-suc}
@@ -7,7 +8,6 @@ use Rattle.std.proofs.Math.Bool.{not-not}
 use Rattle.std.proofs.Math.Nat.{pow-succ'}
 use Rattle.pld_base.specs.Bits.{same_level}
 use Rattle.bit_expr.specs.Formulas.{differ}
-use Rattle.abel_meaning.specs.Numbers.{one_bit, number_with, zipped, by_position, digits_low_first}
 use Rattle.abel_meaning.proofs.WordValues.{lowest_bit}
 use Rattle.abel_meaning.proofs.DigitLaws.{complement_adds, length_digits, number_of_digits, length_zipped}
 

@@ -1,16 +1,8 @@
 -- What the bits of an expression are, and what is refused of it (ABEL-HDL Reference Manual, sets and operators; the limit
 -- is this project's rule).
 use Rattle.std.specs.Prelude.{◌≡◌, ℕ, ◌<◌, Bool, true, false, Option, None, Some, List, [], ◌∷◌, length, slice_get}
-use Rattle.pld_base.specs.declared.place.Place.{Place}
-use Rattle.pld_device.specs.Table.{Table}
+use Rattle.set_expr.specs.Prelude.{Place, Table, formula_at, Formula, Const, Names, entries_of, first_refusal, Tree, ANumber, ASpecial, AName, ASet, AParen, AUnary, ABinary, Context}
 use Rattle.bit_expr.specs.declared.node.ExprId.{ExprId}
-use Rattle.bit_expr.specs.Arena.{formula_at}
-use Rattle.bit_expr.specs.Formulas.{Formula, Const}
-use Rattle.abel_tree.specs.declared.names.Names.{Names}
-use Rattle.abel_tree.specs.Entries.{entries_of}
-use Rattle.abel_tree.specs.FirstRefusal.{first_refusal}
-use Rattle.abel_tree.specs.Tree.{Tree, ANumber, ASpecial, AName, ASet, AParen, AUnary, ABinary}
-use Rattle.abel_meaning.specs.Designs.{Context}
 use Rattle.abel_meaning.specs.Terms.{known_of}
 use Rattle.abel_meaning.specs.Numbers as number
 use Rattle.abel_meaning.specs.BitWords.{Word}

@@ -1,8 +1,7 @@
 -- Contributions and guards of the code as those of the language, with formulas for bits (ABEL-HDL Reference Manual,
 -- equations).
 use Rattle.std.specs.Prelude.{List, map}
-use Rattle.bit_expr.specs.Arena.{arena, formula_at}
-use Rattle.bit_expr.specs.Formulas.{Formula}
+use Rattle.set_expr.specs.Prelude.{arena, formula_at, Formula}
 use Rattle.abel_meaning.specs.Contributions as meant
 use Rattle.set_expr.specs.declared.contributions.Contribution.{Contribution}
 use Rattle.set_expr.specs.declared.contributions.Contributions.{Contributions}

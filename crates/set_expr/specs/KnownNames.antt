@@ -1,9 +1,7 @@
 -- What is known of the names of a source (this project's rule).
 use Rattle.std.specs.Prelude.{◌≡◌, ℕ, Option, None, Some, List, [], ◌∷◌, map, if◌then◌else◌, bytes_eq}
+use Rattle.set_expr.specs.Prelude.{Entry, find, first_refusal, Value}
 use Rattle.std.specs.Global.{Vec}
-use Rattle.abel_tree.specs.Entries.{Entry, find}
-use Rattle.abel_tree.specs.FirstRefusal.{first_refusal}
-use Rattle.abel_meaning.specs.Numbers.{Value}
 use Rattle.set_expr.specs.declared.checked.Checked.{Checked}
 use Rattle.set_expr.specs.declared.fault.SectionFault.{SectionFault}
 use Rattle.set_expr.specs.declared.known_name.KnownName.{KnownName}

@@ -1,7 +1,6 @@
 -- Private: what sums up the members of a set that were checked (this project's rule).
 use Rattle.std.specs.Prelude.{◌≡◌, min, None, List, [], ◌∷◌}
-use Rattle.pld_base.specs.declared.place.Place.{Place}
-use Rattle.abel_tree.specs.FirstRefusal.{first_refusal}
+use Rattle.set_expr.specs.Prelude.{Place, first_refusal}
 use Rattle.set_expr.specs.declared.checking.Members.{Members}
 use Rattle.set_expr.specs.Refusals.{Found, members_refused, members_specials, members_width}
 use Rattle.set_expr.specs.SectionOrder.{section_order}

@@ -1,12 +1,10 @@
 -- What is refused of set expressions, with places (ABEL-HDL Reference Manual, operators and sets; this project's rule
 -- where the special values may stand).
 use Rattle.std.specs.Prelude.{ℕ, ◌+◌, ◌==◌, nat_lt, Bool, true, false, if◌then◌else◌, Option, None, Some, List, [], ◌∷◌, ◌++◌}
-use Rattle.pld_base.specs.declared.place.Place.{Place}
+use Rattle.set_expr.specs.Prelude.{Place, Shape, Number, Single, Set, member_width, Value, is_relation, plain_value, binary_value, unary_value, joined_value, no_position}
 use Rattle.abel_tree.specs.declared.words.Binary.{Binary}
 use Rattle.abel_tree.specs.declared.words.Binary.TheVariants as binary
 use Rattle.abel_tree.specs.declared.words.Unary.{Unary}
-use Rattle.abel_meaning.specs.Numbers.{Shape, Number, Single, Set, member_width, Value}
-use Rattle.abel_meaning.specs.Values.{is_relation, plain_value, binary_value, unary_value, joined_value, no_position}
 use Rattle.set_expr.specs.declared.fault.SectionFault.{SectionFault}
 use Rattle.set_expr.specs.declared.fault.SectionFault.TheVariants.{NotConstant, ZeroDivisor, BadWidth}
 

@@ -1,8 +1,7 @@
 -- Names that expressions may be over: pins and nodes for which the leaves of an arena have room, and constants over
 -- earlier names (this project's rule).
 use Rattle.std.specs.Prelude.{◌≡◌, ℕ, ◌<◌, true, Some, List, slice_get, take}
-use Rattle.abel_tree.specs.declared.names.Names.{Names}
-use Rattle.abel_tree.specs.Entries.{Kind, APin, ANode, AConstant, ADeviceName, Entry, entries_of}
+use Rattle.set_expr.specs.Prelude.{Names, Kind, APin, ANode, AConstant, ADeviceName, Entry, entries_of}
 use Rattle.abel_tree.specs.SoundNames.{are_named}
 use Rattle.abel_tree.specs.Uses.{uses}
 

@@ -1,7 +1,6 @@
 -- The order of the refusals of sections: by place, and at one place by kind (this project's rule).
 use Rattle.std.specs.Prelude.{ℕ}
-use Rattle.pld_base.specs.declared.place.Place.{Place}
-use Rattle.abel_tree.specs.FirstRefusal.{Ranks}
+use Rattle.set_expr.specs.Prelude.{Place, Ranks}
 use Rattle.set_expr.specs.declared.fault.SectionFault.{SectionFault}
 use Rattle.set_expr.specs.declared.fault.SectionFault.TheVariants as fault
 

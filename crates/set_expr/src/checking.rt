@@ -1,16 +1,8 @@
 //! Shapes and refusals of expressions, without an arena.
 
 ghost use Rattle.std.specs.Prelude.{◌≡◌, List, [], ◌∷◌, ◌++◌, Option, Some, None};
-ghost use Rattle.pld_base.specs.declared.place.Place.{Place};
-ghost use Rattle.abel_tree.specs.FirstRefusal.{first_refusal};
-ghost use Rattle.abel_tree.specs.Entries.{Entry, entries_of};
-ghost use Rattle.abel_tree.specs.View.{view, view_member};
-ghost use Rattle.abel_meaning.specs.Numbers.{Value};
-ghost use Rattle.set_expr.specs.FoundNames.{found_of, found_use, found_special, name_found, names_found, expression_found};
-ghost use Rattle.set_expr.specs.KnownNames.{IsKnown, SumsUp, HasShapeIf};
-ghost use Rattle.set_expr.specs.Refusals.{Found, large_member, width_with, found_set};
-ghost use Rattle.set_expr.specs.Members.{AreSummedUp};
-ghost use Rattle.set_expr.specs.SectionOrder.{section_order};
+ghost use Rattle.set_expr.specs.Prelude.{Place, first_refusal, Entry, entries_of, view, view_member, Value};
+ghost use Rattle.set_expr.specs.{found_of, found_use, found_special, name_found, names_found, expression_found, IsKnown, SumsUp, HasShapeIf, Found, large_member, width_with, found_set, AreSummedUp, section_order};
 
 use crate::checked::Checked;
 use crate::fault::SectionFault;

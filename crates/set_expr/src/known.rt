@@ -3,8 +3,7 @@
 ghost use Rattle.std.specs.Prelude.{◌≡◌, ℕ, List, [], Some, None, OnOk, bytes_eq, if◌then◌else◌};
 ghost use Rattle.std.specs.Option.{option_or};
 ghost use Rattle.abel_tree.specs.FirstRefusal as refusal;
-ghost use Rattle.set_expr.specs.KnownNames.{under};
-ghost use Rattle.set_expr.specs.SectionOrder.{section_order};
+ghost use Rattle.set_expr.specs.{under, section_order};
 
 use crate::fault::SectionFault;
 use crate::known_name::KnownName;

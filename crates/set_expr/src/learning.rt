@@ -1,10 +1,8 @@
 //! What is known of the names of a source, learnt from their declarations.
 
 ghost use Rattle.std.specs.Prelude.{◌≡◌, List, IfOk};
-ghost use Rattle.abel_tree.specs.Entries.{Entry, entries_of, view_meaning};
-ghost use Rattle.abel_tree.specs.View.{view};
-ghost use Rattle.set_expr.specs.FoundNames.{found_kind, is_pulse, is_pulse_kind, names_found};
-ghost use Rattle.set_expr.specs.KnownNames.{IsKnown, SumsUp};
+ghost use Rattle.set_expr.specs.Prelude.{Entry, entries_of, view_meaning, view};
+ghost use Rattle.set_expr.specs.{found_kind, is_pulse, is_pulse_kind, names_found, IsKnown, SumsUp};
 
 use crate::checked::Checked;
 use crate::checking::plain;

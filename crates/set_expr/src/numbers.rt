@@ -1,7 +1,7 @@
 //! Operators on numbers of 32 bits without a width.
 
 ghost use Rattle.std.specs.Prelude.{◌≡◌};
-ghost use Rattle.abel_meaning.specs.Values.{computes_numbers, is_relation, unary_number};
+ghost use Rattle.set_expr.specs.Prelude.{computes_numbers, is_relation, unary_number};
 
 use abel_tree::{Binary, Unary};
 

@@ -1,14 +1,9 @@
 //! What operators make of shapes, and what they refuse.
 
 ghost use Rattle.std.specs.Prelude.{◌≡◌, [], List, Option, Some};
-ghost use Rattle.abel_tree.specs.FirstRefusal.{first_refusal};
-ghost use Rattle.abel_meaning.specs.Numbers.{Value};
-ghost use Rattle.abel_meaning.specs.Values.{is_relation, binary_value, unary_value};
+ghost use Rattle.set_expr.specs.Prelude.{first_refusal, Value, is_relation, binary_value, unary_value};
 ghost use Rattle.set_expr.specs.declared.fault.SectionFault.{SectionFault as Fault};
-ghost use Rattle.set_expr.specs.KnownNames.{SumsUp, HasShapeIf};
-ghost use Rattle.set_expr.specs.Refusals.{Found, specials_refused, unless_refused, unequal, unequal_unspread, not_numbers, no_divisor, operands_refused, value_of_both, found_both, found_under, value_or_none};
-ghost use Rattle.set_expr.specs.Shapes.{meant, said};
-ghost use Rattle.set_expr.specs.SectionOrder.{section_order};
+ghost use Rattle.set_expr.specs.{SumsUp, HasShapeIf, Found, specials_refused, unless_refused, unequal, unequal_unspread, not_numbers, no_divisor, operands_refused, value_of_both, found_both, found_under, value_or_none, meant, said, section_order};
 
 use crate::checked::Checked;
 use crate::fault::SectionFault;

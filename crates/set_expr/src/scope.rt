@@ -1,13 +1,8 @@
 //! The names that the expressions of a source are over.
 
 ghost use Rattle.std.specs.Prelude.{◌≡◌, [], Some, IfOk, OnOk, IfErr};
-ghost use Rattle.abel_tree.specs.Entries.{entries_of, find};
-ghost use Rattle.abel_tree.specs.FirstRefusal.{first_refusal};
-ghost use Rattle.abel_tree.specs.View.{view};
-ghost use Rattle.set_expr.specs.FoundNames.{constants_refused, expression_found, found_use, name_found, named, names_found};
-ghost use Rattle.set_expr.specs.KnownNames.{IsKnownIf, IsPlaced, SumsUp};
-ghost use Rattle.set_expr.specs.Scopes.{AreInOrder, ArePlaced};
-ghost use Rattle.set_expr.specs.SectionOrder.{section_order};
+ghost use Rattle.set_expr.specs.Prelude.{entries_of, find, first_refusal, view};
+ghost use Rattle.set_expr.specs.{constants_refused, expression_found, found_use, name_found, named, names_found, IsKnownIf, IsPlaced, SumsUp, AreInOrder, ArePlaced, section_order};
 
 use crate::checked::Checked;
 use crate::checking::checked_name;

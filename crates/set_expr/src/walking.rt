@@ -1,15 +1,9 @@
 //! The check of whole expressions.
 
 ghost use Rattle.std.specs.Prelude.{◌≡◌, ℕ, List, [], ◌++◌, map, IfOk, OnOk};
-ghost use Rattle.pld_base.specs.declared.place.Place.{Place};
-ghost use Rattle.abel_tree.specs.Entries.{Entry};
-ghost use Rattle.abel_tree.specs.Tree.{members_of};
-ghost use Rattle.abel_tree.specs.View.{view, view_member};
+ghost use Rattle.set_expr.specs.Prelude.{Place, Entry, members_of, view, view_member};
 ghost use Rattle.name_uses.specs.RangeParts.{name_items};
-ghost use Rattle.set_expr.specs.FoundNames.{found_of, found_before, range_found, names_found};
-ghost use Rattle.set_expr.specs.KnownNames.{IsKnown, SumsUp};
-ghost use Rattle.set_expr.specs.Members.{AreSummedUp};
-ghost use Rattle.set_expr.specs.Refusals.{Found};
+ghost use Rattle.set_expr.specs.{found_of, found_before, range_found, names_found, IsKnown, SumsUp, AreSummedUp, Found};
 
 use crate::checked::Checked;
 use crate::checking::{Members, check_special, checked_name, plain};

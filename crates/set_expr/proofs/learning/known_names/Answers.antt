@@ -1,10 +1,7 @@
 -- One name more, and all names.
 use Rattle.std.proofs.Common.{◌≡◌, ◌+◌, ◌∷◌, [], ◌++◌, Some, None, bytes_eq, if◌then◌else◌, map, take, length, refl, sym, ap, subst, ◌∙◌, arith, length-append}
-use Rattle.std.specs.Option.{option_or}
+use Rattle.set_expr.proofs.Common.{option_or, view_declared, KnownName, IsKnown, under}
 use Rattle.std.proofs.lemmas.Grind.{common_steps}
-use Rattle.abel_tree.specs.Entries.{view_declared}
-use Rattle.set_expr.specs.declared.known_name.KnownName.{KnownName}
-use Rattle.set_expr.specs.KnownNames.{IsKnown, under}
 use Rattle.set_expr.proofs.FoundMembers.{front_more, whole_front}
 use Rattle.set_expr.proofs.NamesMore.{known_more}
 use Rattle.set_expr.proofs.learning.known_names.Goals as goal

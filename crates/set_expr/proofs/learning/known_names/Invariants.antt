@@ -1,7 +1,6 @@
 -- The names that were learnt.
 use Rattle.std.proofs.Common.{◌≡◌, map, take, length}
-use Rattle.abel_tree.specs.Entries.{view_declared}
-use Rattle.set_expr.specs.KnownNames.{IsKnown}
+use Rattle.set_expr.proofs.Common.{view_declared, IsKnown}
 use Rattle.set_expr.proofs.learning.known_names.Given as goal
 
 abbrev pub invariant-loop-declared : goal.invariant-loop-declared

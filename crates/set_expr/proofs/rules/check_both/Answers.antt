@@ -1,8 +1,5 @@
 use Rattle.std.proofs.Common.{◌≡◌, ◌++◌, refl, ◌∙◌}
-use Rattle.abel_meaning.specs.Values.{is_relation}
-use Rattle.abel_tree.specs.FirstRefusal.{first_refusal}
-use Rattle.set_expr.specs.Refusals.{specials_refused, operands_refused, value_of_both}
-use Rattle.set_expr.specs.SectionOrder.{section_order}
+use Rattle.set_expr.proofs.Common.{is_relation, first_refusal, specials_refused, operands_refused, value_of_both, section_order}
 use Rattle.set_expr.proofs.SummedUp.{first_both, left_empty, right_empty, shape_of_values}
 use Rattle.set_expr.proofs.rules.check_both.Goals as goal
 

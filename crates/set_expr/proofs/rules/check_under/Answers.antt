@@ -1,6 +1,5 @@
 use Rattle.std.proofs.Common.{◌++◌, refl, ◌∙◌}
-use Rattle.abel_meaning.specs.Values.{unary_value}
-use Rattle.set_expr.specs.Refusals.{value_or_none}
+use Rattle.set_expr.proofs.Common.{unary_value, value_or_none}
 use Rattle.set_expr.proofs.SummedUp.{first_both, left_empty, shape_of_value}
 use Rattle.set_expr.proofs.rules.check_under.Goals as goal
 

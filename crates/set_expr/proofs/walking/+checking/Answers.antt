@@ -1,16 +1,7 @@
 -- One operator down, one back up, and one member more.
 use Rattle.std.proofs.Common.{◌≡◌, ◌<◌, ◌+◌, [], ◌∷◌, ◌++◌, map, take, sym, ap, ap₂, subst, ◌∙◌, arith, append_assoc}
-use Rattle.std.proofs.lemmas.List.{map_push}
-use Rattle.abel_tree.specs.Ranges.{range_names}
-use Rattle.abel_tree.specs.Tree.{members_of}
-use Rattle.abel_tree.specs.View.{view, view_member}
-use Rattle.abel_tree.specs.declared.expressions.Expr.{size-Expr}
+use Rattle.set_expr.proofs.Common.{map_push, range_names, members_of, view, view_member, size-Expr, name_items, names_found, name_found, all_found, found_before, found_of, found_use, range_found, SumsUp, AreSummedUp, found_set}
 use Rattle.abel_tree.specs.declared.expressions.Expr as expr
-use Rattle.name_uses.specs.RangeParts.{name_items}
-use Rattle.set_expr.specs.FoundNames.{names_found, name_found, all_found, found_before, found_of, found_use, range_found}
-use Rattle.set_expr.specs.KnownNames.{SumsUp}
-use Rattle.set_expr.specs.Members.{AreSummedUp}
-use Rattle.set_expr.specs.Refusals.{found_set}
 use Rattle.set_expr.proofs.FoundMembers.{front_more, whole_front, members_more, range_more, view_set, view_span}
 use Rattle.set_expr.proofs.Spine.{seen, Down, Up, goes_down, goes_up, up_right}
 use Rattle.set_expr.proofs.walking.+checking.Goals as goal

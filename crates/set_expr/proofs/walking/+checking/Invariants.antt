@@ -1,15 +1,6 @@
 -- What was checked of operators in a row and of a set's members.
 use Rattle.std.proofs.Common.{◌+◌, ◌*◌, List, [], ◌++◌, length, take, map}
-use Rattle.abel_tree.specs.Entries.{Entry}
-use Rattle.abel_tree.specs.Tree.{members_of}
-use Rattle.abel_tree.specs.View.{view_member}
-use Rattle.abel_tree.specs.declared.expressions.Expr.{size-Expr}
-use Rattle.abel_tree.specs.declared.expressions.Member.{size-Member}
-use Rattle.name_uses.specs.RangeParts.{name_items}
-use Rattle.set_expr.specs.FoundNames.{names_found, all_found, range_found}
-use Rattle.set_expr.specs.KnownNames.{IsKnown}
-use Rattle.set_expr.specs.Members.{AreSummedUp}
-use Rattle.set_expr.specs.Refusals.{Found}
+use Rattle.set_expr.proofs.Common.{Entry, members_of, view_member, size-Expr, size-Member, name_items, names_found, all_found, range_found, IsKnown, AreSummedUp, Found}
 use Rattle.set_expr.proofs.Spine.{seen, Down, Up}
 use Rattle.set_expr.proofs.walking.+checking.Given as goal
 

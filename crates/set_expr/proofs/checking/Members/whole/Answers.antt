@@ -1,5 +1,5 @@
 use Rattle.std.proofs.Common.{◌++◌, ◌∙◌}
-use Rattle.set_expr.specs.Refusals.{members_refused, members_specials, members_width, members_value, too_wide}
+use Rattle.set_expr.proofs.Common.{members_refused, members_specials, members_width, members_value, too_wide}
 use Rattle.set_expr.proofs.SetMembers.{all_refused, set_shape}
 use Rattle.set_expr.proofs.checking.Members.whole.Goals as goal
 

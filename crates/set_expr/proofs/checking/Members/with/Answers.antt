@@ -1,6 +1,5 @@
 use Rattle.std.proofs.Common.{ap, ◌∙◌}
-use Rattle.abel_tree.specs.FirstRefusal.{earlier}
-use Rattle.set_expr.specs.SectionOrder.{section_order}
+use Rattle.set_expr.proofs.Common.{earlier, section_order}
 use Rattle.set_expr.proofs.SetMembers.{valued_more, special_step, fault_step, width_step}
 use Rattle.set_expr.proofs.checking.Members.with.Goals as goal
 

@@ -1,5 +1,5 @@
 use Rattle.std.proofs.Common.{ap, ◌∙◌}
-use Rattle.set_expr.specs.KnownNames.{Table, under}
+use Rattle.set_expr.proofs.Common.{Table, under}
 use Rattle.set_expr.proofs.NamesMore.{looked_up}
 use Rattle.set_expr.proofs.known.KnownNames.get.Goals as goal
 

@@ -1,6 +1,5 @@
 use Rattle.std.proofs.Common.{◌≡◌, Some, None, ap, ◌∙◌, bytes_eq, if◌then◌else◌}
-use Rattle.std.specs.Option.{option_or}
-use Rattle.set_expr.specs.KnownNames.{Table, under, by_bytes}
+use Rattle.set_expr.proofs.Common.{option_or, Table, under, by_bytes}
 use Rattle.set_expr.proofs.NamesMore.{inserted}
 use Rattle.set_expr.proofs.known.KnownNames.insert.Goals as goal
 

@@ -1,9 +1,5 @@
 use Rattle.std.proofs.Common.{sym, ap, ◌∙◌}
-use Rattle.abel_tree.specs.Entries.{entries_of}
-use Rattle.abel_tree.specs.FirstRefusal.{first_refusal}
-use Rattle.abel_tree.proofs.FirstRefusals.{none_refused}
-use Rattle.set_expr.specs.FoundNames.{constants_refused}
-use Rattle.set_expr.specs.SectionOrder.{section_order}
+use Rattle.set_expr.proofs.Common.{entries_of, first_refusal, none_refused, constants_refused, section_order}
 use Rattle.set_expr.proofs.scope.Scope.check_constants.Goals as goal
 
 pub returns-in-None-clause-accepted : goal.returns-in-None-clause-accepted
