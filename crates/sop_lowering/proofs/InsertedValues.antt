@@ -1,15 +1,10 @@
 -- Lists that are joined by insertion are true where the sum, and the product, of the two is.
 use Rattle.std.proofs.Common.{◌≡◌, ℕ, ◌≤◌, inl, inr, Bool, true, false, cond, ◌&&◌, ◌||◌, nat_lt, List, [], ◌∷◌, ◌++◌, length, Some, None, refl, sym, ap, ◌∙◌, subst}
+use Rattle.sop_lowering.proofs.Common.{or_lt, Cube, AsksBelow, has_point, covers, is_empty, lies_in, union, empty_has_none, lies_in_points, union_points, Products, adds_nothing, others, insert_one, insert_all, insert_unions, insert_products, product_of, sum_of, HasValue}
 use Rattle.std.specs.List.{AllByRecursion, list_any, filter}
 use Rattle.std.specs.Prelude.{not}
 use Rattle.std.proofs.lemmas.Bool.{cases_Bool, or_left, or_right, or_cases}
 use Rattle.std.proofs.lemmas.List.Folds.{list_any-append}
-use Rattle.std.proofs.lemmas.Nat.{or_lt}
-use Rattle.covers.specs.declared.cube.Cube.{Cube}
-use Rattle.covers.specs.Cubes.{AsksBelow, has_point, covers, is_empty, lies_in, union}
-use Rattle.covers.proofs.CubePoints.{empty_has_none, lies_in_points, union_points}
-use Rattle.sop_lowering.specs.Products.{Products, adds_nothing, others, insert_one, insert_all, insert_unions, insert_products, product_of, sum_of}
-use Rattle.sop_lowering.specs.Values.{HasValue}
 
 or_nil : (a : Bool) → (a || false) ≡ a
 or_nil true = refl

@@ -1,14 +1,8 @@
 -- What stays right of lists that are kept.
 use Rattle.std.proofs.Common.{◌≡◌, ◌≤◌, inl, inr, ℕ, zero, suc, List, [], ◌∷◌, ◌++◌, length, get_or, vec_len, Option, None, Some, refl, sym, ◌∙◌, arith}
-use Rattle.std.proofs.lemmas.Option.{same_Some}
+use Rattle.sop_lowering.proofs.Common.{same_Some, Netlist, arena, formula_at, Cube, SignedBit, AreRight, KeepsNone, Puts, products_of, written}
 use Rattle.std.specs.Global.{Vec}
-use Rattle.bit_expr.specs.declared.netlist.Netlist.{Netlist}
-use Rattle.bit_expr.specs.Arena.{arena, formula_at}
-use Rattle.covers.specs.declared.cube.Cube.{Cube}
 use Rattle.sop_lowering.specs.declared.kept.Kept.{Kept}
-use Rattle.sop_lowering.specs.declared.kept.SignedBit.{SignedBit}
-use Rattle.sop_lowering.specs.Keeping.{AreRight, KeepsNone, Puts, products_of}
-use Rattle.sop_lowering.specs.Written.{written}
 
 pub none_more : (lists : List (Option (Vec Cube))) → ((i : ℕ) → get_or lists i None ≡ None) → (i : ℕ) → get_or (lists ++ None ∷ []) i None ≡ None
 none_more [] none zero = refl

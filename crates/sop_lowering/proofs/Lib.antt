@@ -1,3 +1,4 @@
+pub mod Common
 pub mod InsertedValues
 pub mod KeptLists
 pub mod ListStops

@@ -1,12 +1,9 @@
 -- A list that is none stays none.
 use Rattle.std.proofs.Common.{◌≡◌, ℕ, ◌+◌, ◌<◌, List, [], ◌∷◌, length, drop, get_or, None, Result, Err, refl}
+use Rattle.sop_lowering.proofs.Common.{Cube, union, Fails, IsList, Products, insert_one, insert_all, insert_unions, insert_products}
 use Rattle.std.proofs.lemmas.List.{drop_more}
-use Rattle.covers.specs.declared.cube.Cube.{Cube}
-use Rattle.covers.specs.Cubes.{union}
 use Rattle.sop_lowering.specs.declared.fault.LowerFault.{LowerFault}
 use Rattle.sop_lowering.specs.declared.fault.LowerFault.TheVariants as fault
-use Rattle.sop_lowering.specs.Lowering.{Fails, IsList}
-use Rattle.sop_lowering.specs.Products.{Products, insert_one, insert_all, insert_unions, insert_products}
 
 none_all : (cs : List Cube) → insert_all None cs ≡ None
 none_all [] = refl

@@ -1,22 +1,11 @@
 -- The operands of a bit that can be lowered can be lowered, and the bit is too wide where one of them is.
 use Rattle.std.proofs.Common.{◌≡◌, ℕ, ◌<◌, ◌⊎◌, inl, inr, Bool, true, false, not, List, [], ◌∷◌, ◌++◌, length, slice_get, Option, None, Some, IfSome, refl, subst, sym, ◌∙◌, arith}
+use Rattle.sop_lowering.proofs.Common.{complement_if, Function, Netlist, Leaf, arena, formula_at, Formula, Read, Not, And, Or, Xor, SignedBit, Leads, StepsLead, bit_of, signed_list, CanLower, HasPair, Products, product_of, sum_of, Reaches, ReachesThrough, leaf_list, list_of, node_list}
 use Rattle.std.proofs.lemmas.List.Elements.{All-pop, All-push}
-use Rattle.pld_device.specs.Macrocells.{complement_if}
-use Rattle.bit_expr.specs.declared.netlist.Function.{Function}
-use Rattle.bit_expr.specs.declared.netlist.Netlist.{Netlist}
 use Rattle.bit_expr.specs.declared.node.ExprId.{ExprId}
-use Rattle.bit_expr.specs.declared.node.Leaf.{Leaf}
 use Rattle.bit_expr.specs.declared.node.Leaf.TheVariants as leaf
-use Rattle.bit_expr.specs.Arena.{arena, formula_at}
-use Rattle.bit_expr.specs.Formulas.{Formula, Read, Not, And, Or, Xor}
-use Rattle.sop_lowering.specs.declared.kept.SignedBit.{SignedBit}
 use Rattle.sop_lowering.specs.declared.walking.Step.{Step}
 use Rattle.sop_lowering.specs.declared.walking.Step.TheVariants.{Make, Walk}
-use Rattle.sop_lowering.specs.Keeping.{Leads, StepsLead, bit_of, signed_list}
-use Rattle.sop_lowering.specs.Lowering.{CanLower, HasPair}
-use Rattle.sop_lowering.specs.Products.{Products, product_of, sum_of}
-use Rattle.sop_lowering.specs.Through.{Reaches, ReachesThrough}
-use Rattle.sop_lowering.specs.Written.{leaf_list, list_of, node_list}
 use Rattle.sop_lowering.proofs.Turns.{function_reaches_all, function_written}
 
 -- ---- lists that are made of one that is none

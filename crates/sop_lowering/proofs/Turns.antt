@@ -1,16 +1,7 @@
 -- The list of a node through as many turns as it needs, and that it is that of its function.
 use Rattle.std.proofs.Common.{◌≡◌, ℕ, zero, suc, ◌+◌, ◌-◌, ◌*◌, ◌<◌, ◌≤◌, Bool, true, false, not, Some, length, slice_get, refl, sym, ◌∙◌, ap, arith}
-use Rattle.pld_device.specs.Macrocells.{complement_if}
-use Rattle.std.proofs.lemmas.Option.{get_or_from_slice_get}
-use Rattle.bit_expr.specs.declared.netlist.Function.{Function}
-use Rattle.bit_expr.specs.declared.netlist.Netlist.{Netlist}
-use Rattle.bit_expr.specs.declared.node.Leaf.{Leaf}
+use Rattle.sop_lowering.proofs.Common.{complement_if, get_or_from_slice_get, Function, Netlist, Leaf, arena, formula_at, Formula, Const, Read, Not, And, Or, Xor, Products, EachLeaf, OfLeaf, ReachesThrough, function_of_node, node_formula, leaf_list, list_of, node_list, written}
 use Rattle.bit_expr.specs.declared.node.Leaf.TheVariants as leaf
-use Rattle.bit_expr.specs.Arena.{arena, formula_at}
-use Rattle.bit_expr.specs.Formulas.{Formula, Const, Read, Not, And, Or, Xor}
-use Rattle.sop_lowering.specs.Products.{Products}
-use Rattle.sop_lowering.specs.Through.{EachLeaf, OfLeaf, ReachesThrough}
-use Rattle.sop_lowering.specs.Written.{function_of_node, node_formula, leaf_list, list_of, node_list, written}
 
 -- lists of nodes that agree on all that the formula reads give it one list
 same_list : (net : Netlist) (one other : ℕ → Bool → Products) (P : Leaf → Type 0) (nodes : ℕ → Type 0)

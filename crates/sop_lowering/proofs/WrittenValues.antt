@@ -1,20 +1,10 @@
 -- The OR of a formula's written products has the formula's value, wherever the nodes are valued with any as 0.
 use Rattle.std.proofs.Common.{◌≡◌, ℕ, zero, suc, ◌≤◌, Bool, true, false, not, ◌&&◌, ◌||◌, List, [], ◌∷◌, length, Some, refl, ap, sym, ◌∙◌, subst}
-use Rattle.std.proofs.lemmas.Nat.{pow_pos}
+use Rattle.sop_lowering.proofs.Common.{pow_pos, complement_if, Netlist, Leaf, Formula, Const, Read, Not, And, Or, Xor, formula_value, leaf_value, literal_cube, has_point, full_has_all, literal_points, Products, product_of, sum_of, EachLeaf, OfLeaf, ReachesThrough, AreNodesValued, CarriesLeaf, HasValue, WrittenValues, pair_of, constant_list, leaf_list, list_of, node_list, function_of_node, node_formula}
 use Rattle.pld_base.specs.Bits.{is_on, same_level}
 use Rattle.pld_base.specs.Points.{Levels}
-use Rattle.pld_device.specs.Macrocells.{complement_if}
-use Rattle.bit_expr.specs.declared.netlist.Netlist.{Netlist}
-use Rattle.bit_expr.specs.declared.node.Leaf.{Leaf}
 use Rattle.bit_expr.specs.declared.node.Leaf.TheVariants as leaf
-use Rattle.bit_expr.specs.Formulas.{Formula, Const, Read, Not, And, Or, Xor, formula_value, leaf_value}
-use Rattle.covers.specs.Cubes.{literal_cube, has_point}
 use Rattle.covers.proofs.CubeBits.{literal_below}
-use Rattle.covers.proofs.CubePoints.{full_has_all, literal_points}
-use Rattle.sop_lowering.specs.Products.{Products, product_of, sum_of}
-use Rattle.sop_lowering.specs.Through.{EachLeaf, OfLeaf, ReachesThrough}
-use Rattle.sop_lowering.specs.Values.{AreNodesValued, CarriesLeaf, HasValue, WrittenValues}
-use Rattle.sop_lowering.specs.Written.{pair_of, constant_list, leaf_list, list_of, node_list, function_of_node, node_formula}
 use Rattle.sop_lowering.proofs.InsertedValues.{product_value, sum_value}
 
 or_nil : (a : Bool) → (a || false) ≡ a

@@ -1,12 +1,8 @@
 -- Private: lists kept by id and polarity (this project's rule).
 use Rattle.std.specs.Prelude.{◌≡◌, ◌<◌, ◌≤◌, ◌⊎◌, ℕ, ◌+◌, ◌==◌, if◌then◌else◌, Option, None, Some, List, length, get_or, All, Result, Ok, Err}
-use Rattle.std.specs.List.{count_by}
+use Rattle.sop_lowering.specs.Prelude.{count_by, Netlist, ExprId, arena, formula_at, Cube}
 use Rattle.std.specs.Option.{option_map}
 use Rattle.std.specs.Global.{Vec}
-use Rattle.bit_expr.specs.declared.netlist.Netlist.{Netlist}
-use Rattle.bit_expr.specs.declared.node.ExprId.{ExprId}
-use Rattle.bit_expr.specs.Arena.{arena, formula_at}
-use Rattle.covers.specs.declared.cube.Cube.{Cube}
 use Rattle.sop_lowering.specs.declared.fault.LowerFault.{LowerFault}
 use Rattle.sop_lowering.specs.declared.kept.Kept.{Kept}
 use Rattle.sop_lowering.specs.declared.kept.SignedBit.{SignedBit}

@@ -1,11 +1,7 @@
 -- What lowering needs, and what its answers say (this project's rule).
 use Rattle.std.specs.Prelude.{◌≡◌, ◌<◌, Some, None, List, length, Result, Ok, Err}
-use Rattle.bit_expr.specs.declared.netlist.Netlist.{Netlist}
-use Rattle.bit_expr.specs.declared.node.ExprId.{ExprId}
-use Rattle.bit_expr.specs.declared.node.Leaf.{Leaf}
+use Rattle.sop_lowering.specs.Prelude.{Netlist, ExprId, Leaf, arena, formula_at, Cube}
 use Rattle.bit_expr.specs.declared.node.Leaf.TheVariants as leaf
-use Rattle.bit_expr.specs.Arena.{arena, formula_at}
-use Rattle.covers.specs.declared.cube.Cube.{Cube}
 use Rattle.sop_lowering.specs.declared.fault.LowerFault.{LowerFault}
 use Rattle.sop_lowering.specs.declared.fault.LowerFault.TheVariants as fault
 use Rattle.sop_lowering.specs.Products.{Products}

@@ -1,9 +1,7 @@
 -- How products are inserted into a list, up to 1,024 of them, and how lists of a sum and of a product are made (this
 -- project's rule; that a product that lies in another adds nothing is absorption in switching algebra).
 use Rattle.std.specs.Prelude.{Bool, not, ◌||◌, nat_lt, if◌then◌else◌, List, [], ◌∷◌, ◌++◌, length, filter, Option, Some, None}
-use Rattle.std.specs.List.{list_any}
-use Rattle.covers.specs.declared.cube.Cube.{Cube}
-use Rattle.covers.specs.Cubes.{is_empty, lies_in, union}
+use Rattle.sop_lowering.specs.Prelude.{list_any, Cube, is_empty, lies_in, union}
 
 -- a list of products; none where it or a list on the way to it would pass 1,024
 abbrev pub Products : Type 0

@@ -1,10 +1,7 @@
 -- What holds of every leaf that a formula reaches through nodes (this project's rule).
 use Rattle.std.specs.Prelude.{ℕ, zero, suc, ◌<◌, length}
-use Rattle.bit_expr.specs.declared.netlist.Netlist.{Netlist}
-use Rattle.bit_expr.specs.declared.node.Leaf.{Leaf}
+use Rattle.sop_lowering.specs.Prelude.{Netlist, Leaf, arena, Formula, Const, Read, Not, And, Or, Xor}
 use Rattle.bit_expr.specs.declared.node.Leaf.TheVariants as leaf
-use Rattle.bit_expr.specs.Arena.{arena}
-use Rattle.bit_expr.specs.Formulas.{Formula, Const, Read, Not, And, Or, Xor}
 use Rattle.sop_lowering.specs.Written.{function_of_node, node_formula}
 
 -- it holds of every leaf of the formula

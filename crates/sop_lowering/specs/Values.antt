@@ -1,13 +1,7 @@
 -- What written products are true at (this project's rule).
 use Rattle.std.specs.Prelude.{◌≡◌, ℕ, ◌<◌, ◌≤◌, Bool, List, length, None, Some}
-use Rattle.std.specs.List.{AllByRecursion}
-use Rattle.pld_base.specs.Bits.{is_on, same_level}
+use Rattle.sop_lowering.specs.Prelude.{AllByRecursion, is_on, same_level, complement_if, Netlist, Leaf, Formula, formula_value, leaf_value, AsksBelow, covers}
 use Rattle.pld_base.specs.Points.{Levels}
-use Rattle.pld_device.specs.Macrocells.{complement_if}
-use Rattle.bit_expr.specs.declared.netlist.Netlist.{Netlist}
-use Rattle.bit_expr.specs.declared.node.Leaf.{Leaf}
-use Rattle.bit_expr.specs.Formulas.{Formula, formula_value, leaf_value}
-use Rattle.covers.specs.Cubes.{AsksBelow, covers}
 use Rattle.sop_lowering.specs.Products.{Products}
 use Rattle.sop_lowering.specs.Through.{Reaches}
 use Rattle.sop_lowering.specs.Written.{pair_of, function_of_node, node_formula, written}

@@ -1,15 +1,8 @@
 -- The written products of a bit in a polarity, nodes by their functions with any as 0 (this project's rule).
 use Rattle.std.specs.Prelude.{ℕ, zero, suc, Bool, true, false, not, [], ◌∷◌, length, get_or, Some}
-use Rattle.pld_base.specs.Bits.{same_level}
-use Rattle.pld_device.specs.Macrocells.{complement_if}
+use Rattle.sop_lowering.specs.Prelude.{same_level, complement_if, Netlist, ExprId, Leaf, arena, formula_at, Formula, Const, Read, Not, And, Or, Xor, full_cube, literal_cube}
 use Rattle.bit_expr.specs.declared.netlist.Function.{Function}
-use Rattle.bit_expr.specs.declared.netlist.Netlist.{Netlist}
-use Rattle.bit_expr.specs.declared.node.ExprId.{ExprId}
-use Rattle.bit_expr.specs.declared.node.Leaf.{Leaf}
 use Rattle.bit_expr.specs.declared.node.Leaf.TheVariants as leaf
-use Rattle.bit_expr.specs.Arena.{arena, formula_at}
-use Rattle.bit_expr.specs.Formulas.{Formula, Const, Read, Not, And, Or, Xor}
-use Rattle.covers.specs.Cubes.{full_cube, literal_cube}
 use Rattle.sop_lowering.specs.Products.{Products, sum_of, product_of}
 
 -- the pair of columns that carries a leaf; a node has none

@@ -1,8 +1,7 @@
 //! Products inserted into lists.
 
 ghost use Rattle.std.specs.Prelude.{◌≡◌, ◌≤◌, vec_len, IfOk, OnOk, Some, not};
-ghost use Rattle.std.specs.List.{list_any};
-ghost use Rattle.covers.specs.Cubes.{lies_in};
+ghost use Rattle.sop_lowering.specs.Prelude.{list_any, lies_in};
 ghost use Rattle.sop_lowering.specs.Lowering.{IsList};
 ghost use Rattle.sop_lowering.specs.Products.{adds_nothing, others, insert_one, insert_unions, product_of, sum_of};
 

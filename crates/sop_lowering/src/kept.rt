@@ -1,7 +1,7 @@
 //! Lists that are kept by id and polarity while one list is made.
 
 ghost use Rattle.std.specs.Prelude.{◌≡◌, IfOk, None, set};
-ghost use Rattle.bit_expr.specs.declared.node.ExprId.{ExprId};
+ghost use Rattle.sop_lowering.specs.Prelude.{ExprId};
 ghost use Rattle.sop_lowering.specs.Keeping.{KeepsNone, Puts, kept_at, products_at, products_of};
 
 use bit_expr::ExprId;

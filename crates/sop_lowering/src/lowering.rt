@@ -3,10 +3,8 @@
 //! Names: `turns` is the number of nodes that a chain from here may still pass.
 
 ghost use Rattle.std.specs.Prelude.{◌≡◌, ◌<◌, ◌≤◌, ◌∷◌, [], vec_len, length, IfOk, Some};
-ghost use Rattle.pld_device.specs.Macrocells.{complement_if};
-ghost use Rattle.bit_expr.specs.Formulas.{Read};
+ghost use Rattle.sop_lowering.specs.Prelude.{complement_if, Read, literal_cube};
 ghost use Rattle.bit_expr.specs.declared.node.Leaf.TheVariants as leaf;
-ghost use Rattle.covers.specs.Cubes.{literal_cube};
 ghost use Rattle.sop_lowering.specs.Keeping.{AreRight, CanReach, signed_list};
 ghost use Rattle.sop_lowering.specs.Lowering.{CanLower, HasPair, IsList};
 ghost use Rattle.sop_lowering.specs.Products.{product_of, sum_of};

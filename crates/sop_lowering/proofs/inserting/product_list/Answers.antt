@@ -1,6 +1,5 @@
 use Rattle.std.proofs.Common.{Some, sym, ◌∙◌}
-use Rattle.std.proofs.lemmas.Result.{err_from_is_err_and}
-use Rattle.covers.specs.Cubes.{full_cube}
+use Rattle.sop_lowering.proofs.Common.{err_from_is_err_and, full_cube}
 use Rattle.sop_lowering.proofs.ListStops.{stops, stop_products}
 use Rattle.sop_lowering.proofs.inserting.product_list.Goals as goal
 

@@ -1,5 +1,5 @@
 use Rattle.std.proofs.Common.{◌≡◌, ◌≤◌, [], drop, vec_len, Some}
-use Rattle.sop_lowering.specs.Products.{insert_products}
+use Rattle.sop_lowering.proofs.Common.{insert_products}
 use Rattle.sop_lowering.proofs.inserting.product_list.Given as goal
 
 abbrev pub invariant-loop-cube : goal.invariant-loop-cube

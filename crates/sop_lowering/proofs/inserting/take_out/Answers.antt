@@ -1,6 +1,6 @@
 use Rattle.std.proofs.Common.{rules, not}
+use Rattle.sop_lowering.proofs.Common.{lies_in}
 use Rattle.std.proofs.lemmas.Fn.{filter_same}
-use Rattle.covers.specs.Cubes.{lies_in}
 use Rattle.sop_lowering.proofs.inserting.take_out.Goals as goal
 
 pub returns : goal.returns

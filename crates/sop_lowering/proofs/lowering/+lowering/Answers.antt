@@ -1,7 +1,5 @@
 use Rattle.std.proofs.Common.{Some, ◌≡◌, ◌<◌, slice_get, get_or, length, false, arith}
-use Rattle.std.proofs.lemmas.Option.{slice_get-get_or}
-use Rattle.bit_expr.specs.Arena.{arena}
-use Rattle.sop_lowering.specs.Lowering.{HasPair}
+use Rattle.sop_lowering.proofs.Common.{slice_get-get_or, arena, HasPair}
 use Rattle.sop_lowering.proofs.Turns.{function_reaches, function_written, node_inside, turn_falls}
 use Rattle.sop_lowering.proofs.lowering.+lowering.Goals as goal
 

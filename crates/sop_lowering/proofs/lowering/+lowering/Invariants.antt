@@ -1,5 +1,5 @@
 use Rattle.std.proofs.Common.{◌+◌, ◌*◌, length, max}
-use Rattle.bit_expr.specs.Arena.{arena}
+use Rattle.sop_lowering.proofs.Common.{arena}
 use Rattle.sop_lowering.proofs.lowering.+lowering.Given as goal
 
 abbrev pub decreases-kept_or_made : goal.decreases-kept_or_made

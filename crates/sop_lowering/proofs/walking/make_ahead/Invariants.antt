@@ -1,4 +1,4 @@
-use Rattle.sop_lowering.specs.Keeping.{AreRight}
+use Rattle.sop_lowering.proofs.Common.{AreRight}
 use Rattle.sop_lowering.proofs.walking.make_ahead.Given as goal
 
 abbrev pub invariant-loop-bit : goal.invariant-loop-bit

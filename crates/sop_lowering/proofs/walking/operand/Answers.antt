@@ -1,8 +1,5 @@
 use Rattle.std.proofs.Common.{Some, ◌≡◌, IfSome, slice_get, get_or, length, false, sym, ap, subst, ◌∙◌}
-use Rattle.std.proofs.lemmas.Option.{slice_get-get_or}
-use Rattle.bit_expr.specs.Formulas.{Read}
-use Rattle.sop_lowering.specs.declared.kept.SignedBit.{SignedBit}
-use Rattle.sop_lowering.specs.Lowering.{HasPair}
+use Rattle.sop_lowering.proofs.Common.{slice_get-get_or, Read, SignedBit, HasPair}
 use Rattle.sop_lowering.proofs.Operands.{node_reached, node_leads, not_leads, and_leads, or_leads, xor_leads}
 use Rattle.sop_lowering.proofs.Turns.{node_inside}
 use Rattle.sop_lowering.proofs.walking.operand.Goals as goal

@@ -1,5 +1,5 @@
 use Rattle.std.proofs.Common.{◌+◌, ◌*◌, All, vec_len}
-use Rattle.sop_lowering.specs.Keeping.{Leads, StepsLead, unused}
+use Rattle.sop_lowering.proofs.Common.{Leads, StepsLead, unused}
 use Rattle.sop_lowering.proofs.walking.order_below.Given as goal
 
 abbrev pub invariant-steps : goal.invariant-steps

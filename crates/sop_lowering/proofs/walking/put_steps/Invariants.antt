@@ -1,6 +1,5 @@
 use Rattle.std.proofs.Common.{◌+◌, ◌≤◌, vec_len}
-use Rattle.sop_lowering.specs.declared.kept.SignedBit.{SignedBit}
-use Rattle.sop_lowering.specs.Keeping.{Leads, StepsLead}
+use Rattle.sop_lowering.proofs.Common.{SignedBit, Leads, StepsLead}
 use Rattle.sop_lowering.proofs.walking.put_steps.Given as goal
 
 abbrev pub invariant-loop-index : goal.invariant-loop-index
