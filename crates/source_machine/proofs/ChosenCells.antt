@@ -1,13 +1,6 @@
 -- The bits of the cells that are chosen, one more at a time.
 use Rattle.std.proofs.Common.{◌≡◌, ℕ, ◌+◌, ◌<◌, ◌≤◌, Bool, true, false, ◌&&◌, nat_lt, List, length, set, refl, sym, ap, ◌∙◌, arith, inl, inr, get_or-set_same, get_or-set_other}
-use Rattle.std.proofs.lemmas.Bool.{cases_eq, cases_lt, le-ltb, lt-ltb}
-use Rattle.std.proofs.lemmas.List.{get_or_past}
-use Rattle.pld_base.specs.Bits.{bits, is_on}
-use Rattle.pld_base.proofs.BitLemmas.{is_on-zero, length-bits}
-use Rattle.pld_device.specs.Table.{Table}
-use Rattle.abel_meaning.specs.Netlists.{PlainNetlist, wanted_at}
-use Rattle.netlist_laws.specs.ExchangedNets.{is_free_wanted}
-use Rattle.source_machine.specs.Choices.{AreChosen, chosen}
+use Rattle.source_machine.proofs.Common.{cases_eq, cases_lt, le-ltb, lt-ltb, get_or_past, bits, is_on, is_on-zero, length-bits, Table, PlainNetlist, wanted_at, is_free_wanted, AreChosen, chosen}
 
 -- the levels of the first places, and 0 behind them
 abbrev pub HasFirst : (ℕ → Bool) → (n : ℕ) → List Bool → Type 0

@@ -1,33 +1,9 @@
 -- A netlist's look-ups where chosen cells store the complement are the netlist's logic under the choice, and so the module's.
 use Rattle.std.proofs.Common.{◌≡◌, ℕ, Bool, true, false, ◌&&◌, nat_lt, List, length, refl, ap, ◌∙◌, subst, inl, inr}
-use Rattle.std.proofs.Math.Path.{fun_ext}
-use Rattle.std.proofs.lemmas.Bool.{cases_Bool, ltb-true}
-use Rattle.pld_base.specs.Bits.{bits, is_on, same_level}
-use Rattle.pld_base.specs.Logic.{Logic}
-use Rattle.pld_base.specs.Points.{Levels}
-use Rattle.pld_machine.specs.Exchanged.{exchanged, exchanged_at, exchanged_lookups, in_sense}
-use Rattle.pld_machine.specs.Lookups.{Lookups, logic_of}
-use Rattle.pld_machine.specs.Order.{IsOrdered}
-use Rattle.pld_machine.specs.Steps.{IsDetermined}
+use Rattle.source_machine.proofs.Common.{fun_ext, cases_Bool, ltb-true, bits, is_on, same_level, Logic, Levels, exchanged, exchanged_at, exchanged_lookups, in_sense, Lookups, logic_of, IsOrdered, IsDetermined, is_determined, IsDevice, Table, ModuleTree, signal_on, design_of, PlainNetlist, wanted_at, IsSound, logic_with_any_0, MeansTheSame, is_free_wanted, netlist_of, netlist_with_any_0, AreChosen, chosen, inverts_by, module_as_chosen, netlist_as_chosen, AllowTheSame, IsSignalOrder, netlist_lookups}
 use Rattle.pld_machine.proofs.ExchangedLogics.{exchanged_refines}
 use Rattle.pld_machine.proofs.ExchangedLookups.{lookups_exchanged}
-use Rattle.pld_machine.proofs.OneRun.{is_determined}
-use Rattle.pld_device.specs.Laws.{IsDevice}
-use Rattle.pld_device.specs.Table.{Table}
-use Rattle.abel_tree.specs.Tree.{ModuleTree}
 use Rattle.abel_meaning.specs.Choices.{inverting, is_free_signal}
-use Rattle.abel_meaning.specs.Controls.{signal_on}
-use Rattle.abel_meaning.specs.Designs.{design_of}
-use Rattle.abel_meaning.specs.Netlists.{PlainNetlist, wanted_at}
-use Rattle.abel_meaning.specs.Soundness.{IsSound}
-use Rattle.abel_meaning.specs.SourceLogic.{logic_with_any_0}
-use Rattle.netlist_laws.specs.FittedCorrect.{MeansTheSame}
-use Rattle.netlist_laws.specs.ExchangedNets.{is_free_wanted}
-use Rattle.netlist_laws.specs.Gathered.{netlist_of}
-use Rattle.source_machine.specs.AnyAs0.{netlist_with_any_0}
-use Rattle.source_machine.specs.Choices.{AreChosen, chosen, inverts_by, module_as_chosen, netlist_as_chosen}
-use Rattle.source_machine.specs.Correct.{AllowTheSame}
-use Rattle.source_machine.specs.NetlistLookups.{IsSignalOrder, netlist_lookups}
 use Rattle.source_machine.proofs.OneValue.{is_ordered}
 use Rattle.source_machine.proofs.SignalPlaces.{same_logic}
 use Rattle.source_machine.proofs.SourceAs0.{netlist_as_0}

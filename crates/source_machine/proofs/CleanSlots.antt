@@ -1,37 +1,14 @@
 -- Resets read signals that lead to no register, so they depend on no Q.
 use Rattle.std.proofs.Common.{◌≡◌, ℕ, ◌+◌, ◌<◌, true, false, eqb, List, [], ◌∷◌, length, Option, Some, None, slice_get, refl, ap, sym, ◌∙◌, subst, arith, inl, inr}
 use Rattle.std.specs.Prelude.{unwrap_or}
+use Rattle.source_machine.proofs.Common.{cases_Bool, cases_lt, lt-ltb, length-map, list_any_at, slice_get_within, is_on, Levels, Slot, sets_pin, sets_node, SameAt, ResetsWithoutQ, eqb_same, IsDevice, Table, Leaf, Formula, leaf_value, names, Wanted, PlainNetlist, own_of, own_or_shared, shared_function, wanted_at, netlist_stores, is_register_signal, netlist_passes, netlist_reset_reads, netlist_waits, signal_count, signal_leaf, names_if_any, IsReadable, IsSound, value_same, pin_leaf, q_leaf, pin_is_plain, node_leaf, node_is_plain, found, IsSignalOrder, netlist_lookups, signal_slot}
 use Rattle.std.specs.List.{All, list_any}
-use Rattle.std.proofs.lemmas.Bool.{cases_Bool, cases_lt, lt-ltb}
-use Rattle.std.proofs.lemmas.List.{length-map}
-use Rattle.std.proofs.lemmas.List.Folds.{list_any_at}
-use Rattle.std.proofs.lemmas.Option.{slice_get_within}
-use Rattle.pld_base.specs.Bits.{is_on}
-use Rattle.pld_base.specs.Points.{Levels}
-use Rattle.pld_machine.specs.declared.logic.Slot.{Slot}
 use Rattle.pld_machine.specs.declared.logic.Slot.TheVariants as slot
-use Rattle.pld_machine.specs.Lookups.{sets_pin, sets_node}
-use Rattle.pld_machine.specs.Order.{SameAt, ResetsWithoutQ}
 use Rattle.pld_machine.proofs.WithoutQ.{AgreeBefore, ReadNoQ, resets_without_q}
-use Rattle.pld_order.proofs.Lists.{eqb_same}
 use Rattle.pld_order.proofs.PathSteps.{path_from, path_one}
-use Rattle.pld_device.specs.Laws.{IsDevice}
-use Rattle.pld_device.specs.Table.{Table}
-use Rattle.bit_expr.specs.declared.node.Leaf.{Leaf}
 use Rattle.bit_expr.specs.declared.node.Leaf.TheVariants as leaf
-use Rattle.bit_expr.specs.Formulas.{Formula, leaf_value, names}
-use Rattle.abel_meaning.specs.Netlists.{Wanted, PlainNetlist, own_of, own_or_shared, shared_function, wanted_at}
-use Rattle.abel_meaning.specs.NetlistLogic.{netlist_stores}
-use Rattle.abel_meaning.specs.NetlistReads.{is_register_signal, netlist_passes, netlist_reset_reads, netlist_waits, signal_count, signal_leaf}
-use Rattle.abel_meaning.specs.SignalReads.{names_if_any}
-use Rattle.abel_meaning.specs.Soundness.{IsReadable, IsSound}
 use Rattle.netlist_laws.proofs.CleanSignals.{IsCleanSignal, Clean, clean_named, reset_known}
-use Rattle.netlist_laws.proofs.FormulaLeaves.{value_same}
 use Rattle.netlist_laws.proofs.SharedFunctions.{OwnHas}
-use Rattle.netlist_laws.proofs.SignalLeaves.{pin_leaf, q_leaf, pin_is_plain}
-use Rattle.netlist_laws.proofs.Valuing.{node_leaf, node_is_plain}
-use Rattle.netlist_laws.proofs.WantedCells.{found}
-use Rattle.source_machine.specs.NetlistLookups.{IsSignalOrder, netlist_lookups, signal_slot}
 use Rattle.source_machine.proofs.NetlistOrdered.{unset_enable}
 use Rattle.source_machine.proofs.SameSignals.{AgreesAt, cell_same, node_same}
 use Rattle.source_machine.proofs.SignalPlaces.{in_signals, none_waits, pin_later, node_later, has_pins, has_slots}

@@ -1,6 +1,7 @@
 pub mod ChosenCells
 pub mod ChosenLogics
 pub mod CleanSlots
+pub mod Common
 pub mod FirstControls
 pub mod LinkReads
 pub mod NamedPoints

@@ -1,28 +1,15 @@
 -- What signals wait for by their links.
 use Rattle.std.proofs.Common.{◌≡◌, ℕ, zero, suc, ◌+◌, ◌<◌, ◌≤◌, Bool, false, nat_lt, List, [], ◌∷◌, ◌++◌, length, get_or, Some, None, refl, sym, ap, ◌∙◌, subst, arith, inl, inr}
-use Rattle.std.proofs.lemmas.Bool.{cases_Bool, cases_lt, ltb-true, ltb-false}
-use Rattle.std.proofs.lemmas.List.{length_push}
-use Rattle.std.proofs.lemmas.Option.{slice_get-get_or}
-use Rattle.pld_device.specs.Laws.{IsDevice}
-use Rattle.pld_device.specs.Table.{Table}
-use Rattle.pld_device.proofs.OwnPins.{own_pins}
+use Rattle.source_machine.proofs.Common.{cases_Bool, cases_lt, ltb-true, ltb-false, length_push, slice_get-get_or, IsDevice, Table, own_pins, IsLeaf, Leaf, PlainNetlist, netlist_stores, is_register_signal, netlist_names, netlist_waits, signal_count, signal_leaf, IsSound, IsSignalOrder, IsLinkOf, AreFirstLinks, AreSignalLinks, waited_leaf}
 use Rattle.pld_order.specs.Graphs.{IsOrder, HasNoLoop}
 use Rattle.pld_order.proofs.SameGraphs.{order_same, no_loop_same}
-use Rattle.bit_expr.specs.Arena.{IsLeaf}
 use Rattle.bit_expr.specs.Reading.{AreReads}
-use Rattle.bit_expr.specs.declared.node.Leaf.{Leaf}
 use Rattle.bit_expr.specs.declared.node.Leaf.TheVariants as leaf
 use Rattle.bit_expr.specs.declared.reads.Reads.{Reads}
 use Rattle.bit_expr.proofs.ArenaLists.{split_last}
-use Rattle.abel_meaning.specs.Netlists.{PlainNetlist}
-use Rattle.abel_meaning.specs.NetlistLogic.{netlist_stores}
-use Rattle.abel_meaning.specs.NetlistReads.{is_register_signal, netlist_names, netlist_waits, signal_count, signal_leaf}
-use Rattle.abel_meaning.specs.Soundness.{IsSound}
 use Rattle.gathering.specs.declared.link.Link.{Link}
 use Rattle.gathering.specs.Links.{AreLeaves, HasNoChain, IsReadOrder, has_leaf, has_if_any, leaf_in, link_reads}
 use Rattle.gathering.proofs.LinkSets.{leaf_there, reads_there}
-use Rattle.source_machine.specs.NetlistLookups.{IsSignalOrder}
-use Rattle.source_machine.specs.SignalLinks.{IsLinkOf, AreFirstLinks, AreSignalLinks, waited_leaf}
 
 -- the same leaves, said otherwise
 pub reads_as : (f h : Leaf → Bool) (r : Reads) → ((l : Leaf) → f l ≡ h l) → AreReads f r → AreReads h r

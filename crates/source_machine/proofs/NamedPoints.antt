@@ -1,11 +1,9 @@
 -- A point with the Qs of some cells complemented, by their bits.
 use Rattle.std.proofs.Common.{◌≡◌, ℕ, zero, suc, ◌+◌, ◌%◌, ◌<◌, ◌==◌, refl, sym, ap, ◌∙◌, subst, arith}
+use Rattle.source_machine.proofs.Common.{bits, is_on, is_on-bits, length-bits, same_levels, exchanged_qs, in_sense}
 use Rattle.std.specs.Int.{bit_at}
 use Rattle.std.specs.Int.Bits.{bit_xor}
 use Rattle.std.proofs.lemmas.Nat.Bits.{bit_at-lt, bit_at_xor}
-use Rattle.pld_base.specs.Bits.{bits, is_on}
-use Rattle.pld_base.proofs.BitLemmas.{is_on-bits, length-bits, same_levels}
-use Rattle.pld_machine.specs.Exchanged.{exchanged_qs, in_sense}
 use Rattle.pld_machine.proofs.ExchangedPoints.{length_from, q_exchanged}
 
 one_bit : (a b : ℕ) → a < 2 → b < 2 → ((a + b) % 2 == 1) ≡ in_sense (b == 1) (a == 1)

@@ -1,21 +1,8 @@
 -- No slot of a netlist reads itself or a later one.
 use Rattle.std.proofs.Common.{◌≡◌, ℕ, ◌+◌, ◌<◌, false, List, length, drop, Some, slice_get, ap, sym, ◌∙◌, arith}
-use Rattle.std.proofs.lemmas.Bool.{false_from_ne_true}
-use Rattle.pld_base.specs.Bits.{is_on}
-use Rattle.pld_base.specs.Points.{Levels}
-use Rattle.pld_machine.specs.declared.logic.Slot.{Slot}
+use Rattle.source_machine.proofs.Common.{false_from_ne_true, is_on, Levels, Slot, sets_pin, DifferOnlyIn, SameAt, ReadsEarlier, PinLow, IsDevice, Table, cell_at, no_cell, PlainNetlist, IsSound, waits_for_pin, waits_for_node, IsSignalOrder, netlist_lookups}
 use Rattle.pld_machine.specs.declared.logic.Slot.TheVariants as slot
-use Rattle.pld_machine.specs.Lookups.{sets_pin}
-use Rattle.pld_machine.specs.Order.{DifferOnlyIn, SameAt, ReadsEarlier}
-use Rattle.pld_device.specs.declared.enable.Enable.TheVariants.{PinLow}
-use Rattle.pld_device.specs.Laws.{IsDevice}
-use Rattle.pld_device.specs.Table.{Table, cell_at, no_cell}
 use Rattle.bit_expr.specs.declared.node.Leaf.TheVariants as leaf
-use Rattle.abel_meaning.specs.Netlists.{PlainNetlist}
-use Rattle.abel_meaning.specs.Soundness.{IsSound}
-use Rattle.netlist_laws.proofs.SignalLeaves.{waits_for_pin}
-use Rattle.netlist_laws.proofs.Valuing.{waits_for_node}
-use Rattle.source_machine.specs.NetlistLookups.{IsSignalOrder, netlist_lookups}
 use Rattle.source_machine.proofs.SameSignals.{AgreesAt, cell_same, node_same}
 use Rattle.source_machine.proofs.SignalPlaces.{in_signals, none_waits, pin_later, node_later}
 use Rattle.source_machine.proofs.SignalSlots.{signal_at, of_cell_slot, of_node_slot}

@@ -1,26 +1,9 @@
 -- A netlist with any as 0 allows nothing that the netlist doesn't allow; in an order of its signals it is a logic that
 -- the machine takes.
 use Rattle.std.proofs.Common.{◌≡◌, ℕ, Bool, true, false, not, ◌&&◌, if◌then◌else◌, List, Option, Some, None, refl, ap, ◌∙◌, subst}
-use Rattle.pld_base.specs.Bits.{is_on, same_level}
-use Rattle.pld_base.specs.Points.{Levels}
-use Rattle.pld_machine.specs.Order.{IsOrdered}
-use Rattle.pld_machine.specs.Refines.{HasRunsOf, Refines}
-use Rattle.pld_machine.specs.Steps.{IsDetermined}
-use Rattle.pld_machine.proofs.OneRun.{is_determined}
+use Rattle.source_machine.proofs.Common.{is_on, same_level, Levels, IsOrdered, HasRunsOf, Refines, IsDetermined, is_determined, IsDevice, complement_if, Table, ModuleTree, Function, allows, allows_plain, value_with_any_0, Wanted, PlainNetlist, as_named, function_at, node_at, wanted_at, may_drive, may_store, netlist_logic, netlist_values, IsSound, source_logic, MeansTheSame, data_with_any_0, level_with_any_0, next_with_any_0, netlist_with_any_0, IsSignalOrder, netlist_lookups}
 use Rattle.pld_machine.proofs.Refined.{run_refines}
-use Rattle.pld_device.specs.Laws.{IsDevice}
-use Rattle.pld_device.specs.Macrocells.{complement_if}
-use Rattle.pld_device.specs.Table.{Table}
-use Rattle.abel_tree.specs.Tree.{ModuleTree}
-use Rattle.abel_meaning.specs.Functions.{Function, allows, allows_plain, value_with_any_0}
-use Rattle.abel_meaning.specs.Netlists.{Wanted, PlainNetlist, as_named, function_at, node_at, wanted_at}
-use Rattle.abel_meaning.specs.NetlistLogic.{may_drive, may_store, netlist_logic, netlist_values}
-use Rattle.abel_meaning.specs.Soundness.{IsSound}
-use Rattle.abel_meaning.specs.SourceLogic.{source_logic}
-use Rattle.netlist_laws.specs.FittedCorrect.{MeansTheSame}
 use Rattle.netlist_laws.proofs.BoolLaws.{level_is}
-use Rattle.source_machine.specs.AnyAs0.{data_with_any_0, level_with_any_0, next_with_any_0, netlist_with_any_0}
-use Rattle.source_machine.specs.NetlistLookups.{IsSignalOrder, netlist_lookups}
 use Rattle.source_machine.proofs.CleanSlots.{resets_free}
 use Rattle.source_machine.proofs.NetlistOrdered.{reads_earlier}
 use Rattle.source_machine.proofs.SignalPlaces.{has_pins, has_slots, same_logic}

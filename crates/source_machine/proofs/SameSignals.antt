@@ -1,28 +1,9 @@
 -- A signal asks the same at two points that agree at what it names.
 use Rattle.std.proofs.Common.{◌≡◌, ℕ, ◌+◌, ◌<◌, Bool, true, false, not, ◌&&◌, if◌then◌else◌, length, Option, Some, None, refl, ap, sym}
-use Rattle.std.proofs.lemmas.Bool.{or_left, or_right, true≢false}
-use Rattle.pld_base.specs.Bits.{is_on}
-use Rattle.pld_base.specs.Points.{Levels}
+use Rattle.source_machine.proofs.Common.{or_left, or_right, true≢false, is_on, Levels, SameAt, Row, PinLow, IsDevice, complement_if, Table, cell_at, no_cell, Leaf, leaf_value, names, Wanted, PlainNetlist, no_function, node_at, wanted_at, as_named, drives, enable_of, netlist_stores, netlist_values, netlist_names, function_names, names_if_any, IsReadable, IsSound, value_same, cell_named, node_names, sound_at, data_with_any_0, level_with_any_0, netlist_lookups}
 use Rattle.pld_machine.specs.declared.logic.Slot.TheVariants as slot
-use Rattle.pld_machine.specs.Order.{SameAt}
 use Rattle.pld_device.specs.declared.enable.Enable.{Enable}
-use Rattle.pld_device.specs.declared.enable.Enable.TheVariants.{Row, PinLow}
-use Rattle.pld_device.specs.Laws.{IsDevice}
-use Rattle.pld_device.specs.Macrocells.{complement_if}
-use Rattle.pld_device.specs.Table.{Table, cell_at, no_cell}
-use Rattle.bit_expr.specs.declared.node.Leaf.{Leaf}
-use Rattle.bit_expr.specs.Formulas.{leaf_value, names}
-use Rattle.abel_meaning.specs.Netlists.{Wanted, PlainNetlist, no_function, node_at, wanted_at, as_named}
-use Rattle.abel_meaning.specs.NetlistLogic.{drives, enable_of, netlist_stores, netlist_values}
-use Rattle.abel_meaning.specs.NetlistReads.{netlist_names}
-use Rattle.abel_meaning.specs.SignalReads.{function_names, names_if_any}
-use Rattle.abel_meaning.specs.Soundness.{IsReadable, IsSound}
 use Rattle.netlist_laws.proofs.CellRanks.{enable_names, wanted_enable_sound}
-use Rattle.netlist_laws.proofs.FormulaLeaves.{value_same}
-use Rattle.netlist_laws.proofs.Valuing.{cell_named, node_names}
-use Rattle.netlist_laws.proofs.WantedCells.{sound_at}
-use Rattle.source_machine.specs.AnyAs0.{data_with_any_0, level_with_any_0}
-use Rattle.source_machine.specs.NetlistLookups.{netlist_lookups}
 
 if_same : (r x y u v : Bool) → (r ≡ true → x ≡ y) → (r ≡ false → u ≡ v) → (if r then x else u) ≡ (if r then y else v)
 if_same true x y u v first second = first refl

@@ -1,25 +1,10 @@
 -- The places of a netlist's signals in an order: each has one, and what is set from a place on.
 use Rattle.std.proofs.Common.{◌≡◌, ℕ, zero, suc, ◌+◌, ◌<◌, ◌≤◌, Bool, true, false, eqb, nat_lt, List, [], ◌∷◌, map, length, drop, get_or, Some, slice_get, refl, ap, sym, ◌∙◌, arith, inl, inr}
-use Rattle.std.proofs.Math.Path.{fun_ext}
+use Rattle.source_machine.proofs.Common.{fun_ext, cases_Bool, cases_lt, eq-eqb, ltb-true, ltb-false, or_right, true≢false, list_any_at, get_or_from_slice_get, slice_get_within, slice_get-get_or, Slot, sets_pin, sets_node, logic_of, InRange, HasPins, HasSlots, Logic, eqb_same, place_of, IsDevice, Table, cell_at, own_pins, PlainNetlist, netlist_waits, signal_count, netlist_with_any_0, IsSignalOrder, netlist_lookups, signal_slot}
 use Rattle.std.specs.Prelude.{IsTrue}
-use Rattle.std.proofs.lemmas.Bool.{cases_Bool, cases_lt, eq-eqb, ltb-true, ltb-false, or_right, true≢false}
-use Rattle.std.proofs.lemmas.List.Folds.{list_any_at}
 use Rattle.std.proofs.lemmas.Map.Keys.{apart_from_distinct}
-use Rattle.std.proofs.lemmas.Option.{get_or_from_slice_get, slice_get_within, slice_get-get_or}
-use Rattle.pld_machine.specs.declared.logic.Slot.{Slot}
 use Rattle.pld_machine.specs.declared.logic.Slot.TheVariants as slot
-use Rattle.pld_machine.specs.Lookups.{sets_pin, sets_node, logic_of}
-use Rattle.pld_machine.specs.Order.{InRange, HasPins, HasSlots}
 use Rattle.pld_machine.proofs.Ordered.{setter_of_pin, setter_of_node, get_behind, pin_set}
-use Rattle.pld_base.specs.Logic.{Logic}
-use Rattle.pld_order.proofs.Lists.{eqb_same, place_of}
-use Rattle.pld_device.specs.Laws.{IsDevice}
-use Rattle.pld_device.specs.Table.{Table, cell_at}
-use Rattle.pld_device.proofs.OwnPins.{own_pins}
-use Rattle.abel_meaning.specs.Netlists.{PlainNetlist}
-use Rattle.abel_meaning.specs.NetlistReads.{netlist_waits, signal_count}
-use Rattle.source_machine.specs.AnyAs0.{netlist_with_any_0}
-use Rattle.source_machine.specs.NetlistLookups.{IsSignalOrder, netlist_lookups, signal_slot}
 use Rattle.source_machine.proofs.SignalSlots.{cell_slot, node_slot, of_cell_slot, of_node_slot, slot_at, signal_at}
 
 -- a signal that stands once has one place

@@ -1,12 +1,7 @@
 -- The slot of each signal of a netlist, and the signal of each slot.
 use Rattle.std.proofs.Common.{◌≡◌, ℕ, zero, suc, ◌+◌, ◌-◌, ◌<◌, ◌≤◌, nat_lt, List, [], ◌∷◌, map, length, Some, slice_get, refl, ap, ◌∙◌, subst, arith, inl, inr}
-use Rattle.std.specs.Option.{option_map}
-use Rattle.std.proofs.lemmas.Bool.{cases_Bool, lt-ltb, le-ltb, ltb-true, ltb-false}
-use Rattle.std.proofs.lemmas.Option.{slice_get-map}
-use Rattle.pld_machine.specs.declared.logic.Slot.{Slot}
+use Rattle.source_machine.proofs.Common.{option_map, cases_Bool, lt-ltb, le-ltb, ltb-true, ltb-false, slice_get-map, Slot, Table, signal_slot}
 use Rattle.pld_machine.specs.declared.logic.Slot.TheVariants as slot
-use Rattle.pld_device.specs.Table.{Table}
-use Rattle.source_machine.specs.NetlistLookups.{signal_slot}
 
 -- ---- the slot of a signal
 

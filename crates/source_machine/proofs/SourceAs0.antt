@@ -1,35 +1,15 @@
 -- The netlist of a module and the module have the same one values with any as 0.
 use Rattle.std.proofs.Common.{◌≡◌, ℕ, ◌<◌, Bool, true, false, not, List, [], ◌∷◌, map, length, Option, Some, None, refl, sym, subst, ap, ◌∙◌, inl, inr}
-use Rattle.std.specs.Option.{option_map}
-use Rattle.std.proofs.lemmas.Bool.{cases_Bool}
-use Rattle.pld_base.specs.Bits.{same_level}
-use Rattle.pld_base.specs.Points.{Levels, IsPoint}
-use Rattle.pld_machine.specs.Refines.{Refines}
+use Rattle.source_machine.proofs.Common.{option_map, cases_Bool, same_level, Levels, IsPoint, Refines, IsDevice, complement_if, Table, cell_at, formula_value, ModuleTree, signal_on, cell_stores, cell_stores_for, Design, design_of, name_at, function_of, is_raw_signal, value_with_any_0, Wanted, PlainNetlist, function_at, wanted_at, drives, given_formulas, is_negated, logic_with_any_0, next_allows, node_allows, node_signal, node_value_by, pin_allows, q_complements, takes_any_as_0, MeansTheSame, netlist_of, wanted_for, data_with_any_0, level_with_any_0, next_with_any_0, netlist_with_any_0, AllowTheSame, GatheredAs0}
 use Rattle.pld_machine.specs.Through.{SameCells, AllowsAt}
-use Rattle.pld_device.specs.Laws.{IsDevice}
-use Rattle.pld_device.specs.Macrocells.{complement_if}
-use Rattle.pld_device.specs.Table.{Table, cell_at}
-use Rattle.bit_expr.specs.Formulas.{formula_value}
-use Rattle.abel_tree.specs.Tree.{ModuleTree}
 use Rattle.abel_tree.specs.Entries.{is_stored, follows_q}
 use Rattle.abel_meaning.specs.AtPoints.{truth_at, given_at}
 use Rattle.abel_meaning.specs.Contributions.{Contribution}
-use Rattle.abel_meaning.specs.Controls.{signal_on, cell_stores, cell_stores_for}
-use Rattle.abel_meaning.specs.Designs.{Design, design_of, name_at}
 use Rattle.abel_meaning.specs.Follows.{seen}
-use Rattle.abel_meaning.specs.Functions.{function_of, is_raw_signal, value_with_any_0}
-use Rattle.abel_meaning.specs.Netlists.{Wanted, PlainNetlist, function_at, wanted_at}
-use Rattle.abel_meaning.specs.NetlistLogic.{drives}
-use Rattle.abel_meaning.specs.SignalReads.{given_formulas}
-use Rattle.abel_meaning.specs.SourceLogic.{is_negated, logic_with_any_0, next_allows, node_allows, node_signal, node_value_by, pin_allows, q_complements, takes_any_as_0}
 use Rattle.abel_meaning.proofs.FormulasFollow.{formulas_have_values}
 use Rattle.abel_meaning.proofs.FunctionValues.{formula_function}
-use Rattle.netlist_laws.specs.FittedCorrect.{MeansTheSame}
-use Rattle.netlist_laws.specs.Gathered.{netlist_of, wanted_for}
 use Rattle.netlist_laws.proofs.CellsFound.{wanted_found}
 use Rattle.netlist_laws.proofs.Meaning.{gathered_means_the_same, value_as}
-use Rattle.source_machine.specs.AnyAs0.{data_with_any_0, level_with_any_0, next_with_any_0, netlist_with_any_0}
-use Rattle.source_machine.specs.Correct.{AllowTheSame, GatheredAs0}
 use Rattle.source_machine.proofs.SameSignals.{alone}
 
 -- ---- truth values

@@ -1,13 +1,7 @@
 -- A netlist with any as 0, as a logic: the one value of each set that it allows (this project's rule).
 use Rattle.std.specs.Prelude.{ℕ, Bool, false, not, if◌then◌else◌, Option, None, Some}
-use Rattle.pld_base.specs.Bits.{is_on, same_level}
-use Rattle.pld_base.specs.Points.{Levels}
-use Rattle.pld_base.specs.Logic.{Logic}
+use Rattle.source_machine.specs.Prelude.{is_on, same_level, Levels, Logic, Table, value_with_any_0, Wanted, PlainNetlist, wanted_at, function_at, as_named, netlist_logic, netlist_values}
 use Rattle.pld_device.specs.Macrocells.{complement_if}
-use Rattle.pld_device.specs.Table.{Table}
-use Rattle.abel_meaning.specs.Functions.{value_with_any_0}
-use Rattle.abel_meaning.specs.Netlists.{Wanted, PlainNetlist, wanted_at, function_at, as_named}
-use Rattle.abel_meaning.specs.NetlistLogic.{netlist_logic, netlist_values}
 
 -- the pin's level, or the next Q, at which the function has its value with any as 0: as the value of a pin is turned
 -- into that of its name, so is the one of the name into the pin's

@@ -1,15 +1,8 @@
 -- What a netlist, and its module, are with any as 0 where bits tell which free registers invert (ABEL-HDL Reference Manual,
 -- ISTYPE; that a choice is one for all points is this project's rule).
 use Rattle.std.specs.Prelude.{◌≡◌, ℕ, Bool, ◌&&◌, nat_lt, length}
-use Rattle.pld_base.specs.Bits.{bits, is_on}
-use Rattle.pld_base.specs.Logic.{Logic}
-use Rattle.pld_machine.specs.Exchanged.{exchanged}
-use Rattle.pld_device.specs.Table.{Table}
-use Rattle.abel_tree.specs.Tree.{ModuleTree}
+use Rattle.source_machine.specs.Prelude.{bits, is_on, Logic, exchanged, Table, ModuleTree, design_of, PlainNetlist, wanted_at, logic_with_any_0}
 use Rattle.abel_meaning.specs.Choices.{inverting}
-use Rattle.abel_meaning.specs.Designs.{design_of}
-use Rattle.abel_meaning.specs.Netlists.{PlainNetlist, wanted_at}
-use Rattle.abel_meaning.specs.SourceLogic.{logic_with_any_0}
 use Rattle.netlist_laws.specs.ExchangedNets.{is_free_wanted}
 use Rattle.source_machine.specs.AnyAs0.{netlist_with_any_0}
 

@@ -1,12 +1,6 @@
 -- What the netlist of a module with any as 0 is to the module (this project's rule).
-use Rattle.pld_base.specs.Logic.{Logic}
-use Rattle.pld_machine.specs.Refines.{Refines}
+use Rattle.source_machine.specs.Prelude.{Logic, Refines, Table, ModuleTree, design_of, logic_with_any_0, netlist_of}
 use Rattle.pld_device.specs.Laws.{IsDevice}
-use Rattle.pld_device.specs.Table.{Table}
-use Rattle.abel_tree.specs.Tree.{ModuleTree}
-use Rattle.abel_meaning.specs.Designs.{design_of}
-use Rattle.abel_meaning.specs.SourceLogic.{logic_with_any_0}
-use Rattle.netlist_laws.specs.Gathered.{netlist_of}
 use Rattle.netlist_laws.specs.Takeable.{RegistersHaveCells}
 use Rattle.source_machine.specs.AnyAs0.{netlist_with_any_0}
 

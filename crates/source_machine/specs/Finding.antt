@@ -1,9 +1,8 @@
 -- Private: the reset or preset that counts for a cell, over the arena (this project's rule).
 use Rattle.std.specs.Prelude.{nat_lt, is_some, if◌then◌else◌, Option, None, Some}
+use Rattle.source_machine.specs.Prelude.{Formula, Wanted}
 use Rattle.bit_expr.specs.declared.netlist.CellWanted.{CellWanted}
 use Rattle.bit_expr.specs.declared.netlist.Control.{Control}
-use Rattle.bit_expr.specs.Formulas.{Formula}
-use Rattle.abel_meaning.specs.Netlists.{Wanted}
 use Rattle.source_machine.specs.declared.controls.RegisterControl.{RegisterControl}
 use Rattle.source_machine.specs.declared.controls.RegisterControl.TheVariants.{Reset, Preset}
 

@@ -1,18 +1,10 @@
 -- A netlist with any as 0 as what the machine asks of a logic (this project's rule).
 use Rattle.std.specs.Prelude.{ℕ, ◌-◌, nat_lt, if◌then◌else◌, List, map, length}
-use Rattle.pld_base.specs.Bits.{bits, is_on}
+use Rattle.source_machine.specs.Prelude.{bits, is_on, exchanged_lookups, Lookups, Table, cell_at, formula_value, Wanted, PlainNetlist, plain_netlist, wanted_at, own_or_shared, drives, netlist_stores, netlist_values, netlist_waits, signal_count, IsSoundNetlist}
 use Rattle.pld_machine.specs.declared.logic.Slot.{Slot}
 use Rattle.pld_machine.specs.declared.logic.Slot.TheVariants as slot
-use Rattle.pld_machine.specs.Exchanged.{exchanged_lookups}
-use Rattle.pld_machine.specs.Lookups.{Lookups}
 use Rattle.pld_order.specs.Graphs.{IsOrder}
-use Rattle.pld_device.specs.Table.{Table, cell_at}
 use Rattle.bit_expr.specs.declared.netlist.Netlist.{Netlist}
-use Rattle.bit_expr.specs.Formulas.{formula_value}
-use Rattle.abel_meaning.specs.Netlists.{Wanted, PlainNetlist, plain_netlist, wanted_at, own_or_shared}
-use Rattle.abel_meaning.specs.NetlistLogic.{drives, netlist_stores, netlist_values}
-use Rattle.abel_meaning.specs.NetlistReads.{netlist_waits, signal_count}
-use Rattle.abel_meaning.specs.SoundIds.{IsSoundNetlist}
 use Rattle.source_machine.specs.AnyAs0.{level_with_any_0, next_with_any_0}
 
 -- a netlist; the order in which its signals come to rest: first the cells count, and behind them the nodes; and which of

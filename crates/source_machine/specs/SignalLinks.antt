@@ -1,10 +1,7 @@
 -- Private: the signals of a netlist as others wait for them (this project's rule).
 use Rattle.std.specs.Prelude.{◌≡◌, ℕ, if◌then◌else◌, List, Option, None, Some, length, slice_get}
-use Rattle.pld_device.specs.Table.{Table}
+use Rattle.source_machine.specs.Prelude.{Table, AreReads, PlainNetlist, is_register_signal, netlist_names, signal_count, signal_leaf}
 use Rattle.bit_expr.specs.declared.node.Leaf.{Leaf}
-use Rattle.bit_expr.specs.Reading.{AreReads}
-use Rattle.abel_meaning.specs.Netlists.{PlainNetlist}
-use Rattle.abel_meaning.specs.NetlistReads.{is_register_signal, netlist_names, signal_count, signal_leaf}
 use Rattle.gathering.specs.declared.link.Link.{Link}
 
 -- the leaf by which others wait for a signal: none for a register

@@ -1,13 +1,7 @@
 //! The cells of a device as a netlist asks of them.
 
 ghost use Rattle.std.specs.Prelude.{◌≡◌, ◌<◌, All, IfSome, length};
-ghost use Rattle.std.specs.Option.{option_map};
-ghost use Rattle.pld_base.specs.Points.{levels_of};
-ghost use Rattle.pld_device.specs.Table.{cell_at};
-ghost use Rattle.bit_expr.specs.Arena.{arena};
-ghost use Rattle.abel_meaning.specs.Netlists.{node_at, plain_function, plain_netlist, plain_wanted, wanted_at};
-ghost use Rattle.abel_meaning.specs.NetlistLogic.{drives, netlist_stores};
-ghost use Rattle.abel_meaning.specs.SoundIds.{IsCellIn, IsFunctionIn};
+ghost use Rattle.source_machine.specs.Prelude.{option_map, levels_of, cell_at, arena, node_at, plain_function, plain_netlist, plain_wanted, wanted_at, drives, netlist_stores, IsCellIn, IsFunctionIn};
 ghost use Rattle.device_logic.specs.Array.{EnableInRange};
 ghost use Rattle.source_machine.specs.AnyAs0.{level_with_any_0, next_with_any_0};
 

@@ -1,12 +1,7 @@
 //! Which free registers store the complement, and points as a netlist reads them.
 
 ghost use Rattle.std.specs.Prelude.{◌≡◌, ◌<◌, All, length};
-ghost use Rattle.pld_base.specs.Bits.{bits, is_on};
-ghost use Rattle.pld_base.specs.Points.{levels_of};
-ghost use Rattle.pld_machine.specs.Exchanged.{exchanged_at};
-ghost use Rattle.bit_expr.specs.Arena.{arena};
-ghost use Rattle.abel_meaning.specs.Netlists.{plain_netlist};
-ghost use Rattle.abel_meaning.specs.SoundIds.{IsCellIn};
+ghost use Rattle.source_machine.specs.Prelude.{bits, is_on, levels_of, exchanged_at, arena, plain_netlist, IsCellIn};
 ghost use Rattle.source_machine.specs.Choices.{AreChosen, chosen};
 
 use crate::cells::cell_wanted;

@@ -1,12 +1,7 @@
 //! Resets and presets: a cell's own, else the one that all registers share.
 
 ghost use Rattle.std.specs.Prelude.{◌≡◌, All, IfSome, false, length, unwrap_or};
-ghost use Rattle.std.specs.Option.{option_map};
-ghost use Rattle.pld_base.specs.Points.{levels_of};
-ghost use Rattle.bit_expr.specs.Arena.{arena};
-ghost use Rattle.bit_expr.specs.Formulas.{Const, formula_value};
-ghost use Rattle.abel_meaning.specs.Netlists.{first_with, own_or_shared, plain_control, plain_netlist, plain_wanted};
-ghost use Rattle.abel_meaning.specs.SoundIds.{IsCellIn, IsControlIn};
+ghost use Rattle.source_machine.specs.Prelude.{option_map, levels_of, arena, Const, formula_value, first_with, own_or_shared, plain_control, plain_netlist, plain_wanted, IsCellIn, IsControlIn};
 ghost use Rattle.source_machine.specs.Finding.{earlier_of, own_control, own_formula};
 
 use crate::cells::cell_wanted;

@@ -1,12 +1,6 @@
 //! Laws of netlists with any as 0, as the contract of a call that does nothing.
 
-ghost use Rattle.pld_machine.specs.Refines.{HasRunsOf, Refines};
-ghost use Rattle.pld_device.specs.Table.{Table};
-ghost use Rattle.abel_tree.specs.Tree.{ModuleTree};
-ghost use Rattle.abel_meaning.specs.Netlists.{PlainNetlist};
-ghost use Rattle.abel_meaning.specs.NetlistLogic.{netlist_logic};
-ghost use Rattle.abel_meaning.specs.SourceLogic.{source_logic};
-ghost use Rattle.netlist_laws.specs.FittedCorrect.{MeansTheSame};
+ghost use Rattle.source_machine.specs.Prelude.{HasRunsOf, Refines, Table, ModuleTree, PlainNetlist, netlist_logic, source_logic, MeansTheSame};
 ghost use Rattle.source_machine.specs.AnyAs0.{netlist_with_any_0};
 ghost use Rattle.source_machine.specs.Correct.{GatheredAs0};
 

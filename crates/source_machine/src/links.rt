@@ -1,11 +1,7 @@
 //! The signals of a netlist, cells and then nodes, as others wait for them, and what they read.
 
 ghost use Rattle.std.specs.Prelude.{◌+◌, ◌<◌, IfOk, Some, length};
-ghost use Rattle.bit_expr.specs.Arena.{arena};
-ghost use Rattle.bit_expr.specs.Reading.{AreReads};
-ghost use Rattle.abel_meaning.specs.Netlists.{plain_netlist, plain_wanted};
-ghost use Rattle.abel_meaning.specs.NetlistReads.{cell_names};
-ghost use Rattle.abel_meaning.specs.SoundIds.{IsCellIn, IsSoundNetlist};
+ghost use Rattle.source_machine.specs.Prelude.{arena, AreReads, plain_netlist, plain_wanted, cell_names, IsCellIn, IsSoundNetlist};
 ghost use Rattle.source_machine.specs.NetlistLookups.{IsSignalOrder};
 ghost use Rattle.source_machine.specs.SignalLinks.{IsLinkOf, AreSignalLinks};
 

@@ -1,14 +1,9 @@
 //! A netlist with any as 0, under a choice of the polarity of its free registers, as a logic.
 
 ghost use Rattle.std.specs.Prelude.{◌≡◌, IfOk};
-ghost use Rattle.pld_machine.specs.Lookups.{logic_of};
+ghost use Rattle.source_machine.specs.Prelude.{logic_of, ModuleTree, plain_netlist, IsSoundNetlist, MeansTheSame, netlist_of};
 ghost use Rattle.pld_machine.specs.Order.{IsOrdered};
 ghost use Rattle.pld_machine.specs.Steps.{IsDetermined};
-ghost use Rattle.abel_tree.specs.Tree.{ModuleTree};
-ghost use Rattle.abel_meaning.specs.Netlists.{plain_netlist};
-ghost use Rattle.abel_meaning.specs.SoundIds.{IsSoundNetlist};
-ghost use Rattle.netlist_laws.specs.FittedCorrect.{MeansTheSame};
-ghost use Rattle.netlist_laws.specs.Gathered.{netlist_of};
 ghost use Rattle.source_machine.specs.Choices.{module_as_chosen, netlist_as_chosen};
 ghost use Rattle.source_machine.specs.Correct.{AllowTheSame};
 ghost use Rattle.source_machine.specs.NetlistLookups.{ordered_lookups};

@@ -1,12 +1,7 @@
 //! Values of functions and controls at a point.
 
 ghost use Rattle.std.specs.Prelude.{◌≡◌, List, length, unwrap_or};
-ghost use Rattle.pld_base.specs.Points.{levels_of};
-ghost use Rattle.bit_expr.specs.Arena.{arena};
-ghost use Rattle.bit_expr.specs.Formulas.{Formula, Const, formula_value};
-ghost use Rattle.abel_meaning.specs.Functions.{value_with_any_0};
-ghost use Rattle.abel_meaning.specs.Netlists.{as_named, function_at, plain_control, plain_function, plain_wanted};
-ghost use Rattle.abel_meaning.specs.SoundIds.{IsControlIn, IsFunctionIn};
+ghost use Rattle.source_machine.specs.Prelude.{levels_of, arena, Formula, Const, formula_value, value_with_any_0, as_named, function_at, plain_control, plain_function, plain_wanted, IsControlIn, IsFunctionIn};
 
 use bit_expr::{CellWanted, Control, Exprs, Function};
 use pld_base::Point;

@@ -1,7 +1,6 @@
 -- None of the cells so far is the one.
 use Rattle.std.proofs.Common.{◌≡◌}
-use Rattle.bit_expr.specs.Arena.{arena}
-use Rattle.abel_meaning.specs.Netlists.{plain_netlist, wanted_at}
+use Rattle.source_machine.proofs.Common.{arena, plain_netlist, wanted_at}
 use Rattle.source_machine.proofs.FirstControls.{found_from}
 use Rattle.source_machine.proofs.cells.cell_wanted.Given as goal
 

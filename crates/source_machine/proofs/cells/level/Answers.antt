@@ -1,10 +1,5 @@
 use Rattle.std.proofs.Common.{not, if◌then◌else◌, sym, ap, ◌∙◌}
-use Rattle.pld_base.specs.Bits.{is_on}
-use Rattle.pld_base.specs.Points.{levels_of}
-use Rattle.pld_device.specs.Macrocells.{complement_if}
-use Rattle.bit_expr.specs.Arena.{arena}
-use Rattle.abel_meaning.specs.Netlists.{as_named, plain_wanted}
-use Rattle.source_machine.specs.AnyAs0.{data_with_any_0, level_with_any_0}
+use Rattle.source_machine.proofs.Common.{is_on, levels_of, complement_if, arena, as_named, plain_wanted, data_with_any_0, level_with_any_0}
 use Rattle.source_machine.proofs.cells.level.Goals as goal
 
 pub returns-else-wanted : goal.returns-else-wanted

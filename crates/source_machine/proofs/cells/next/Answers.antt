@@ -1,8 +1,5 @@
 use Rattle.std.proofs.Common.{ap, ◌∙◌}
-use Rattle.pld_base.specs.Points.{levels_of}
-use Rattle.bit_expr.specs.Arena.{arena}
-use Rattle.abel_meaning.specs.Netlists.{as_named, plain_wanted}
-use Rattle.source_machine.specs.AnyAs0.{next_with_any_0}
+use Rattle.source_machine.proofs.Common.{levels_of, arena, as_named, plain_wanted, next_with_any_0}
 use Rattle.source_machine.proofs.cells.next.Goals as goal
 
 pub returns-in-Some : goal.returns-in-Some

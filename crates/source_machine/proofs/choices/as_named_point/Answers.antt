@@ -1,6 +1,5 @@
 use Rattle.std.proofs.Common.{ap}
-use Rattle.pld_base.specs.Bits.{bits}
-use Rattle.pld_base.specs.Points.{Levels}
+use Rattle.source_machine.proofs.Common.{bits, Levels}
 use Rattle.source_machine.proofs.NamedPoints.{bits_exchanged}
 use Rattle.source_machine.proofs.choices.as_named_point.Goals as goal
 

@@ -1,8 +1,5 @@
 use Rattle.std.proofs.Common.{arith}
-use Rattle.pld_base.specs.Bits.{bits}
-use Rattle.pld_base.proofs.BitLemmas.{length-bits}
-use Rattle.abel_meaning.specs.Netlists.{plain_netlist}
-use Rattle.source_machine.specs.Choices.{chosen}
+use Rattle.source_machine.proofs.Common.{bits, length-bits, plain_netlist, chosen}
 use Rattle.source_machine.proofs.ChosenCells.{all_counted, none_yet, one_more}
 use Rattle.source_machine.proofs.choices.chosen_cells.Goals as goal
 

@@ -1,7 +1,5 @@
 -- The cells so far have their bits.
-use Rattle.pld_base.specs.Bits.{bits}
-use Rattle.abel_meaning.specs.Netlists.{plain_netlist}
-use Rattle.source_machine.specs.Choices.{chosen}
+use Rattle.source_machine.proofs.Common.{bits, plain_netlist, chosen}
 use Rattle.source_machine.proofs.ChosenCells.{HasFirst}
 use Rattle.source_machine.proofs.choices.chosen_cells.Given as goal
 

@@ -1,6 +1,5 @@
 use Rattle.std.proofs.Common.{◌-◌, length, arith}
-use Rattle.bit_expr.specs.Arena.{arena}
-use Rattle.abel_meaning.specs.SoundIds.{IsCellIn}
+use Rattle.source_machine.proofs.Common.{arena, IsCellIn}
 use Rattle.source_machine.proofs.FirstControls.{earlier_has, one_more}
 use Rattle.source_machine.proofs.controls.first_with.Goals as goal
 

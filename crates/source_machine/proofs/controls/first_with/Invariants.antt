@@ -1,11 +1,7 @@
 -- What comes first of the cells from a place on.
 use Rattle.std.proofs.Common.{◌≡◌, ◌≤◌, drop, length, map}
 use Rattle.std.specs.Prelude.{IfSome}
-use Rattle.std.specs.Option.{option_map}
-use Rattle.bit_expr.specs.Arena.{arena}
-use Rattle.abel_meaning.specs.Netlists.{first_with, plain_wanted}
-use Rattle.abel_meaning.specs.SoundIds.{IsCellIn}
-use Rattle.source_machine.specs.Finding.{own_formula}
+use Rattle.source_machine.proofs.Common.{option_map, arena, first_with, plain_wanted, IsCellIn, own_formula}
 use Rattle.source_machine.proofs.controls.first_with.Given as goal
 
 abbrev pub invariant-loop-rest : goal.invariant-loop-rest

@@ -1,7 +1,5 @@
 use Rattle.std.proofs.Common.{refl, sym, ap, ◌∙◌}
-use Rattle.abel_meaning.specs.Netlists.{plain_netlist}
-use Rattle.abel_meaning.specs.SignalReads.{function_names}
-use Rattle.netlist_laws.proofs.Valuing.{node_is_plain, node_leaf, node_names}
+use Rattle.source_machine.proofs.Common.{plain_netlist, function_names, node_is_plain, node_leaf, node_names}
 use Rattle.source_machine.proofs.LinkReads.{reads_as}
 use Rattle.source_machine.proofs.links.node_link.Goals as goal
 

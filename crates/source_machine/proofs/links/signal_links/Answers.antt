@@ -1,5 +1,5 @@
 use Rattle.std.proofs.Common.{length}
-use Rattle.abel_meaning.specs.Netlists.{plain_netlist}
+use Rattle.source_machine.proofs.Common.{plain_netlist}
 use Rattle.source_machine.proofs.LinkReads.{links_behind, links_more}
 use Rattle.source_machine.proofs.links.signal_links.Goals as goal
 

@@ -1,7 +1,6 @@
 -- The links so far are those of the first signals.
 use Rattle.std.proofs.Common.{◌+◌, length}
-use Rattle.abel_meaning.specs.Netlists.{plain_netlist}
-use Rattle.source_machine.specs.SignalLinks.{AreFirstLinks}
+use Rattle.source_machine.proofs.Common.{plain_netlist, AreFirstLinks}
 use Rattle.source_machine.proofs.links.signal_links.Given as goal
 
 abbrev pub invariant-loop-cell : goal.invariant-loop-cell

@@ -1,7 +1,6 @@
 use Rattle.std.proofs.Common.{sym, subst}
+use Rattle.source_machine.proofs.Common.{plain_netlist, AreSignalLinks}
 use Rattle.std.proofs.lemmas.Result.{IfOk-weaker}
-use Rattle.abel_meaning.specs.Netlists.{plain_netlist}
-use Rattle.source_machine.specs.SignalLinks.{AreSignalLinks}
 use Rattle.source_machine.proofs.LinkReads.{few_links, leaves, no_chain, order_waits}
 use Rattle.source_machine.proofs.links.signal_order.Goals as goal
 

@@ -1,7 +1,5 @@
 use Rattle.std.proofs.Common.{not, ◌&&◌, ◌||◌, sym, ap}
-use Rattle.bit_expr.specs.Arena.{arena}
-use Rattle.abel_meaning.specs.Netlists.{plain_control, plain_function}
-use Rattle.abel_meaning.specs.SignalReads.{function_names, names_if_any}
+use Rattle.source_machine.proofs.Common.{arena, plain_control, plain_function, function_names, names_if_any}
 use Rattle.source_machine.proofs.LinkReads.{reads_as}
 use Rattle.source_machine.proofs.links.wanted_reads.Goals as goal
 

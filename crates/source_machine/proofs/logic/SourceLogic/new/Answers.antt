@@ -1,7 +1,5 @@
 use Rattle.std.proofs.Common.{sym, subst}
-use Rattle.abel_meaning.specs.Netlists.{plain_netlist}
-use Rattle.source_machine.specs.Choices.{module_as_chosen}
-use Rattle.source_machine.specs.Correct.{AllowTheSame}
+use Rattle.source_machine.proofs.Common.{plain_netlist, module_as_chosen, AllowTheSame}
 use Rattle.source_machine.proofs.ChosenLogics.{chosen_determined, chosen_logic, chosen_module, chosen_ordered}
 use Rattle.source_machine.proofs.logic.SourceLogic.new.Goals as goal
 

@@ -1,10 +1,6 @@
 use Rattle.std.proofs.Common.{◌<◌, sym, subst}
 use Rattle.std.specs.Prelude.{IsTrue}
-use Rattle.std.proofs.lemmas.List.{length-map}
-use Rattle.pld_machine.specs.Lookups.{sets_node}
-use Rattle.bit_expr.specs.Arena.{arena}
-use Rattle.abel_meaning.specs.Netlists.{plain_function, plain_netlist}
-use Rattle.source_machine.specs.NetlistLookups.{netlist_lookups}
+use Rattle.source_machine.proofs.Common.{length-map, sets_node, arena, plain_function, plain_netlist, netlist_lookups}
 use Rattle.source_machine.proofs.SignalPlaces.{node_within}
 use Rattle.source_machine.proofs.logic.SourceLogicLogic.node.Goals as goal
 
