@@ -1,8 +1,6 @@
 -- One construct and those that are left behind it.
 use Rattle.std.proofs.Common.{◌≡◌, ℕ, ◌+◌, ◌<◌, Bool, List, [], ◌∷◌, drop, length, get_or, refl, sym, ap, ◌∙◌}
-use Rattle.std.proofs.lemmas.List.{at_drop_more}
-use Rattle.abel_tree.specs.Tree.{Declaration, ADevice, SomePins, SomeNodes, SomeAttributes, SomeConstants, SomeOptions, DontCareFor}
-use Rattle.abel_meaning.specs.Designs.{after_declarations}
+use Rattle.source_sections.proofs.Common.{at_drop_more, Declaration, ADevice, SomePins, SomeNodes, SomeAttributes, SomeConstants, SomeOptions, DontCareFor, after_declarations}
 
 pub left_next : {X : Type 0} (list : List X) (i : ℕ) (x : X) → i < length list → x ≡ get_or list i x → drop i list ≡ x ∷ drop (i + 1) list
 left_next list i x h is = at_drop_more (λ ys. ys) list i x h ∙ ap (λ y. y ∷ drop (i + 1) list) (sym is)

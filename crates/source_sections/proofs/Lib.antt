@@ -1,5 +1,6 @@
+pub mod Common
 mod LeftBehind
-mod SectionsWalked
 pub mod SectionsAnswered
 pub mod SectionsLeft
+mod SectionsWalked
 pub mod SourceAnswers

@@ -1,24 +1,13 @@
 -- The answer for a source from that for its units.
 use Rattle.std.proofs.Common.{◌≡◌, Option, None, Some, List, [], ◌++◌, length, map, sym, ap, ap₂, ◌∙◌, subst, append-nil}
+use Rattle.source_sections.proofs.Common.{arena, earlier, first_refusal, Design, given_formulas, Contribution, view_contribution, section_order, units_nodes, both_clear, at, AreContributed, IsTold, sections_refused, source_units, sections_places}
 use Rattle.std.specs.Option.{is_some}
-use Rattle.bit_expr.specs.Arena.{arena}
-use Rattle.abel_tree.specs.FirstRefusal.{earlier, first_refusal}
 use Rattle.abel_tree.proofs.FirstRefusals.{first_append, none_refused}
-use Rattle.abel_meaning.specs.Designs.{Design}
-use Rattle.abel_meaning.specs.SignalReads.{given_formulas}
-use Rattle.set_expr.specs.declared.contributions.Contribution.{Contribution}
 use Rattle.set_expr.specs.declared.contributions.Contributions.{Contributions}
 use Rattle.set_expr.specs.declared.fault.SectionFault.{SectionFault}
 use Rattle.set_expr.specs.declared.fault.SectionFault.TheVariants as fault
-use Rattle.set_expr.specs.Given.{view_contribution}
-use Rattle.set_expr.specs.SectionOrder.{section_order}
 use Rattle.section_targets.specs.Appending.{Contributed}
-use Rattle.section_targets.specs.Units.{units_nodes}
-use Rattle.section_targets.proofs.WalksBehind.{both_clear}
 use Rattle.gathering.specs.Parts.{AllLieIn}
-use Rattle.equations.proofs.BuiltUnits.{at}
-use Rattle.source_sections.specs.SectionAnswers.{AreContributed, IsTold, sections_refused, source_units}
-use Rattle.source_sections.specs.SectionUnits.{sections_places}
 
 pub told_of : (rs : List SectionFault) (f : SectionFault) → first_refusal section_order rs ≡ Some f → IsTold rs f
 told_of rs (fault.MisplacedSpecial p) e = e

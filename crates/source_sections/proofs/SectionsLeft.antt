@@ -1,19 +1,6 @@
 -- Sections that are left behind what was walked.
 use Rattle.std.proofs.Common.{ℕ, Bool, List, [], ◌∷◌, ◌++◌}
-use Rattle.pld_device.specs.Table.{Table}
-use Rattle.abel_tree.specs.declared.names.Names.{Names}
-use Rattle.abel_tree.specs.Tree.{SectionTree}
-use Rattle.abel_meaning.specs.Directives.{after_section}
-use Rattle.abel_meaning.specs.FormulaBits.{formulas}
-use Rattle.abel_meaning.specs.Sections.{next_block, section_gives, sections_give}
-use Rattle.set_expr.specs.Contexts.{context_for}
-use Rattle.section_targets.specs.declared.manner.Manner.{Manner}
-use Rattle.section_targets.specs.declared.walked.Walked.{Walked}
-use Rattle.section_targets.specs.Manners.{AreFirsts}
-use Rattle.section_targets.specs.Walking.{Walks}
-use Rattle.section_targets.proofs.WalksBehind.{walks_none, walks_then}
-use Rattle.source_sections.specs.Reading.{WalksSection}
-use Rattle.source_sections.specs.SectionUnits.{section_manners, sections_manners, section_places, sections_places, units_of_section, units_of_sections}
+use Rattle.source_sections.proofs.Common.{Table, Names, SectionTree, after_section, formulas, next_block, section_gives, sections_give, context_for, Manner, Walked, AreFirsts, Walks, walks_none, walks_then, WalksSection, section_manners, sections_manners, section_places, sections_places, units_of_section, units_of_sections}
 
 -- what is walked of them from here on completes a walk over all
 abbrev pub AreLeft : Table → Names → (on : Bool) → (block : ℕ) → List SectionTree → (here : Walked) → (Walked → Type 0) → Type 0

@@ -1,33 +1,22 @@
 -- An EQUATIONS section is walked by its statements, a table by its rows, and a state diagram by its states.
 use Rattle.std.proofs.Common.{◌≡◌, ℕ, Bool, true, Option, None, Some, List, map, refl, sym, subst}
-use Rattle.bit_expr.specs.Arena.{arena, formula_at}
+use Rattle.source_sections.proofs.Common.{arena, formula_at, SectionTree, Equations, ATable, ADiagram, view, view_row, view_state, view_stmt, Context, formulas, section_gives, unguarded, view_guard, Manner, Walked, Walks, view_list, section_manners, section_places, units_of_section}
 use Rattle.bit_expr.specs.Formulas.{Formula, Const}
 use Rattle.abel_tree.specs.declared.diagrams.Diagram.{Diagram}
 use Rattle.abel_tree.specs.declared.statements.Stmt.{Stmt}
 use Rattle.abel_tree.specs.declared.tables.Table.{Table}
-use Rattle.abel_tree.specs.Tree.{SectionTree, Equations, ATable, ADiagram}
-use Rattle.abel_tree.specs.View.{view, view_row, view_state, view_stmt}
-use Rattle.abel_meaning.specs.Designs.{Context}
 use Rattle.abel_meaning.specs.Diagrams.{diagram_gives}
-use Rattle.abel_meaning.specs.FormulaBits.{formulas}
-use Rattle.abel_meaning.specs.Sections.{section_gives, unguarded}
 use Rattle.abel_meaning.specs.Statements.{statements_give}
 use Rattle.abel_meaning.specs.Tables.{table_gives}
 use Rattle.abel_meaning.specs.Terms.{term_of}
 use Rattle.set_expr.specs.declared.contributions.Guard.{Guard}
-use Rattle.set_expr.specs.Given.{view_guard}
-use Rattle.section_targets.specs.declared.manner.Manner.{Manner}
-use Rattle.section_targets.specs.declared.walked.Walked.{Walked}
 use Rattle.section_targets.specs.TargetSignals.{target_member}
-use Rattle.section_targets.specs.Walking.{Walks}
-use Rattle.equations.specs.Checks.{view_list}
 use Rattle.equations.specs.StatementUnits.{statements_manners, statements_places, units_of_statements}
 use Rattle.truth_tables.specs.OutputHeaders.{output_header}
 use Rattle.truth_tables.specs.TableUnits.{assigned_by}
 use Rattle.truth_tables.specs.TableWalks.{given_by, places_by, units_of}
 use Rattle.state_diagrams.specs.DiagramUnits.{diagram_manners}
 use Rattle.state_diagrams.specs.DiagramWalks as diagrams
-use Rattle.source_sections.specs.SectionUnits.{section_manners, section_places, units_of_section}
 
 -- no condition stands round a block or statements
 guard_open : (d : Context) (fs : List Formula) (g : Guard) (on : Bool) (block : Option ℕ) → formula_at fs g.when ≡ Const true → g.dontcare ≡ on → g.block ≡ block → view_guard fs g ≡ unguarded (formulas d) on block

@@ -1,20 +1,10 @@
 -- The answer for the units of a source, by its module.
 use Rattle.std.proofs.Common.{◌≡◌, Bool, false, List, [], map, refl, ap, subst, ◌∙◌}
-use Rattle.pld_device.specs.Table.{Table}
+use Rattle.source_sections.proofs.Common.{Table, Names, entries_of, view_decl, view_module, Design, after_declarations, design_for, given_formulas, Walked, Walks, WalksSections, view_sections, source_units, sections_manners, sections_places}
 use Rattle.abel_tree.specs.declared.declarations.Decl.{Decl}
-use Rattle.abel_tree.specs.declared.names.Names.{Names}
 use Rattle.abel_tree.specs.declared.sections.Module.{Module}
 use Rattle.abel_tree.specs.declared.sections.Section.{Section}
-use Rattle.abel_tree.specs.Entries.{entries_of}
-use Rattle.abel_tree.specs.View.{view_decl, view_module}
-use Rattle.abel_meaning.specs.Designs.{Design, after_declarations, design_for}
-use Rattle.abel_meaning.specs.SignalReads.{given_formulas}
 use Rattle.set_expr.specs.Answer.{IsContextOf}
-use Rattle.section_targets.specs.declared.walked.Walked.{Walked}
-use Rattle.section_targets.specs.Walking.{Walks}
-use Rattle.source_sections.specs.Reading.{WalksSections, view_sections}
-use Rattle.source_sections.specs.SectionAnswers.{source_units}
-use Rattle.source_sections.specs.SectionUnits.{sections_manners, sections_places}
 
 -- the design of a module with these names
 abbrev pub designed : Table → Names → Module → Design

@@ -1,7 +1,6 @@
 -- Behind the statements that are left it is what it is behind all.
 use Rattle.std.proofs.Common.{◌≡◌, drop}
-use Rattle.abel_meaning.specs.Directives.{after_statements}
-use Rattle.equations.specs.Checks.{view_list}
+use Rattle.source_sections.proofs.Common.{after_statements, view_list}
 use Rattle.source_sections.proofs.directives.+directives.Given as goal
 
 abbrev pub invariant-after_statements-loop-stmt : goal.invariant-after_statements-loop-stmt

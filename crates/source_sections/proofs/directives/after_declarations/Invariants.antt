@@ -1,7 +1,6 @@
 -- Behind the declarations that are left it is what it is behind all.
 use Rattle.std.proofs.Common.{◌≡◌, drop, map}
-use Rattle.abel_tree.specs.View.{view_decl}
-use Rattle.abel_meaning.specs.Designs.{after_declarations}
+use Rattle.source_sections.proofs.Common.{view_decl, after_declarations}
 use Rattle.source_sections.proofs.directives.after_declarations.Given as goal
 
 abbrev pub invariant-loop-decl : goal.invariant-loop-decl

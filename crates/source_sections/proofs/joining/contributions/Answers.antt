@@ -1,16 +1,7 @@
 -- Nothing is refused, and the first refusal.
 use Rattle.std.proofs.Common.{[], List, length, sym, ap, ap₂, subst, ◌∙◌}
-use Rattle.bit_expr.specs.Arena.{arena}
-use Rattle.abel_tree.specs.declared.names.Names.{Names}
-use Rattle.abel_tree.specs.Entries.{entries_of}
-use Rattle.abel_tree.specs.FirstRefusal.{first_refusal}
-use Rattle.set_expr.specs.declared.contributions.Contribution.{Contribution}
+use Rattle.source_sections.proofs.Common.{arena, Names, entries_of, first_refusal, Contribution, section_order, all_refused, fault_behind, standing, at, AreContributed, sections_refused, source_units}
 use Rattle.set_expr.specs.FoundNames.{constants_refused}
-use Rattle.set_expr.specs.SectionOrder.{section_order}
-use Rattle.section_targets.specs.Units.{all_refused}
-use Rattle.section_targets.specs.Walking.{fault_behind, standing}
-use Rattle.equations.proofs.BuiltUnits.{at}
-use Rattle.source_sections.specs.SectionAnswers.{AreContributed, sections_refused, source_units}
 use Rattle.source_sections.proofs.SectionsAnswered.{accepted_right, contributed, first_of, told_of}
 use Rattle.source_sections.proofs.SourceAnswers.{designed, source_walked}
 use Rattle.source_sections.proofs.joining.contributions.Goals as goal

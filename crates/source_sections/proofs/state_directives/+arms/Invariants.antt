@@ -1,7 +1,6 @@
 -- Behind the arms of CASE that are left it is what it is behind all.
 use Rattle.std.proofs.Common.{◌≡◌, drop}
-use Rattle.abel_meaning.specs.Directives.{after_choices}
-use Rattle.state_diagrams.specs.Arms.{view_choices}
+use Rattle.source_sections.proofs.Common.{after_choices, view_choices}
 use Rattle.source_sections.proofs.state_directives.+arms.Given as goal
 
 abbrev pub invariant-after_choices-loop-arm : goal.invariant-after_choices-loop-arm

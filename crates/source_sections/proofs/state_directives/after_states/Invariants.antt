@@ -1,7 +1,6 @@
 -- Behind the states that are left it is what it is behind all.
 use Rattle.std.proofs.Common.{◌≡◌, drop, map}
-use Rattle.abel_tree.specs.View.{view_state}
-use Rattle.abel_meaning.specs.Directives.{after_states}
+use Rattle.source_sections.proofs.Common.{view_state, after_states}
 use Rattle.source_sections.proofs.state_directives.after_states.Given as goal
 
 abbrev pub invariant-loop-state : goal.invariant-loop-state

@@ -1,12 +1,8 @@
 -- An EQUATIONS section, a table, a state diagram, and what nothing is walked of.
 use Rattle.std.proofs.Common.{◌≡◌, ℕ, None, Some, ap, inl, inr, map, refl, subst, sym, ◌∙◌}
+use Rattle.source_sections.proofs.Common.{SectionTree, Equations, view_section, view_stmt, context_for, walks_none, WalksSection}
 use Rattle.std.proofs.lemmas.Result.{on_ok_weaker}
-use Rattle.abel_tree.specs.Tree.{SectionTree, Equations}
-use Rattle.abel_tree.specs.View.{view_section, view_stmt}
-use Rattle.set_expr.specs.Contexts.{context_for}
 use Rattle.section_targets.proofs.MetWords.{high_bit}
-use Rattle.section_targets.proofs.WalksBehind.{walks_none}
-use Rattle.source_sections.specs.Reading.{WalksSection}
 use Rattle.source_sections.proofs.SectionsWalked.{diagram_walked, equations_walked, table_walked}
 use Rattle.source_sections.proofs.walking.walk_section.Goals as goal
 

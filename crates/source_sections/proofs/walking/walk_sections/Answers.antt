@@ -1,12 +1,6 @@
 -- One section, and those that are left.
 use Rattle.std.proofs.Common.{◌≡◌, ◌+◌, [], ◌∷◌, List, drop, refl, sym, ap, subst, arith}
-use Rattle.std.proofs.lemmas.List.{at_drop_all}
-use Rattle.abel_tree.specs.View.{view_section}
-use Rattle.abel_meaning.specs.Directives.{after_section}
-use Rattle.section_targets.specs.declared.manner.Manner.{Manner}
-use Rattle.section_targets.specs.declared.walked.Walked.{Walked}
-use Rattle.section_targets.specs.Manners.{AreFirsts}
-use Rattle.source_sections.specs.Reading.{WalksSections, view_sections}
+use Rattle.source_sections.proofs.Common.{at_drop_all, view_section, after_section, Manner, Walked, AreFirsts, WalksSections, view_sections}
 use Rattle.source_sections.proofs.LeftBehind.{left_next}
 use Rattle.source_sections.proofs.SectionsLeft.{AreLeft, all_walked, one_walked}
 use Rattle.source_sections.proofs.walking.walk_sections.Goals as goal
