@@ -1,43 +1,8 @@
 -- What is refused of a unit doesn't depend on its guard, which so counts only where nothing was refused before.
 use Rattle.std.proofs.Common.{◌≡◌, ℕ, false, Result, Option, None, Some, List, [], ◌∷◌, ◌++◌, ◌<◌, length, refl, sym, ap, ◌∙◌, subst, append-nil}
-use Rattle.pld_base.specs.declared.place.Place.{Place}
-use Rattle.bit_expr.specs.Arena.{arena, formula_at}
-use Rattle.bit_expr.specs.Formulas.{Formula}
-use Rattle.abel_tree.specs.Tree.{Statements}
+use Rattle.state_diagrams.proofs.Common.{Place, arena, formula_at, Formula, Statements, guarded, Context, formulas, statements_give, Guard, SectionFault, Keeps, Manner, Walked, AreFirsts, CountedUnit, units_refused, Walks, kept_formula, clear_before, walks_alike, walks_then, statements_manners, statements_places, units_of_statements, guard_kept, guard_view, StandsFor, WalksUnder, WalksWork, Work, before, context_for, is_some, Node, earlier, first_refusal, section_order, Builds, BuildsNodes, part, AfterMaking, standing, whole, unit_made, view_guard, Table, Names, WalksStatements}
 use Rattle.abel_meaning.specs.Contributions as meant
-use Rattle.abel_meaning.specs.Contributions.{guarded}
-use Rattle.abel_meaning.specs.Designs.{Context}
-use Rattle.abel_meaning.specs.FormulaBits.{formulas}
-use Rattle.abel_meaning.specs.Statements.{statements_give}
-use Rattle.set_expr.specs.declared.contributions.Guard.{Guard}
-use Rattle.set_expr.specs.declared.fault.SectionFault.{SectionFault}
-use Rattle.set_expr.specs.Answer.{Keeps}
-use Rattle.section_targets.specs.declared.manner.Manner.{Manner}
-use Rattle.section_targets.specs.declared.walked.Walked.{Walked}
-use Rattle.section_targets.specs.Manners.{AreFirsts}
-use Rattle.section_targets.specs.Units.{CountedUnit, units_refused}
-use Rattle.section_targets.specs.Walking.{Walks}
-use Rattle.section_targets.proofs.Built.{kept_formula}
-use Rattle.section_targets.proofs.WalksBehind.{clear_before, walks_alike, walks_then}
-use Rattle.equations.specs.StatementUnits.{statements_manners, statements_places, units_of_statements}
-use Rattle.equations.proofs.BuiltUnits.{guard_kept, guard_view}
 use Rattle.equations.proofs.WalkedStatements.{any_guards}
-use Rattle.state_diagrams.specs.DiagramWalks.{StandsFor, WalksUnder, WalksWork}
-use Rattle.truth_tables.specs.Works.{Work, before}
-use Rattle.set_expr.specs.Contexts.{context_for}
-use Rattle.std.specs.Option.{is_some}
-use Rattle.bit_expr.specs.declared.node.Node.{Node}
-use Rattle.abel_tree.specs.FirstRefusal.{earlier, first_refusal}
-use Rattle.set_expr.specs.SectionOrder.{section_order}
-use Rattle.section_targets.specs.Building.{Builds, BuildsNodes}
-use Rattle.section_targets.specs.Units.{part}
-use Rattle.section_targets.specs.Walking.{AfterMaking, standing}
-use Rattle.equations.proofs.BuiltParts.{whole}
-use Rattle.equations.proofs.WalkedUnits.{unit_made}
-use Rattle.set_expr.specs.Given.{view_guard}
-use Rattle.pld_device.specs.Table.{Table}
-use Rattle.abel_tree.specs.declared.names.Names.{Names}
-use Rattle.equations.specs.StatementWalks.{WalksStatements}
 
 -- works that are refused alike, and are the same where nothing was refused before
 work_alike : (all ms : List Manner) (v w : Work) (old new : Walked) → units_refused v.units ≡ units_refused w.units → (old.fault ≡ None → v ≡ w) → WalksWork all v ms old new → WalksWork all w ms old new

@@ -1,15 +1,9 @@
 -- Transitions of the code at each kind.
 use Rattle.std.proofs.Common.{◌≡◌, rules}
 use Rattle.std.specs.Prelude.{option_map}
-use Rattle.abel_tree.specs.declared.diagrams.Arm.{the_lemmas}
+use Rattle.state_diagrams.proofs.Common.{the_lemmas, CaseArm, Goal, If, AnIf, ACase, other_of, view, view_arm, view_choice, case_choices, case_place, view_goal, view_if}
 use Rattle.abel_tree.specs.declared.diagrams.Arm.TheVariants as arm
 use Rattle.abel_tree.specs.declared.diagrams.Case.{Case}
-use Rattle.abel_tree.specs.declared.diagrams.CaseArm.{CaseArm}
-use Rattle.abel_tree.specs.declared.diagrams.Goal.{Goal}
-use Rattle.abel_tree.specs.declared.diagrams.If.{If}
-use Rattle.abel_tree.specs.Tree.{AnIf, ACase, other_of}
-use Rattle.abel_tree.specs.View.{view, view_arm, view_choice}
-use Rattle.state_diagrams.specs.Arms.{case_choices, case_place, view_goal, view_if}
 
 pub view_goaled : (g : Goal) → view_arm (arm.Goal g) ≡ view_goal g
 view_goaled g = search (rules, the_lemmas)

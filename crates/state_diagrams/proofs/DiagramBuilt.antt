@@ -1,39 +1,11 @@
 -- States with the matches of other signals, and a whole diagram behind its registers.
 use Rattle.std.proofs.Common.{◌≡◌, false, true, Option, None, Some, List, [], ◌∷◌, ◌++◌, Result, Ok, length, map, drop, refl, sym, ap, ap₂, ◌∙◌, subst, subst₂, arith, append_assoc, append-nil}
-use Rattle.std.proofs.Math.Seq.{drop-append_seam}
-use Rattle.pld_base.specs.declared.place.Place.{Place}
-use Rattle.bit_expr.specs.declared.node.ExprId.{ExprId}
-use Rattle.bit_expr.specs.Arena.{arena}
-use Rattle.bit_expr.specs.Formulas.{Formula}
-use Rattle.abel_tree.specs.Tree.{StateTree}
+use Rattle.state_diagrams.proofs.Common.{drop-append_seam, Place, ExprId, arena, Formula, StateTree, Context, other_matches, registers_given, states_give, formulas, no_matches, Contribution, Contributions, SectionFault, view_contribution, Aim, Manner, Walked, AreBits, IsBuilt, Builds, AreFirsts, Walks, standing, walks_made, walks_then, places_of, signals_of, units_of_states, Work, before, DoesWork, matches_beside, other_firsts, other_places, pushed_for, no_block, states_places, WalksWork, header_work, others_work, registers_work, state_bits, states_work}
 use Rattle.abel_meaning.specs.Contributions as meant
-use Rattle.abel_meaning.specs.Designs.{Context}
-use Rattle.abel_meaning.specs.Diagrams.{other_matches, registers_given, states_give}
-use Rattle.abel_meaning.specs.FormulaBits.{formulas}
-use Rattle.abel_meaning.specs.Tables.{no_matches}
-use Rattle.set_expr.specs.declared.contributions.Contribution.{Contribution}
-use Rattle.set_expr.specs.declared.contributions.Contributions.{Contributions}
-use Rattle.set_expr.specs.declared.fault.SectionFault.{SectionFault}
-use Rattle.set_expr.specs.Given.{view_contribution}
-use Rattle.section_targets.specs.declared.aim.Aim.{Aim}
-use Rattle.section_targets.specs.declared.manner.Manner.{Manner}
-use Rattle.section_targets.specs.declared.walked.Walked.{Walked}
-use Rattle.section_targets.specs.Building.{AreBits, IsBuilt, Builds}
-use Rattle.section_targets.specs.Manners.{AreFirsts}
-use Rattle.section_targets.specs.Walking.{Walks, standing}
-use Rattle.section_targets.proofs.WalksBehind.{walks_made, walks_then}
-use Rattle.section_targets.specs.Given.{places_of}
-use Rattle.state_diagrams.specs.DiagramUnits.{signals_of, units_of_states}
 use Rattle.truth_tables.specs.TableUnits as tables
 use Rattle.truth_tables.specs.Gives as header
-use Rattle.truth_tables.specs.Works.{Work, before}
-use Rattle.truth_tables.proofs.WorkLaws.{DoesWork}
-use Rattle.state_diagrams.specs.Matches.{matches_beside, other_firsts, other_places, pushed_for}
 use Rattle.state_diagrams.proofs.MatchLaws.{pushed_meant}
 use Rattle.state_diagrams.proofs.GuardsOfStates.{others_matched, places_of_any}
-use Rattle.state_diagrams.specs.DiagramPlaces.{no_block, states_places}
-use Rattle.state_diagrams.specs.DiagramWalks.{WalksWork}
-use Rattle.state_diagrams.specs.DiagramWorks.{header_work, others_work, registers_work, state_bits, states_work}
 use Rattle.state_diagrams.proofs.StateBits.{states_counted}
 
 -- ---- other signals

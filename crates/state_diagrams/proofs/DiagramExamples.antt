@@ -1,20 +1,13 @@
 -- What is refused of state diagrams, by computation. a is a pin, Q and R are registers on cells, Y a combinational
 -- output, s is the constant 2; each line has one token that counts.
+use Rattle.state_diagrams.proofs.Common.{Place, Kind, APin, AConstant, Words, Entry, Tree, ANumber, ASpecial, AName, ASet, ABinary, SetMember, OneMember, members_of, AnAssign, Branch, AGoal, AnIf, ACase, NoBranch, ABranch, NoChoice, MoreChoices, StateTree, Context, context_of, SectionFault, MisplacedSpecial, BadWidth, NotAnOutput, MixedAssignment, BadState, units_refused, units_of_diagram}
 use Prim.Native.String.{String}
 use Rattle.std.specs.Prelude.{◌≡◌, ℕ, Bool, true, false, None, Some, List, [], ◌∷◌, codes}
 use Rattle.std.proofs.Common.{refl}
-use Rattle.pld_base.specs.declared.place.Place.{Place}
 use Rattle.pld_device.specs.SampleTable.{sample}
 use Rattle.abel_tree.specs.declared.words.Binary.TheVariants as binary
 use Rattle.abel_tree.specs.declared.words.Sign.TheVariants as sign
 use Rattle.abel_tree.specs.declared.words.Word.{Word}
-use Rattle.abel_tree.specs.Entries.{Kind, APin, AConstant, Words, Entry}
-use Rattle.abel_tree.specs.Tree.{Tree, ANumber, ASpecial, AName, ASet, ABinary, SetMember, OneMember, members_of, AnAssign, Branch, AGoal, AnIf, ACase, NoBranch, ABranch, NoChoice, MoreChoices, StateTree}
-use Rattle.abel_meaning.specs.Designs.{Context, context_of}
-use Rattle.set_expr.specs.declared.fault.SectionFault.{SectionFault}
-use Rattle.set_expr.specs.declared.fault.SectionFault.TheVariants.{MisplacedSpecial, BadWidth, NotAnOutput, MixedAssignment, BadState}
-use Rattle.section_targets.specs.Units.{units_refused}
-use Rattle.state_diagrams.specs.DiagramUnits.{units_of_diagram}
 
 abbrev at : ℕ → Place
 at l = record { line = l; column = 1 }

@@ -1,45 +1,9 @@
 -- What registers are given, one after another, and the unit of a goal.
 use Rattle.std.proofs.Common.{◌≡◌, ℕ, ◌+◌, ◌<◌, ◌≤◌, false, true, None, List, [], ◌∷◌, Result, Ok, Err, length, drop, get_or, refl, sym, ap, ap₂, ◌∙◌, subst, subst₂, arith, add-one}
-use Rattle.std.proofs.lemmas.List.{drop_all}
-use Rattle.std.proofs.Math.Seq.{drop-cons}
-use Rattle.pld_base.specs.declared.place.Place.{Place}
-use Rattle.bit_expr.specs.Folding.{make_and}
-use Rattle.bit_expr.specs.Formulas.{Formula}
-use Rattle.abel_tree.specs.declared.diagrams.Goal.{Goal}
-use Rattle.abel_tree.specs.View.{view}
+use Rattle.state_diagrams.proofs.Common.{drop_all, drop-cons, Place, make_and, Formula, Goal, view, contribution, guard_nodes, term_nodes, Context, goal_gives, formulas, match_of, term_of, Contributions, stops_longer, SectionFault, Aim, StopsWith, IsBuilt, Builds, part, units_nodes, builds_then, builds_stop, AreParts, one_unit, signals_of, IsDone, Work, before, AfterStep, DoesWork, IsLeft, left_done, left_step, length-map, Const, ExprId, arena, formula_at, Guard, view_guard, Walked, AreBits, standing, bits_length, goal_parts, goal_unit, goal_work, goal_places}
 use Rattle.abel_meaning.specs.Contributions as meant
-use Rattle.abel_meaning.specs.Contributions.{contribution}
-use Rattle.abel_meaning.specs.CountedNodes.{guard_nodes, term_nodes}
-use Rattle.abel_meaning.specs.Designs.{Context}
-use Rattle.abel_meaning.specs.Diagrams.{goal_gives}
-use Rattle.abel_meaning.specs.FormulaBits.{formulas}
-use Rattle.abel_meaning.specs.Tables.{match_of}
-use Rattle.abel_meaning.specs.Terms.{term_of}
-use Rattle.set_expr.specs.declared.contributions.Contributions.{Contributions}
 use Rattle.section_targets.proofs.Gives.{stops_nodes}
-use Rattle.equations.proofs.BuiltParts.{stops_longer}
-use Rattle.set_expr.specs.declared.fault.SectionFault.{SectionFault}
-use Rattle.section_targets.specs.declared.aim.Aim.{Aim}
-use Rattle.section_targets.specs.Building.{StopsWith, IsBuilt, Builds}
-use Rattle.section_targets.specs.Units.{part, units_nodes}
-use Rattle.section_targets.proofs.Built.{builds_then, builds_stop}
-use Rattle.section_targets.proofs.OneUnit.{AreParts, one_unit}
-use Rattle.state_diagrams.specs.DiagramUnits.{signals_of}
-use Rattle.truth_tables.specs.Works.{IsDone, Work, before}
-use Rattle.truth_tables.proofs.WorkLaws.{AfterStep, DoesWork, IsLeft, left_done, left_step}
-use Rattle.std.proofs.lemmas.List.{length-map}
-use Rattle.bit_expr.specs.Formulas.{Const}
-use Rattle.bit_expr.specs.declared.node.ExprId.{ExprId}
-use Rattle.bit_expr.specs.Arena.{arena, formula_at}
-use Rattle.set_expr.specs.declared.contributions.Guard.{Guard}
-use Rattle.set_expr.specs.Given.{view_guard}
-use Rattle.section_targets.specs.declared.walked.Walked.{Walked}
-use Rattle.section_targets.specs.Building.{AreBits}
-use Rattle.section_targets.specs.Walking.{standing}
-use Rattle.equations.proofs.BuiltParts.{bits_length}
 use Rattle.state_diagrams.proofs.StateBits.{bit_at}
-use Rattle.state_diagrams.specs.Goals.{goal_parts, goal_unit, goal_work}
-use Rattle.state_diagrams.specs.Places.{goal_places}
 
 -- ---- one register
 

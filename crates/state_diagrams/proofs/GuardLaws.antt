@@ -1,53 +1,11 @@
 -- The unit of the conditions of CASE with their first refusal, and the guards of its arms.
 use Rattle.std.proofs.Common.{◌≡◌, ℕ, zero, suc, ◌<◌, false, true, Bool, Option, None, Some, List, [], ◌∷◌, ◌++◌, if◌then◌else◌, Result, Ok, length, map, get_or, refl, sym, ap, ◌∙◌, subst, arith}
 use Rattle.std.specs.Prelude.{◌==◌}
-use Rattle.std.proofs.lemmas.List.{get_or-map, length-map}
-use Rattle.pld_base.specs.declared.place.Place.{Place}
-use Rattle.bit_expr.specs.declared.node.ExprId.{ExprId}
-use Rattle.bit_expr.specs.Arena.{formula_at}
-use Rattle.bit_expr.specs.Formulas.{Formula, Const}
-use Rattle.abel_tree.specs.declared.names.Names.{Names}
-use Rattle.abel_tree.specs.Entries.{entries_of}
-use Rattle.abel_tree.specs.FirstRefusal.{first_refusal, earlier}
-use Rattle.abel_tree.specs.declared.diagrams.CaseArm.{CaseArm}
-use Rattle.abel_tree.specs.View.{view, view_choice}
+use Rattle.state_diagrams.proofs.Common.{get_or-map, length-map, Place, ExprId, formula_at, Formula, Const, Names, entries_of, first_refusal, earlier, CaseArm, view, view_choice, choices_of, Tree, Branch, guarded, choices_nodes, choice_nodes, condition_of, guard_then, Context, formulas, Number, Single, Set, Value, Contributions, SectionFault, BadWidth, Guard, refusal_of, view_guard, section_order, expression_found, Found, AreBits, IsBuilt, StopsWith, Builds, part, value_refused, value_width, wrong_width, builds_none, both_empty, left_empty, right_empty, one_unit, two_parts, condition_refused, bits_length, stops_longer, choices_refused, BuildsConditions, arm_guards, case_unit, is_some, Choices, arena, Node, Manner, Walked, AreFirsts, AfterMaking, Walks, earlier_assoc, first_append}
 use Rattle.state_diagrams.proofs.ArmViews.{choice_parts}
-use Rattle.abel_tree.specs.Tree.{choices_of, Tree, Branch}
-use Rattle.abel_meaning.specs.Contributions.{guarded}
-use Rattle.abel_meaning.specs.CountedBlocks.{choices_nodes}
-use Rattle.abel_meaning.specs.CountedNodes.{choice_nodes, condition_of, guard_then}
-use Rattle.abel_meaning.specs.Designs.{Context}
-use Rattle.abel_meaning.specs.FormulaBits.{formulas}
-use Rattle.abel_meaning.specs.Numbers.{Shape, Number, Single, Set, Value}
-use Rattle.set_expr.specs.declared.contributions.Contributions.{Contributions}
-use Rattle.set_expr.specs.declared.fault.SectionFault.{SectionFault}
-use Rattle.set_expr.specs.declared.fault.SectionFault.TheVariants.{BadWidth}
-use Rattle.set_expr.specs.declared.contributions.Guard.{Guard}
-use Rattle.set_expr.specs.Answer.{refusal_of}
-use Rattle.set_expr.specs.Given.{view_guard}
-use Rattle.set_expr.specs.SectionOrder.{section_order}
-use Rattle.set_expr.specs.FoundNames.{expression_found}
-use Rattle.set_expr.specs.Refusals.{Found}
-use Rattle.section_targets.specs.Building.{AreBits, IsBuilt, StopsWith, Builds}
-use Rattle.section_targets.specs.Units.{part}
-use Rattle.section_targets.specs.ValueWidths.{value_refused, value_width, wrong_width}
-use Rattle.section_targets.proofs.Built.{builds_none, both_empty, left_empty, right_empty}
-use Rattle.section_targets.proofs.OneUnit.{one_unit, two_parts}
-use Rattle.equations.specs.StatementUnits.{condition_refused}
-use Rattle.equations.proofs.BuiltParts.{bits_length, stops_longer}
-use Rattle.state_diagrams.specs.DiagramUnits.{choices_refused}
-use Rattle.state_diagrams.specs.ArmGuards.{BuildsConditions, arm_guards, case_unit}
-use Rattle.std.specs.Option.{is_some}
-use Rattle.abel_tree.specs.Tree.{Choices}
-use Rattle.bit_expr.specs.Arena.{arena}
-use Rattle.bit_expr.specs.declared.node.Node.{Node}
-use Rattle.section_targets.specs.declared.manner.Manner.{Manner}
-use Rattle.section_targets.specs.declared.walked.Walked.{Walked}
-use Rattle.section_targets.specs.Manners.{AreFirsts}
-use Rattle.section_targets.specs.Walking.{AfterMaking, Walks}
+use Rattle.abel_meaning.specs.Numbers.{Shape}
 use Rattle.state_diagrams.proofs.AnyGuards.{nodes_made}
 use Rattle.state_diagrams.proofs.StateBits.{bit_at}
-use Rattle.abel_tree.proofs.FirstRefusals.{earlier_assoc, first_append}
 
 abbrev pub first : List SectionFault → Option SectionFault
 first rs = first_refusal section_order rs

@@ -1,5 +1,6 @@
 pub mod AnyGuards
 pub mod ArmViews
+pub mod Common
 pub mod DiagramBuilt
 mod DiagramExamples
 pub mod GoalWorks

@@ -1,29 +1,9 @@
 -- A bit that is made in parts, and the literals of registers, one after another.
 use Rattle.std.proofs.Common.{◌≡◌, ℕ, ◌+◌, ◌<◌, ◌≤◌, Bool, true, List, [], ◌∷◌, Result, Ok, Err, length, drop, get_or, refl, sym, ap, ap₂, ◌∙◌, subst, subst₂, arith}
-use Rattle.std.proofs.lemmas.List.{at_drop_more, drop_all, length-reverse}
-use Rattle.pld_base.specs.declared.place.Place.{Place}
-use Rattle.bit_expr.specs.declared.node.ExprId.{ExprId}
-use Rattle.bit_expr.specs.declared.node.Node.{Node}
-use Rattle.bit_expr.specs.Arena.{arena, formula_at}
-use Rattle.bit_expr.specs.Folding.{Made, free, ◌>>=◌}
-use Rattle.bit_expr.specs.Formulas.{Formula, Const}
-use Rattle.abel_meaning.specs.Designs.{Context}
-use Rattle.abel_meaning.specs.Numbers.{digits, digits_low_first}
-use Rattle.abel_meaning.proofs.DigitLaws.{length_digits}
-use Rattle.set_expr.specs.declared.fault.SectionFault.{SectionFault}
+use Rattle.state_diagrams.proofs.Common.{at_drop_more, drop_all, length-reverse, Place, ExprId, Node, arena, formula_at, Made, free, ◌>>=◌, Formula, Const, Context, digits, digits_low_first, length_digits, SectionFault, Keeps, Aim, high_bit, two_parts, NoMemory, built_nodes, leaves_nodes, limit_here, stops_longer, MakesBit, bare_read, register_literal, literals, make_literal, kept_formula}
 use Rattle.set_expr.specs.declared.fault.SectionFault.TheVariants as fault
-use Rattle.set_expr.specs.Answer.{Keeps}
 use Rattle.expr_bits.specs.Making.{ShowsOne, IsMade, IsPast}
 use Rattle.expr_bits.proofs.Making.{made_is, grew_none}
-use Rattle.section_targets.specs.declared.aim.Aim.{Aim}
-use Rattle.section_targets.proofs.MetWords.{high_bit}
-use Rattle.section_targets.proofs.OneUnit.{two_parts}
-use Rattle.section_targets.specs.Building.{NoMemory}
-use Rattle.section_targets.proofs.Parts.{built_nodes, leaves_nodes, limit_here}
-use Rattle.equations.proofs.BuiltParts.{stops_longer}
-use Rattle.state_diagrams.specs.StateGuards.{MakesBit, bare_read, register_literal, literals}
-use Rattle.abel_meaning.specs.CountedBlocks.{make_literal}
-use Rattle.section_targets.proofs.Built.{kept_formula}
 
 -- ---- a bit, by what making it leaves
 

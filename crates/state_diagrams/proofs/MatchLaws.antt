@@ -1,21 +1,11 @@
 -- What is pushed is what is meant.
 use Rattle.std.proofs.Common.{◌≡◌, ℕ, ◌<◌, ◌==◌, Bool, true, false, not, ◌&&◌, ◌||◌, cond, List, [], ◌∷◌, ◌++◌, All, map, length, refl, sym, ap, ap₂, ◌∙◌, subst, arith}
 use Rattle.std.specs.Prelude.{filter, if◌then◌else◌}
+use Rattle.state_diagrams.proofs.Common.{map-append, All-append, All-map, Place, ExprId, formula_at, Formula, first_of_each, is_other, Contribution, view_contribution, AreIn, match_beside, matches_beside, other_places, times, is_among, pushed_beside, pushed_if, seen_if, pushed_for}
 use Rattle.std.proofs.lemmas.Bool.{eqb-true}
-use Rattle.std.proofs.lemmas.List.{map-append}
-use Rattle.std.proofs.lemmas.List.Elements.{All-append, All-map}
 use Rattle.std.proofs.lemmas.List.Folds.{list_any-append}
 use Rattle.std.proofs.lemmas.Simd.{map-map}
-use Rattle.pld_base.specs.declared.place.Place.{Place}
-use Rattle.bit_expr.specs.declared.node.ExprId.{ExprId}
-use Rattle.bit_expr.specs.Arena.{formula_at}
-use Rattle.bit_expr.specs.Formulas.{Formula}
 use Rattle.abel_meaning.specs.Contributions as meant
-use Rattle.abel_meaning.specs.Diagrams.{first_of_each, is_other}
-use Rattle.set_expr.specs.declared.contributions.Contribution.{Contribution}
-use Rattle.set_expr.specs.Given.{view_contribution}
-use Rattle.section_targets.specs.Given.{AreIn}
-use Rattle.state_diagrams.specs.Matches.{match_beside, matches_beside, other_places, times, is_among, pushed_beside, pushed_if, seen_if, pushed_for}
 
 -- ---- signals that are seen, in any order
 

@@ -1,35 +1,18 @@
 -- The number of a value that reads no signal, by its bits where all signals are 0.
 use Rattle.std.proofs.Common.{◌≡◌, ℕ, zero, suc, ◌+◌, ◌*◌, ◌<◌, ◌≤◌, Bool, true, false, ◌||◌, Option, None, Some, List, [], ◌∷◌, length, map, get_or, drop, refl, sym, ap, ap₂, ◌∙◌, subst, arith, length-drop, drop-cons, add-one}
+use Rattle.state_diagrams.proofs.Common.{ExprId, formula_at, Formula, formula_value, Names, entries_of, Tree, none_refused, Context, bits_of, Value, width_of, number_with, Term, Terms, known_of, term_of, term_value, set_value, constant_of, nowhere, binary_value, unary_value, joined_value, number_small, number_of_digits, SectionFault, IsShaped, bits_at, positions, refusal_of, expression_found, section_order, reads_signal, any_reads_signal, all_zero, level_of}
 use Rattle.std.proofs.Math.Pow.{pow_mono}
 use Rattle.pld_base.specs.Points.{Levels}
-use Rattle.bit_expr.specs.declared.node.ExprId.{ExprId}
-use Rattle.bit_expr.specs.Arena.{formula_at}
-use Rattle.bit_expr.specs.Formulas.{Formula, formula_value}
-use Rattle.abel_tree.specs.declared.names.Names.{Names}
-use Rattle.abel_tree.specs.Entries.{entries_of}
-use Rattle.abel_tree.specs.Tree.{Tree}
-use Rattle.abel_tree.proofs.FirstRefusals.{none_refused}
-use Rattle.abel_meaning.specs.Designs.{Context}
-use Rattle.abel_meaning.specs.FormulaBits.{bits_of}
-use Rattle.abel_meaning.specs.Numbers.{Value, width_of, number_with}
 use Rattle.abel_meaning.specs.Numbers as number
-use Rattle.abel_meaning.specs.Terms.{Term, Terms, known_of, term_of}
 use Rattle.abel_meaning.specs.Terms as term
-use Rattle.abel_meaning.specs.Values.{term_value, set_value, constant_of, nowhere, binary_value, unary_value, joined_value}
-use Rattle.abel_meaning.proofs.DigitLaws.{number_small, number_of_digits}
 use Rattle.abel_meaning.proofs.FormulasFollow.{term_agrees}
 use Rattle.abel_meaning.proofs.TermValues.{HasBits}
-use Rattle.set_expr.specs.declared.fault.SectionFault.{SectionFault}
 use Rattle.set_expr.specs.declared.shaped.Shape.{Shape}
 use Rattle.set_expr.specs.declared.shaped.Shape.TheVariants as shape
 use Rattle.set_expr.specs.declared.shaped.Shaped.{Shaped}
-use Rattle.set_expr.specs.Answer.{AreIn, IsShaped, bits_at, positions, refusal_of}
-use Rattle.set_expr.specs.FoundNames.{expression_found}
-use Rattle.set_expr.specs.SectionOrder.{section_order}
+use Rattle.set_expr.specs.Answer.{AreIn}
 use Rattle.set_expr.specs.Shapes.{HasShape}
 use Rattle.expr_bits.proofs.Linked.{IsLinkedIf, expression_linked}
-use Rattle.expr_bits.specs.Reads.{reads_signal, any_reads_signal}
-use Rattle.state_diagrams.specs.Still.{all_zero, level_of}
 
 -- ---- what reads no signal has one value at all points
 

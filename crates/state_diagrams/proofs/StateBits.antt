@@ -1,28 +1,8 @@
 -- The bit of a state is where the present state has the value; bits in an arena that grows.
 use Rattle.std.proofs.Common.{◌≡◌, zero, suc, ◌<◌, false, List, [], ◌∷◌, ◌++◌, All, length, map, get_or, refl, sym, ap, ap₂, ◌∙◌, subst, arith, ℕ, Bool, true}
-use Rattle.std.proofs.lemmas.List.{get_or-map, length-map, map-append}
-use Rattle.std.proofs.lemmas.List.Elements.{All-append}
-use Rattle.bit_expr.specs.declared.node.ExprId.{ExprId}
-use Rattle.bit_expr.specs.Arena.{formula_at}
-use Rattle.bit_expr.specs.Formulas.{Formula, Const}
-use Rattle.abel_tree.specs.Tree.{StateTree}
-use Rattle.abel_meaning.specs.Designs.{Context}
-use Rattle.set_expr.specs.Answer.{Keeps}
-use Rattle.section_targets.specs.declared.aim.Aim.{Aim}
-use Rattle.section_targets.specs.Building.{IsBit, AreBits}
-use Rattle.section_targets.proofs.Built.{kept_formula, kept_inside}
-use Rattle.state_diagrams.specs.DiagramWorks.{state_bit, state_bits}
+use Rattle.state_diagrams.proofs.Common.{get_or-map, length-map, map-append, All-append, ExprId, formula_at, Formula, Const, StateTree, Context, Keeps, Aim, IsBit, AreBits, kept_formula, kept_inside, state_bit, state_bits, make_not, make_and, condition, register_literals, registers_equal, is_state, formulas, digits, Term, constant_of, number_guard}
 use Rattle.std.specs.Prelude.{None}
-use Rattle.bit_expr.specs.Folding.{make_not, make_and}
-use Rattle.abel_meaning.specs.Contributions.{condition}
-use Rattle.abel_meaning.specs.CountedBlocks.{register_literals}
-use Rattle.abel_meaning.specs.Diagrams.{registers_equal, is_state}
-use Rattle.abel_meaning.specs.FormulaBits.{formulas}
-use Rattle.abel_meaning.specs.Numbers.{digits}
-use Rattle.abel_meaning.specs.Terms.{Term}
 use Rattle.abel_meaning.specs.Terms as term
-use Rattle.abel_meaning.specs.Values.{constant_of}
-use Rattle.state_diagrams.specs.StateGuards.{number_guard}
 
 abbrev InArena : List Formula → List ExprId → Type 0
 InArena fs ids = All (λ (id : ExprId). id.0 < length fs) ids

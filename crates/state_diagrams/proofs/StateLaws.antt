@@ -1,31 +1,12 @@
 -- What is refused of registers and of the values of states.
 use Rattle.std.proofs.Common.{◌≡◌, ℕ, ◌^◌, Bool, true, false, not, ◌&&◌, nat_lt, Option, None, Some, List, [], ◌∷◌, ◌++◌, if◌then◌else◌, refl, ap, ◌≤◌, length, map, sym, ◌∙◌, subst, append-nil}
 use Rattle.std.specs.Prelude.{◌==◌}
-use Rattle.std.specs.List.{list_any}
-use Rattle.pld_base.specs.declared.place.Place.{Place}
-use Rattle.abel_tree.specs.Tree.{Tree, StateTree}
-use Rattle.abel_tree.proofs.FirstRefusals.{none_refused}
-use Rattle.abel_meaning.specs.Designs.{Context}
-use Rattle.abel_meaning.specs.Terms.{term_of, known_of}
-use Rattle.set_expr.specs.declared.fault.SectionFault.{SectionFault}
-use Rattle.set_expr.specs.declared.fault.SectionFault.TheVariants.{BadState}
-use Rattle.set_expr.specs.Refusals.{Found}
-use Rattle.set_expr.specs.SectionOrder.{section_order}
-use Rattle.expr_bits.specs.Reads.{reads_signal}
-use Rattle.section_targets.specs.declared.manner.Manner.{Manner}
-use Rattle.state_diagrams.specs.DiagramUnits.{manners_behind, register_manners}
-use Rattle.state_diagrams.specs.StateValues.{if_none, is_empty, is_state_of, listed_after, listed_with, state_number, state_refused, state_value_refused, listed_if}
+use Rattle.state_diagrams.proofs.Common.{list_any, Place, Tree, StateTree, none_refused, Context, term_of, known_of, SectionFault, BadState, Found, section_order, reads_signal, Manner, manners_behind, register_manners, if_none, is_empty, is_state_of, listed_after, listed_with, state_number, state_refused, state_value_refused, listed_if, Aim, AreNamed, aims_refused, manner_of, TargetFound, target_member, unless_any, AreRegisters}
 use Rattle.state_diagrams.proofs.GuardLaws.{first}
-use Rattle.section_targets.specs.declared.aim.Aim.{Aim}
 use Rattle.section_targets.specs.declared.sides.Side.{Side}
-use Rattle.section_targets.specs.Given.{AreNamed}
-use Rattle.section_targets.specs.Manners.{aims_refused, manner_of}
 use Rattle.section_targets.specs.NamedTargets.{IsSide}
-use Rattle.section_targets.specs.TargetSignals.{TargetFound, target_member}
 use Rattle.section_targets.proofs.SignalLists.{side_all}
 use Rattle.section_targets.proofs.SmallTargets.{member_few}
-use Rattle.equations.specs.StatementUnits.{unless_any}
-use Rattle.state_diagrams.specs.Registers.{AreRegisters}
 
 -- ---- values
 

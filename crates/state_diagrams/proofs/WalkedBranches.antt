@@ -1,57 +1,12 @@
 -- Walks over transitions, part by part.
 use Rattle.std.proofs.Common.{◌≡◌, ℕ, ◌+◌, ◌<◌, Bool, true, Option, None, Some, List, [], ◌∷◌, ◌++◌, length, map, drop, get_or, refl, sym, ap, ◌∙◌, subst}
-use Rattle.std.proofs.lemmas.List.{at_drop_more}
-use Rattle.pld_base.specs.declared.place.Place.{Place}
-use Rattle.pld_device.specs.Table.{Table}
-use Rattle.bit_expr.specs.Arena.{arena}
-use Rattle.bit_expr.specs.Formulas.{Formula}
-use Rattle.abel_tree.specs.declared.diagrams.Goal.{Goal}
-use Rattle.abel_tree.specs.Tree.{Tree, Branch, AnIf, ACase, OtherBranch, NoBranch, ABranch, Choices, choices_of}
-use Rattle.abel_tree.specs.View.{view}
+use Rattle.state_diagrams.proofs.Common.{at_drop_more, Place, Table, arena, Formula, Goal, Tree, Branch, AnIf, ACase, OtherBranch, NoBranch, ABranch, Choices, choices_of, view, guarded, has_other, choice_nodes, condition_of, Context, other_gives, formulas, Guard, Keeps, view_guard, expression_found, Aim, Manner, Walked, AreFirsts, value_refused, Walks, walks_then, walks_none, AreBothGuards, WalksCondition, WalksStatements, case_unit, branch_manners, branches_manners, choices_manners, other_manners, signals_of, units_of_other, Machine, StandsFor, WalksBranch, WalksBranches, WalksChoices, WalksConditions, WalksValue, context_of_machine, branch_work, branches_work, choices_work, goal_unit, other_branch_places, Work, before, CountedUnit, Stmt, view_stmt, Statements, with_statements, statements_manners, view_goal, view_if, is_some, Arm, If, other_of, view_arm}
 use Rattle.abel_meaning.specs.Contributions as meant
-use Rattle.abel_meaning.specs.Contributions.{guarded}
-use Rattle.abel_meaning.specs.CountedBlocks.{has_other}
-use Rattle.abel_meaning.specs.CountedNodes.{choice_nodes, condition_of}
-use Rattle.abel_meaning.specs.Designs.{Context}
-use Rattle.abel_meaning.specs.Diagrams.{other_gives}
-use Rattle.abel_meaning.specs.FormulaBits.{formulas}
-use Rattle.set_expr.specs.declared.contributions.Guard.{Guard}
-use Rattle.set_expr.specs.Answer.{Keeps}
-use Rattle.set_expr.specs.Given.{view_guard}
-use Rattle.set_expr.specs.FoundNames.{expression_found}
-use Rattle.section_targets.specs.declared.aim.Aim.{Aim}
-use Rattle.section_targets.specs.declared.manner.Manner.{Manner}
-use Rattle.section_targets.specs.declared.walked.Walked.{Walked}
-use Rattle.section_targets.specs.Manners.{AreFirsts}
-use Rattle.section_targets.specs.ValueWidths.{value_refused}
-use Rattle.section_targets.specs.Walking.{Walks}
-use Rattle.section_targets.proofs.WalksBehind.{walks_then, walks_none}
 use Rattle.equations.specs.declared.choices.BothGuards.{BothGuards}
 use Rattle.equations.specs.Builds.{condition_unit}
-use Rattle.equations.specs.StatementWalks.{AreBothGuards, WalksCondition, WalksStatements}
-use Rattle.state_diagrams.specs.ArmGuards.{case_unit}
-use Rattle.state_diagrams.specs.DiagramUnits.{branch_manners, branches_manners, choices_manners, other_manners, signals_of, units_of_other}
-use Rattle.state_diagrams.specs.declared.machine.Machine.{Machine}
-use Rattle.state_diagrams.specs.DiagramWalks.{StandsFor, WalksBranch, WalksBranches, WalksChoices, WalksConditions, WalksValue, context_of_machine}
-use Rattle.state_diagrams.specs.DiagramWorks.{branch_work, branches_work, choices_work}
-use Rattle.state_diagrams.specs.Goals.{goal_unit}
-use Rattle.state_diagrams.specs.Places.{other_branch_places}
 use Rattle.state_diagrams.proofs.AnyGuards.{chosen_guard, kept_guard, statements_under, statements_work, still_firsts, under_any, under_then, unit_then, unit_under, walked_clear}
 use Rattle.state_diagrams.proofs.GuardLaws.{Choice}
-use Rattle.truth_tables.specs.Works.{Work, before}
 use Rattle.std.specs.Prelude.{option_map}
-use Rattle.section_targets.specs.Units.{CountedUnit}
-use Rattle.abel_tree.specs.declared.statements.Stmt.{Stmt}
-use Rattle.abel_tree.specs.View.{view_stmt}
-use Rattle.abel_tree.specs.Tree.{Statements}
-use Rattle.abel_meaning.specs.Diagrams.{with_statements}
-use Rattle.equations.specs.StatementUnits.{statements_manners}
-use Rattle.state_diagrams.specs.Arms.{view_goal, view_if}
-use Rattle.std.specs.Option.{is_some}
-use Rattle.abel_tree.specs.declared.diagrams.Arm.{Arm}
-use Rattle.abel_tree.specs.declared.diagrams.If.{If}
-use Rattle.abel_tree.specs.Tree.{other_of}
-use Rattle.abel_tree.specs.View.{view_arm}
 use Rattle.state_diagrams.proofs.ArmViews.{if_parts}
 
 -- ---- goals

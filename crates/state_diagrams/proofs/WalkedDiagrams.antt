@@ -1,41 +1,12 @@
 -- The walk over a whole diagram, part by part.
 use Rattle.std.proofs.Common.{◌≡◌, false, true, Bool, Some, List, [], ◌∷◌, ◌++◌, map, refl, sym, ap, ◌∙◌, subst, append_assoc, append-nil}
-use Rattle.std.specs.Option.{is_some}
-use Rattle.pld_base.specs.declared.place.Place.{Place}
-use Rattle.bit_expr.specs.Formulas.{Formula}
+use Rattle.state_diagrams.proofs.Common.{is_some, Place, Formula, earlier, first_refusal, Tree, view, view_state, Context, registers_given, formulas, some_signals, targets_of, term_of, Guard, SectionFault, section_order, view_guard, Aim, Manner, Walked, AreFirsts, target_member, CountedUnit, Walks, walks_none, walks_refused, aims_places, diagram_manners, manners_behind, register_manners, registers_refused, signals_of, states_manners, units_behind, units_of_states, WalksWork, given_by, places_by, units_of, header_work, others_work, registers_work, if_none, Work, some_refused}
 use Rattle.abel_tree.specs.declared.diagrams.Diagram.{Diagram}
-use Rattle.abel_tree.specs.FirstRefusal.{earlier, first_refusal}
-use Rattle.abel_tree.specs.Tree.{Tree}
-use Rattle.abel_tree.specs.View.{view, view_state}
 use Rattle.abel_meaning.specs.Contributions as meant
-use Rattle.abel_meaning.specs.Designs.{Context}
-use Rattle.abel_meaning.specs.Diagrams.{registers_given}
-use Rattle.abel_meaning.specs.FormulaBits.{formulas}
-use Rattle.abel_meaning.specs.Targets.{some_signals, targets_of}
-use Rattle.abel_meaning.specs.Terms.{term_of}
-use Rattle.set_expr.specs.declared.contributions.Guard.{Guard}
-use Rattle.set_expr.specs.declared.fault.SectionFault.{SectionFault}
-use Rattle.set_expr.specs.SectionOrder.{section_order}
-use Rattle.set_expr.specs.Given.{view_guard}
-use Rattle.section_targets.specs.declared.aim.Aim.{Aim}
-use Rattle.section_targets.specs.declared.manner.Manner.{Manner}
-use Rattle.section_targets.specs.declared.walked.Walked.{Walked}
-use Rattle.section_targets.specs.Manners.{AreFirsts}
-use Rattle.section_targets.specs.TargetSignals.{target_member}
-use Rattle.section_targets.specs.Units.{CountedUnit}
-use Rattle.section_targets.specs.Walking.{Walks}
 use Rattle.section_targets.proofs.SideTerms.{member_positions, positions_of}
-use Rattle.section_targets.proofs.WalksBehind.{walks_none, walks_refused}
-use Rattle.state_diagrams.specs.DiagramPlaces.{aims_places}
-use Rattle.state_diagrams.specs.DiagramUnits.{diagram_manners, manners_behind, register_manners, registers_refused, signals_of, states_manners, units_behind, units_of_states}
-use Rattle.state_diagrams.specs.DiagramWalks.{WalksWork, given_by, places_by, units_of}
-use Rattle.state_diagrams.specs.DiagramWorks.{header_work, others_work, registers_work}
-use Rattle.state_diagrams.specs.StateValues.{if_none}
 use Rattle.state_diagrams.proofs.DiagramBuilt.{registers_split}
 use Rattle.state_diagrams.proofs.StateLaws.{manners_accepted}
 use Rattle.state_diagrams.proofs.AnyGuards.{unit_then}
-use Rattle.truth_tables.specs.Works.{Work}
-use Rattle.truth_tables.proofs.RowsWalked.{some_refused}
 
 -- ---- where something is refused, what is given doesn't count
 

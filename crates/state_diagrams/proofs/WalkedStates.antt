@@ -1,34 +1,10 @@
 -- Walks over states, part by part.
 use Rattle.std.proofs.Common.{◌≡◌, ℕ, ◌<◌, None, List, [], ◌∷◌, ◌++◌, length, refl, sym, ◌∙◌, subst₂}
-use Rattle.pld_device.specs.Table.{Table}
-use Rattle.bit_expr.specs.declared.node.ExprId.{ExprId}
-use Rattle.bit_expr.specs.Arena.{arena, formula_at}
-use Rattle.bit_expr.specs.Formulas.{Formula}
-use Rattle.abel_tree.specs.Tree.{statements_of, StateTree}
+use Rattle.state_diagrams.proofs.Common.{Table, ExprId, arena, formula_at, Formula, statements_of, StateTree, Context, state_gives, formulas, term_of, Guard, view_guard, Aim, Manner, Walked, IsBit, walks_then, statements_manners, WalksStatements, Machine, state_places, branches_manners, signals_of, state_guard, state_manners, states_manners, units_within, WalksBranches, WalksStates, WalksUnit, WalksWithin, WalksWork, context_of_machine, state_unit, branches_work, state_bit, state_work, states_work, where_holds, within_work, listed_after, Work}
 use Rattle.abel_meaning.specs.Contributions as meant
-use Rattle.abel_meaning.specs.Designs.{Context}
-use Rattle.abel_meaning.specs.Diagrams.{state_gives}
-use Rattle.abel_meaning.specs.FormulaBits.{formulas}
-use Rattle.abel_meaning.specs.Terms.{term_of}
-use Rattle.set_expr.specs.declared.contributions.Guard.{Guard}
-use Rattle.set_expr.specs.Given.{view_guard}
-use Rattle.section_targets.specs.declared.aim.Aim.{Aim}
-use Rattle.section_targets.specs.declared.manner.Manner.{Manner}
-use Rattle.section_targets.specs.declared.walked.Walked.{Walked}
-use Rattle.section_targets.specs.Building.{IsBit}
-use Rattle.section_targets.proofs.WalksBehind.{walks_then}
-use Rattle.equations.specs.StatementUnits.{statements_manners}
-use Rattle.equations.specs.StatementWalks.{WalksStatements}
-use Rattle.state_diagrams.specs.declared.machine.Machine.{Machine}
-use Rattle.state_diagrams.specs.DiagramPlaces.{state_places}
-use Rattle.state_diagrams.specs.DiagramUnits.{branches_manners, signals_of, state_guard, state_manners, states_manners, units_within}
-use Rattle.state_diagrams.specs.DiagramWalks.{WalksBranches, WalksStates, WalksUnit, WalksWithin, WalksWork, context_of_machine, state_unit}
-use Rattle.state_diagrams.specs.DiagramWorks.{branches_work, state_bit, state_work, states_work, where_holds, within_work}
-use Rattle.state_diagrams.specs.StateValues.{listed_after}
 use Rattle.state_diagrams.proofs.AnyGuards.{statements_under, statements_work, still_firsts, under_then, unit_then}
 use Rattle.state_diagrams.proofs.StateBits.{guard_is_state}
 use Rattle.state_diagrams.proofs.GoalWorks.{sized}
-use Rattle.truth_tables.specs.Works.{Work}
 
 -- the statements of a state, and its transitions
 pub within_walk : {D : Type 0} (t : Table) (m : Machine D) (g : Guard) (s : StateTree) (old mid new : Walked) → g.when.0 < length (arena old.exprs)

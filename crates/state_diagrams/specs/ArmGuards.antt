@@ -1,22 +1,6 @@
 -- The conditions of CASE and the guards of its arms (ABEL-HDL Reference Manual, state diagrams).
 use Rattle.std.specs.Prelude.{◌≡◌, List, [], ◌∷◌, map, Result}
-use Rattle.pld_base.specs.declared.place.Place.{Place}
-use Rattle.pld_device.specs.Table.{Table}
-use Rattle.bit_expr.specs.declared.node.ExprId.{ExprId}
-use Rattle.bit_expr.specs.declared.node.Node.{Node}
-use Rattle.bit_expr.specs.Arena.{arena, formula_at}
-use Rattle.bit_expr.specs.Formulas.{Formula}
-use Rattle.abel_tree.specs.declared.diagrams.CaseArm.{CaseArm}
-use Rattle.abel_tree.specs.declared.names.Names.{Names}
-use Rattle.abel_tree.specs.Tree.{Choices}
-use Rattle.abel_tree.specs.View.{view}
-use Rattle.abel_meaning.specs.CountedBlocks.{choices_nodes}
-use Rattle.abel_meaning.specs.CountedNodes.{condition_of, guard_then}
-use Rattle.abel_meaning.specs.Designs.{Context}
-use Rattle.set_expr.specs.declared.fault.SectionFault.{SectionFault}
-use Rattle.section_targets.specs.Building.{BuildsNodes}
-use Rattle.set_expr.specs.Contexts.{context_for}
-use Rattle.section_targets.specs.Units.{CountedUnit, part}
+use Rattle.state_diagrams.specs.Prelude.{Place, Table, ExprId, Node, arena, formula_at, Formula, CaseArm, Names, Choices, view, choices_nodes, condition_of, guard_then, Context, SectionFault, BuildsNodes, context_for, CountedUnit, part}
 use Rattle.state_diagrams.specs.DiagramUnits.{choices_refused}
 
 -- nothing is refused of conditions

@@ -1,14 +1,10 @@
 -- Transitions by their kinds, as the tree has them.
 use Rattle.std.specs.Prelude.{List, map, option_map}
-use Rattle.pld_base.specs.declared.place.Place.{Place}
+use Rattle.state_diagrams.specs.Prelude.{Place, CaseArm, Goal, Tree, Branch, AGoal, Choices, choices_of, view, view_stmt, view_arm, view_choice, arm_layer, case_layer, case_arm_layer, if_layer}
 use Rattle.abel_tree.specs.declared.diagrams.Arm.{Arm}
 use Rattle.abel_tree.specs.declared.diagrams.Case.{Case, out-Case}
-use Rattle.abel_tree.specs.declared.diagrams.CaseArm.{CaseArm}
 use Rattle.abel_tree.specs.declared.diagrams.Arm.TheFolds.{fold-If}
-use Rattle.abel_tree.specs.declared.diagrams.Goal.{Goal}
 use Rattle.abel_tree.specs.declared.diagrams.If.{If}
-use Rattle.abel_tree.specs.Tree.{Tree, Branch, AGoal, Choices, choices_of}
-use Rattle.abel_tree.specs.View.{view, view_stmt, view_arm, view_choice, arm_layer, case_layer, case_arm_layer, if_layer}
 
 abbrev pub view_goal : Goal → Branch
 view_goal g = AGoal g.place (view g.value) (option_map (λ l. map view_stmt l) g.with)

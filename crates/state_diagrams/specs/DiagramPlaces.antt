@@ -1,16 +1,7 @@
 -- Where what a state diagram gives stands (this project's rule).
 use Rattle.std.specs.Prelude.{true, false, Some, List, [], ◌∷◌, ◌++◌, length}
-use Rattle.pld_base.specs.declared.place.Place.{Place}
-use Rattle.bit_expr.specs.Formulas.{Formula, Const}
-use Rattle.abel_tree.specs.Tree.{Tree, statements_of, StateTree}
+use Rattle.state_diagrams.specs.Prelude.{Place, Formula, Const, Tree, statements_of, StateTree, Context, states_give, formulas, Aim, places_of, target_member, statements_places}
 use Rattle.abel_meaning.specs.Contributions as meant
-use Rattle.abel_meaning.specs.Designs.{Context}
-use Rattle.abel_meaning.specs.Diagrams.{states_give}
-use Rattle.abel_meaning.specs.FormulaBits.{formulas}
-use Rattle.section_targets.specs.declared.aim.Aim.{Aim}
-use Rattle.section_targets.specs.Given.{places_of}
-use Rattle.section_targets.specs.TargetSignals.{target_member}
-use Rattle.equations.specs.StatementUnits.{statements_places}
 use Rattle.state_diagrams.specs.DiagramUnits.{signals_of}
 use Rattle.state_diagrams.specs.Places.{branches_places}
 use Rattle.state_diagrams.specs.Matches.{other_places}

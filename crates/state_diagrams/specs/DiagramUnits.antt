@@ -1,24 +1,7 @@
 -- The units of a state diagram, with what is refused of each and the nodes that it makes (ABEL-HDL Reference Manual, state
 -- diagrams; units are this project's rule).
 use Rattle.std.specs.Prelude.{ℕ, true, false, None, List, [], ◌∷◌, ◌++◌, length, map}
-use Rattle.pld_base.specs.declared.place.Place.{Place}
-use Rattle.bit_expr.specs.Folding.{Made}
-use Rattle.bit_expr.specs.Formulas.{Formula, Const}
-use Rattle.abel_tree.specs.Tree.{Tree, statements_of, Branch, AGoal, AnIf, ACase, OtherBranch, NoBranch, ABranch, Choices, NoChoice, MoreChoices, StateTree}
-use Rattle.abel_meaning.specs.CountedBlocks.{register_literals, choices_nodes, has_other}
-use Rattle.abel_meaning.specs.CountedNodes.{value_nodes, choice_nodes, condition_of, guard_then, guard_else}
-use Rattle.abel_meaning.specs.Designs.{Context}
-use Rattle.abel_meaning.specs.Diagrams.{with_statements}
-use Rattle.abel_meaning.specs.Numbers.{digits}
-use Rattle.set_expr.specs.declared.fault.SectionFault.{SectionFault}
-use Rattle.set_expr.specs.FoundNames.{expression_found}
-use Rattle.section_targets.specs.declared.aim.Aim.{Aim}
-use Rattle.section_targets.specs.declared.manner.Manner.{Manner}
-use Rattle.section_targets.specs.Manners.{manner_of, aims_refused}
-use Rattle.section_targets.specs.TargetSignals.{TargetFound, target_member}
-use Rattle.section_targets.specs.Units.{CountedUnit}
-use Rattle.section_targets.specs.ValueWidths.{value_refused}
-use Rattle.equations.specs.StatementUnits.{assigned_aims, condition_refused, statements_manners, units_of_statements}
+use Rattle.state_diagrams.specs.Prelude.{Place, Made, Formula, Const, Tree, statements_of, Branch, AGoal, AnIf, ACase, OtherBranch, NoBranch, ABranch, Choices, NoChoice, MoreChoices, StateTree, register_literals, choices_nodes, has_other, value_nodes, choice_nodes, condition_of, guard_then, guard_else, Context, with_statements, digits, SectionFault, expression_found, Aim, Manner, manner_of, aims_refused, TargetFound, target_member, CountedUnit, value_refused, assigned_aims, condition_refused, statements_manners, units_of_statements}
 use Rattle.state_diagrams.specs.StateValues.{if_none, listed_after, state_number, state_refused}
 
 -- ---- the header

@@ -1,30 +1,8 @@
 -- What a walk over a state diagram leaves (ABEL-HDL Reference Manual, state diagrams).
 use Rattle.std.specs.Prelude.{◌≡◌, ℕ, None, List, [], ◌∷◌, length, map}
-use Rattle.pld_base.specs.declared.place.Place.{Place}
-use Rattle.pld_device.specs.Table.{Table}
-use Rattle.bit_expr.specs.declared.node.ExprId.{ExprId}
-use Rattle.bit_expr.specs.Arena.{arena, formula_at}
-use Rattle.bit_expr.specs.Formulas.{Formula}
+use Rattle.state_diagrams.specs.Prelude.{Place, Table, ExprId, arena, formula_at, Formula, Goal, Names, Branch, Choices, StateTree, view, view_state, Context, diagram_gives, formulas, term_of, Guard, expression_found, view_guard, Manner, Walked, context_for, AreFirsts, target_member, CountedUnit, value_refused, Work}
 use Rattle.abel_tree.specs.declared.diagrams.Diagram.{Diagram}
-use Rattle.abel_tree.specs.declared.diagrams.Goal.{Goal}
-use Rattle.abel_tree.specs.declared.names.Names.{Names}
-use Rattle.abel_tree.specs.Tree.{Branch, Choices, StateTree}
-use Rattle.abel_tree.specs.View.{view, view_state}
 use Rattle.abel_meaning.specs.Contributions as meant
-use Rattle.abel_meaning.specs.Designs.{Context}
-use Rattle.abel_meaning.specs.Diagrams.{diagram_gives}
-use Rattle.abel_meaning.specs.FormulaBits.{formulas}
-use Rattle.abel_meaning.specs.Terms.{term_of}
-use Rattle.set_expr.specs.declared.contributions.Guard.{Guard}
-use Rattle.set_expr.specs.FoundNames.{expression_found}
-use Rattle.set_expr.specs.Given.{view_guard}
-use Rattle.section_targets.specs.declared.manner.Manner.{Manner}
-use Rattle.section_targets.specs.declared.walked.Walked.{Walked}
-use Rattle.set_expr.specs.Contexts.{context_for}
-use Rattle.section_targets.specs.Manners.{AreFirsts}
-use Rattle.section_targets.specs.TargetSignals.{target_member}
-use Rattle.section_targets.specs.Units.{CountedUnit}
-use Rattle.section_targets.specs.ValueWidths.{value_refused}
 use Rattle.section_targets.specs.Walking.{Walks}
 use Rattle.state_diagrams.specs.declared.machine.Machine.{Machine}
 use Rattle.state_diagrams.specs.ArmGuards.{case_unit}
@@ -33,7 +11,6 @@ use Rattle.state_diagrams.specs.DiagramUnits.{branch_manners, branches_manners, 
 use Rattle.state_diagrams.specs.DiagramWorks.{branch_work, branches_work, choices_work, header_work, others_work, states_work, within_work}
 use Rattle.state_diagrams.specs.Goals.{goal_unit}
 use Rattle.state_diagrams.specs.StateValues.{state_refused}
-use Rattle.truth_tables.specs.Works.{Work}
 
 -- the context of a machine
 abbrev pub context_of_machine : {D : Type 0} → Table → Machine D → Context

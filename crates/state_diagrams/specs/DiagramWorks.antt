@@ -1,23 +1,14 @@
 -- The units of transitions and states to these registers with what they give, under a guard of formulas and behind what was
 -- assigned (ABEL-HDL Reference Manual, state diagrams).
 use Rattle.std.specs.Prelude.{ℕ, true, false, Some, List, [], ◌++◌, length, map}
-use Rattle.bit_expr.specs.Formulas.{Formula}
-use Rattle.abel_tree.specs.Tree.{Branch, Choices, StateTree}
+use Rattle.state_diagrams.specs.Prelude.{Formula, Branch, Choices, StateTree, Context, branch_gives, branches_give, choices_give, in_state, is_state, registers_given, state_gives, states_give, with_others, formulas, term_of, Aim, Manner, places_of, Work, given_freely}
 use Rattle.abel_meaning.specs.Contributions as meant
-use Rattle.abel_meaning.specs.Designs.{Context}
-use Rattle.abel_meaning.specs.Diagrams.{branch_gives, branches_give, choices_give, in_state, is_state, registers_given, state_gives, states_give, with_others}
-use Rattle.abel_meaning.specs.FormulaBits.{formulas}
 use Rattle.abel_meaning.specs.Tables.{no_matches}
-use Rattle.abel_meaning.specs.Terms.{term_of}
-use Rattle.section_targets.specs.declared.aim.Aim.{Aim}
-use Rattle.section_targets.specs.declared.manner.Manner.{Manner}
-use Rattle.section_targets.specs.Given.{places_of}
 use Rattle.state_diagrams.specs.DiagramPlaces.{aims_places, state_places, states_places}
 use Rattle.state_diagrams.specs.DiagramUnits.{signals_of, state_guard, units_of_branch, units_of_branches, units_of_choices, units_of_state, units_of_states, units_within}
 use Rattle.state_diagrams.specs.Matches.{other_places}
 use Rattle.state_diagrams.specs.Places.{branch_places, branches_places, choices_places}
 use Rattle.state_diagrams.specs.StateValues.{state_refused}
-use Rattle.truth_tables.specs.Works.{Work, given_freely}
 
 -- ---- transitions
 

@@ -1,33 +1,11 @@
 -- What is left by giving registers a goal (ABEL-HDL Reference Manual, state diagrams).
 use Rattle.std.specs.Prelude.{◌≡◌, List, [], ◌∷◌, length, Result}
-use Rattle.pld_base.specs.declared.place.Place.{Place}
-use Rattle.pld_device.specs.Table.{Table}
-use Rattle.bit_expr.specs.declared.node.ExprId.{ExprId}
-use Rattle.bit_expr.specs.Arena.{arena, formula_at}
-use Rattle.bit_expr.specs.Folding.{make_and}
-use Rattle.bit_expr.specs.Formulas.{Formula}
-use Rattle.abel_tree.specs.declared.diagrams.Goal.{Goal}
-use Rattle.abel_tree.specs.declared.names.Names.{Names}
-use Rattle.abel_tree.specs.Entries.{entries_of}
-use Rattle.abel_tree.specs.View.{view}
+use Rattle.state_diagrams.specs.Prelude.{Place, Table, ExprId, arena, formula_at, make_and, Formula, Goal, Names, entries_of, view, value_nodes, Context, goal_gives, formulas, term_of, Guard, SectionFault, view_guard, Aim, Walked, context_for, CountedUnit, part, Work}
 use Rattle.abel_meaning.specs.Contributions as meant
-use Rattle.abel_meaning.specs.CountedNodes.{value_nodes}
-use Rattle.abel_meaning.specs.Designs.{Context}
-use Rattle.abel_meaning.specs.Diagrams.{goal_gives}
-use Rattle.abel_meaning.specs.FormulaBits.{formulas}
-use Rattle.abel_meaning.specs.Terms.{term_of}
-use Rattle.set_expr.specs.declared.contributions.Guard.{Guard}
-use Rattle.set_expr.specs.declared.fault.SectionFault.{SectionFault}
-use Rattle.set_expr.specs.Given.{view_guard}
-use Rattle.section_targets.specs.declared.aim.Aim.{Aim}
-use Rattle.section_targets.specs.declared.walked.Walked.{Walked}
-use Rattle.set_expr.specs.Contexts.{context_for}
-use Rattle.section_targets.specs.Units.{CountedUnit, part}
 use Rattle.state_diagrams.specs.declared.goals.GoalUnit.{GoalUnit}
 use Rattle.state_diagrams.specs.declared.machine.Machine.{Machine}
 use Rattle.state_diagrams.specs.DiagramUnits.{signals_of}
 use Rattle.truth_tables.specs.Rows.{Does}
-use Rattle.truth_tables.specs.Works.{Work}
 use Rattle.state_diagrams.specs.Places.{goal_places}
 
 -- the parts of the unit at a place that give registers their bits, from the left

@@ -1,13 +1,9 @@
 -- The matches that a diagram gives to signals that are no registers of it (ABEL-HDL Reference Manual, state diagrams; at
 -- which places is this project's rule).
 use Rattle.std.specs.Prelude.{ℕ, zero, suc, ◌==◌, not, ◌&&◌, None, List, [], ◌∷◌, ◌++◌, if◌then◌else◌, map, filter, Bool, true, false}
-use Rattle.std.specs.List.{list_any}
-use Rattle.pld_base.specs.declared.place.Place.{Place}
+use Rattle.state_diagrams.specs.Prelude.{list_any, Place, Context, name_at, first_of_each, is_other, ExprId}
 use Rattle.abel_meaning.specs.Contributions.{is_dontcare}
 use Rattle.abel_meaning.specs.Contributions as meant
-use Rattle.abel_meaning.specs.Designs.{Context, name_at}
-use Rattle.abel_meaning.specs.Diagrams.{first_of_each, is_other}
-use Rattle.bit_expr.specs.declared.node.ExprId.{ExprId}
 use Rattle.abel_tree.specs.Extensions.{is_data}
 use Rattle.set_expr.specs.declared.contributions.Contribution.{Contribution}
 use Rattle.set_expr.specs.declared.contributions.Gives.TheVariants as gives

@@ -1,12 +1,7 @@
 -- Where what transitions give stands: at the registers of the diagram, and at the targets of statements (this project's
 -- rule).
 use Rattle.std.specs.Prelude.{List, [], ◌∷◌, ◌++◌}
-use Rattle.pld_base.specs.declared.place.Place.{Place}
-use Rattle.abel_tree.specs.Tree.{Branch, AGoal, AnIf, ACase, OtherBranch, NoBranch, ABranch, Choices, NoChoice, MoreChoices}
-use Rattle.abel_meaning.specs.Designs.{Context}
-use Rattle.abel_meaning.specs.Diagrams.{with_statements}
-use Rattle.section_targets.specs.declared.aim.Aim.{Aim}
-use Rattle.equations.specs.StatementUnits.{statements_places}
+use Rattle.state_diagrams.specs.Prelude.{Place, Branch, AGoal, AnIf, ACase, OtherBranch, NoBranch, ABranch, Choices, NoChoice, MoreChoices, Context, with_statements, Aim, statements_places}
 
 -- one, and the match, of each register
 abbrev pub goal_places : List Aim → List Place

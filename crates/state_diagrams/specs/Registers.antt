@@ -1,13 +1,7 @@
 -- What the check of a diagram's registers finds (ABEL-HDL Reference Manual, state diagrams).
 use Rattle.std.specs.Prelude.{◌≡◌, ◌≤◌, None, List, length}
-use Rattle.abel_tree.specs.FirstRefusal.{first_refusal}
-use Rattle.abel_tree.specs.Tree.{Tree}
-use Rattle.abel_meaning.specs.Designs.{Context}
-use Rattle.set_expr.specs.SectionOrder.{section_order}
-use Rattle.section_targets.specs.declared.manner.Manner.{Manner}
+use Rattle.state_diagrams.specs.Prelude.{first_refusal, Tree, Context, section_order, Manner, AreNamed, target_member}
 use Rattle.section_targets.specs.declared.sides.Side.{Side}
-use Rattle.section_targets.specs.Given.{AreNamed}
-use Rattle.section_targets.specs.TargetSignals.{target_member}
 use Rattle.state_diagrams.specs.DiagramUnits.{registers_refused}
 
 -- their first refusal behind what was assigned before, and where nothing is refused the registers from the left

@@ -1,25 +1,10 @@
 -- The guard of a state, with its nodes: the literals of registers, one after another (ABEL-HDL Reference Manual, state
 -- diagrams).
 use Rattle.std.specs.Prelude.{ℕ, true, List, length, Result, Bool, None, [], ◌∷◌, IfOk}
-use Rattle.pld_base.specs.declared.place.Place.{Place}
-use Rattle.pld_device.specs.Table.{Table}
-use Rattle.bit_expr.specs.declared.node.ExprId.{ExprId}
-use Rattle.bit_expr.specs.declared.node.Node.{Node}
-use Rattle.bit_expr.specs.Folding.{Made, ◌>>=◌}
-use Rattle.bit_expr.specs.Formulas.{Formula, Const}
-use Rattle.abel_meaning.specs.CountedBlocks.{register_literals, make_literal}
-use Rattle.abel_meaning.specs.Designs.{Context}
-use Rattle.abel_meaning.specs.Numbers.{digits}
-use Rattle.set_expr.specs.declared.fault.SectionFault.{SectionFault}
-use Rattle.set_expr.specs.Contexts.{context_for}
+use Rattle.state_diagrams.specs.Prelude.{Place, Table, ExprId, Node, Made, ◌>>=◌, Formula, Const, register_literals, make_literal, Context, digits, SectionFault, context_for, arena, make_source, Aim, BuildsNodes, IsBit, part}
 use Rattle.state_diagrams.specs.declared.machine.Machine.{Machine}
 use Rattle.state_diagrams.specs.DiagramUnits.{signals_of}
-use Rattle.bit_expr.specs.Arena.{arena}
-use Rattle.abel_meaning.specs.FormulaBits.{make_source}
 use Rattle.abel_meaning.specs.Sources.{source_of}
-use Rattle.section_targets.specs.declared.aim.Aim.{Aim}
-use Rattle.section_targets.specs.Building.{BuildsNodes, IsBit}
-use Rattle.section_targets.specs.Units.{part}
 
 -- a bit is made as a part of the unit at a place
 abbrev pub MakesBit : Place → Made Formula → (old new : List Node) → Result ExprId SectionFault → Type 0

@@ -1,23 +1,11 @@
 -- The value of a state: a constant without X that the registers hold, listed once (ABEL-HDL Reference Manual, state
 -- diagrams; which values are states is this project's rule).
 use Rattle.std.specs.Prelude.{ℕ, ◌^◌, ◌==◌, nat_lt, Bool, true, false, not, ◌&&◌, List, [], ◌∷◌, ◌++◌, if◌then◌else◌, ◌≡◌, Option, None, Some}
-use Rattle.std.specs.List.{list_any}
-use Rattle.pld_base.specs.declared.place.Place.{Place}
-use Rattle.abel_tree.specs.Tree.{Tree, StateTree}
-use Rattle.abel_meaning.specs.Designs.{Context}
-use Rattle.abel_meaning.specs.Terms.{term_of, known_of}
+use Rattle.state_diagrams.specs.Prelude.{list_any, Place, Tree, StateTree, Context, term_of, known_of, reads_signal, SectionFault, expression_found, Names, entries_of, first_refusal, view, section_order}
 use Rattle.abel_meaning.specs.Values.{constant_of}
-use Rattle.expr_bits.specs.Reads.{reads_signal}
-use Rattle.set_expr.specs.declared.fault.SectionFault.{SectionFault}
 use Rattle.set_expr.specs.declared.fault.SectionFault.TheVariants.{BadState}
-use Rattle.set_expr.specs.FoundNames.{expression_found}
 use Rattle.set_expr.specs.Refusals.{Found}
 use Rattle.abel_tree.specs.declared.diagrams.State.{State}
-use Rattle.abel_tree.specs.declared.names.Names.{Names}
-use Rattle.abel_tree.specs.Entries.{entries_of}
-use Rattle.abel_tree.specs.FirstRefusal.{first_refusal}
-use Rattle.abel_tree.specs.View.{view}
-use Rattle.set_expr.specs.SectionOrder.{section_order}
 use Rattle.state_diagrams.specs.declared.values.StateFound.{StateFound}
 
 -- the second refusals where there are none of the first

@@ -1,9 +1,7 @@
 -- Private: levels where all signals are 0 (this project's rule).
 use Rattle.std.specs.Prelude.{Bool, false, Option, None, Some, List}
+use Rattle.state_diagrams.specs.Prelude.{ExprId, formula_at, Formula, formula_value}
 use Rattle.pld_base.specs.Points.{Levels, levels_of}
-use Rattle.bit_expr.specs.declared.node.ExprId.{ExprId}
-use Rattle.bit_expr.specs.Arena.{formula_at}
-use Rattle.bit_expr.specs.Formulas.{Formula, formula_value}
 
 -- where all signals are 0
 abbrev pub all_zero : Levels

@@ -1,13 +1,8 @@
 //! The walk over transitions: each unit is checked, and made where nothing is refused so far.
 
 ghost use Rattle.std.specs.Prelude.{◌<◌, length, OnOk};
-ghost use Rattle.bit_expr.specs.Arena.{arena};
-ghost use Rattle.abel_tree.specs.Entries.{entries_of};
-ghost use Rattle.abel_tree.specs.Tree.{ACase};
-ghost use Rattle.abel_tree.specs.View.{view_arm};
-ghost use Rattle.section_targets.specs.Given.{AreNamed};
-ghost use Rattle.state_diagrams.specs.Arms.{case_choices, case_place, view_goal, view_if, view_arms};
-ghost use Rattle.state_diagrams.specs.DiagramWalks.{WalksBranch, WalksBranches};
+ghost use Rattle.state_diagrams.specs.Prelude.{arena, entries_of, ACase, view_arm, AreNamed};
+ghost use Rattle.state_diagrams.specs.{case_choices, case_place, view_goal, view_if, view_arms, WalksBranch, WalksBranches};
 
 use crate::choices::{under_arm, walk_conditions};
 use crate::goals::walk_value;

@@ -1,16 +1,8 @@
 //! The conditions of CASE, and the guards of its arms.
 
 ghost use Rattle.std.specs.Prelude.{◌≡◌, ◌<◌, ℕ, None, get_or, length, IfOk};
-ghost use Rattle.bit_expr.specs.Arena.{arena, formula_at};
-ghost use Rattle.abel_tree.specs.FirstRefusal.{first_refusal};
-ghost use Rattle.set_expr.specs.SectionOrder.{section_order};
-ghost use Rattle.set_expr.specs.Contexts.{context_for};
-ghost use Rattle.section_targets.specs.Building.{AreBits};
-ghost use Rattle.section_targets.specs.Given.{AreIn};
-ghost use Rattle.state_diagrams.specs.Arms.{case_arms, case_choices, case_place};
-ghost use Rattle.state_diagrams.specs.ArmGuards.{arm_guards, AreClear, MakesGuards};
-ghost use Rattle.state_diagrams.specs.DiagramUnits.{choices_refused};
-ghost use Rattle.state_diagrams.specs.DiagramWalks.{WalksConditions};
+ghost use Rattle.state_diagrams.specs.Prelude.{arena, formula_at, first_refusal, section_order, context_for, AreBits, AreIn};
+ghost use Rattle.state_diagrams.specs.{case_arms, case_choices, case_place, arm_guards, AreClear, MakesGuards, choices_refused, WalksConditions};
 
 use abel_tree::{Case, earlier};
 use bit_expr::{ExprId, Exprs};

@@ -1,13 +1,8 @@
 //! Goals.
 
 ghost use Rattle.std.specs.Prelude.{◌≡◌, ◌<◌, None, length, OnOk};
-ghost use Rattle.bit_expr.specs.Arena.{arena};
-ghost use Rattle.abel_tree.specs.Entries.{entries_of};
-ghost use Rattle.abel_tree.specs.View.{view};
-ghost use Rattle.set_expr.specs.Answer.{Keeps, refusal_of};
-ghost use Rattle.section_targets.specs.Given.{AreNamed};
-ghost use Rattle.state_diagrams.specs.Goals.{GivesRegister, GivesGoal};
-ghost use Rattle.state_diagrams.specs.DiagramWalks.{WalksValue};
+ghost use Rattle.state_diagrams.specs.Prelude.{arena, entries_of, view, Keeps, refusal_of, AreNamed};
+ghost use Rattle.state_diagrams.specs.{GivesRegister, GivesGoal, WalksValue};
 
 use crate::machine::Machine;
 use abel_tree::Goal;

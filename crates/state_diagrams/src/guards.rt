@@ -1,10 +1,8 @@
 //! The bit of a state: a literal for each register, its bare name plain or complemented.
 
 ghost use Rattle.std.specs.Prelude.{◌≡◌, ◌<◌, length, IfOk};
-ghost use Rattle.bit_expr.specs.Arena.{arena, formula_at};
-ghost use Rattle.abel_meaning.specs.Numbers.{digits};
-ghost use Rattle.set_expr.specs.Contexts.{context_for};
-ghost use Rattle.state_diagrams.specs.StateGuards.{MakesBit, MakesGuard, bare_read, register_literal};
+ghost use Rattle.state_diagrams.specs.Prelude.{arena, formula_at, digits, context_for};
+ghost use Rattle.state_diagrams.specs.{MakesBit, MakesGuard, bare_read, register_literal};
 
 use crate::machine::Machine;
 use bit_expr::{ExprFault, ExprId, Exprs, Node};

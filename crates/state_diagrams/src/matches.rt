@@ -1,8 +1,7 @@
 //! Matches beside contributions.
 
 ghost use Rattle.std.specs.Prelude.{◌≡◌, ◌≤◌, ◌++◌, [], true, drop, IfOk, OnOk, length};
-ghost use Rattle.state_diagrams.specs.DiagramUnits.{signals_of};
-ghost use Rattle.state_diagrams.specs.Matches.{is_among, is_first, pushed_beside, pushed_for, pushed_if, seen_if};
+ghost use Rattle.state_diagrams.specs.{signals_of, is_among, is_first, pushed_beside, pushed_for, pushed_if, seen_if};
 
 use abel_tree::Extension;
 use bit_expr::ExprId;

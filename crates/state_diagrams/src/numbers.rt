@@ -1,16 +1,9 @@
 //! The number of an expression that reads no signal.
 
 ghost use Rattle.std.specs.Prelude.{◌≡◌, ◌<◌, ◌≤◌, ◌+◌, ◌*◌, false, None, [], ◌∷◌, length, map, IfOk};
-ghost use Rattle.bit_expr.specs.Arena.{arena};
-ghost use Rattle.abel_tree.specs.Entries.{entries_of};
-ghost use Rattle.abel_tree.specs.View.{view};
-ghost use Rattle.abel_meaning.specs.Numbers.{number_with, one_bit};
-ghost use Rattle.abel_meaning.specs.Terms.{known_of, term_of};
-ghost use Rattle.set_expr.specs.Answer.{AreIn, refusal_of};
-ghost use Rattle.set_expr.specs.Contexts.{context_for};
-ghost use Rattle.expr_bits.specs.Reads.{reads_signal};
-ghost use Rattle.state_diagrams.specs.StateValues.{state_number};
-ghost use Rattle.state_diagrams.specs.Still.{level_of};
+ghost use Rattle.state_diagrams.specs.Prelude.{arena, entries_of, view, number_with, one_bit, known_of, term_of, refusal_of, context_for, reads_signal};
+ghost use Rattle.set_expr.specs.Answer.{AreIn};
+ghost use Rattle.state_diagrams.specs.{state_number, level_of};
 
 use abel_tree::Expr;
 use bit_expr::{ExprId, Exprs};

@@ -1,13 +1,8 @@
 //! The registers of a diagram.
 
 ghost use Rattle.std.specs.Prelude.{◌++◌, None, List, IfOk, OnOk};
-ghost use Rattle.abel_tree.specs.View.{view};
-ghost use Rattle.section_targets.specs.declared.manner.Manner.{Manner};
-ghost use Rattle.set_expr.specs.Contexts.{context_for};
-ghost use Rattle.section_targets.specs.Manners.{AreFirsts};
-ghost use Rattle.section_targets.specs.TargetSignals.{target_member};
-ghost use Rattle.state_diagrams.specs.DiagramUnits.{register_manners};
-ghost use Rattle.state_diagrams.specs.Registers.{AreRegisters};
+ghost use Rattle.state_diagrams.specs.Prelude.{view, Manner, context_for, AreFirsts, target_member};
+ghost use Rattle.state_diagrams.specs.{register_manners, AreRegisters};
 
 use abel_tree::Expr;
 use pld_base::OutOfMemory;

@@ -1,16 +1,8 @@
 //! The walk over the states of a diagram, each under its guard.
 
 ghost use Rattle.std.specs.Prelude.{◌≡◌, ◌<◌, ◌≤◌, List, [], ℕ, None, length, map, IfOk, OnOk};
-ghost use Rattle.bit_expr.specs.Arena.{arena};
-ghost use Rattle.abel_tree.specs.Entries.{entries_of};
-ghost use Rattle.abel_tree.specs.View.{view_state};
-ghost use Rattle.section_targets.specs.Building.{AreBits, IsBit};
-ghost use Rattle.set_expr.specs.Contexts.{context_for};
-ghost use Rattle.section_targets.specs.Given.{AreNamed};
-ghost use Rattle.state_diagrams.specs.DiagramUnits.{signals_of};
-ghost use Rattle.state_diagrams.specs.DiagramWalks.{WalksStates, WalksUnit};
-ghost use Rattle.state_diagrams.specs.DiagramWorks.{state_bit, state_bits};
-ghost use Rattle.state_diagrams.specs.StateValues.{IsState, listed_if, listed_after};
+ghost use Rattle.state_diagrams.specs.Prelude.{arena, entries_of, view_state, AreBits, IsBit, context_for, AreNamed};
+ghost use Rattle.state_diagrams.specs.{signals_of, WalksStates, WalksUnit, state_bit, state_bits, IsState, listed_if, listed_after};
 
 use crate::arms::walk_arms;
 use crate::guards::state_guard;

@@ -1,10 +1,8 @@
 //! The values of states.
 
 ghost use Rattle.std.specs.Prelude.{◌≡◌, ◌==◌, ◌≤◌, ◌^◌, ℕ, nat_lt, Some, IfOk};
-ghost use Rattle.std.specs.List.{list_any};
-ghost use Rattle.abel_tree.specs.View.{view_state};
-ghost use Rattle.set_expr.specs.Contexts.{context_for};
-ghost use Rattle.state_diagrams.specs.StateValues.{IsState, IsStill};
+ghost use Rattle.state_diagrams.specs.Prelude.{list_any, view_state, context_for};
+ghost use Rattle.state_diagrams.specs.{IsState, IsStill};
 
 use crate::numbers::state_number;
 use abel_tree::State;

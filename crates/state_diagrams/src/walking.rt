@@ -1,10 +1,8 @@
 //! The walk over state diagrams.
 
 ghost use Rattle.std.specs.Prelude.{◌≡◌, ◌≤◌, Some, IfOk, OnOk, length, map};
-ghost use Rattle.abel_tree.specs.Entries.{entries_of};
-ghost use Rattle.abel_tree.specs.View.{view_state};
-ghost use Rattle.section_targets.specs.Given.{AreNamed};
-ghost use Rattle.state_diagrams.specs.DiagramWalks.{WalksDiagram, WalksHeader, WalksOthers};
+ghost use Rattle.state_diagrams.specs.Prelude.{entries_of, view_state, AreNamed};
+ghost use Rattle.state_diagrams.specs.{WalksDiagram, WalksHeader, WalksOthers};
 
 use crate::machine::Machine;
 use crate::matches::matches_beside;

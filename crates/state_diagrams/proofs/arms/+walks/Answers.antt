@@ -1,28 +1,9 @@
 -- Transitions by their kinds, IF, and one arm of CASE more.
 use Rattle.std.proofs.Common.{◌≡◌, ◌+◌, ◌<◌, Option, ◌∷◌, List, map, drop, get_or, length, refl, ap, sym, ◌∙◌, subst, subst₂, arith, rules}
 use Rattle.std.specs.Prelude.{OnOk, option_map}
-use Rattle.std.proofs.lemmas.List.{drop_all}
-use Rattle.std.proofs.lemmas.Result.{on_ok_weaker}
-use Rattle.bit_expr.specs.declared.node.ExprId.{ExprId}
-use Rattle.bit_expr.specs.Arena.{arena, formula_at}
-use Rattle.bit_expr.specs.Formulas.{Formula}
-use Rattle.abel_tree.specs.declared.diagrams.Arm.{Arm, the_lemmas}
-use Rattle.abel_tree.specs.declared.diagrams.CaseArm.{CaseArm}
-use Rattle.abel_tree.specs.Tree.{Branch, choices_of, other_of}
-use Rattle.abel_tree.specs.View.{view, view_arm, view_choice}
+use Rattle.state_diagrams.proofs.Common.{drop_all, on_ok_weaker, ExprId, arena, formula_at, Formula, Arm, the_lemmas, CaseArm, Branch, choices_of, other_of, view, view_arm, view_choice, condition_of, formulas, Guard, context_for, AreBits, AreIn, kept_formula, kept_inside, walks_none, arm_guards, case_choices, case_place, view_choices, WalksBranch, WalksChoices}
 use Rattle.abel_meaning.specs.Contributions as meant
-use Rattle.abel_meaning.specs.CountedNodes.{condition_of}
-use Rattle.abel_meaning.specs.FormulaBits.{formulas}
-use Rattle.set_expr.specs.declared.contributions.Guard.{Guard}
-use Rattle.set_expr.specs.Contexts.{context_for}
-use Rattle.section_targets.specs.Building.{AreBits}
-use Rattle.section_targets.specs.Given.{AreIn}
-use Rattle.section_targets.proofs.Built.{kept_formula, kept_inside}
-use Rattle.section_targets.proofs.WalksBehind.{walks_none}
 use Rattle.state_diagrams.proofs.StateBits.{bits_kept}
-use Rattle.state_diagrams.specs.ArmGuards.{arm_guards}
-use Rattle.state_diagrams.specs.Arms.{case_choices, case_place, view_choices}
-use Rattle.state_diagrams.specs.DiagramWalks.{WalksBranch, WalksChoices}
 use Rattle.state_diagrams.proofs.GuardLaws.{Choice, arm_holds}
 use Rattle.state_diagrams.proofs.ArmViews.{choice_parts, view_goaled, view_iffed, view_cased}
 use Rattle.state_diagrams.proofs.WalkedBranches.{WalksOther, branch_clear, branch_keeps, case_walk, choices_walk, if_walk, rest_at}

@@ -1,14 +1,6 @@
 -- What the other arms leave, the whole CASE leaves; and the guards of the arms are there.
 use Rattle.std.proofs.Common.{◌≡◌, ◌<◌, None, drop, length}
-use Rattle.bit_expr.specs.Arena.{arena, formula_at}
-use Rattle.abel_tree.specs.Tree.{ACase}
-use Rattle.set_expr.specs.Contexts.{context_for}
-use Rattle.section_targets.specs.declared.walked.Walked.{Walked}
-use Rattle.section_targets.specs.Building.{AreBits}
-use Rattle.section_targets.specs.Given.{AreIn}
-use Rattle.state_diagrams.specs.ArmGuards.{arm_guards}
-use Rattle.state_diagrams.specs.Arms.{case_choices, case_place, view_choices}
-use Rattle.state_diagrams.specs.DiagramWalks.{WalksBranch, WalksChoices}
+use Rattle.state_diagrams.proofs.Common.{arena, formula_at, ACase, context_for, Walked, AreBits, AreIn, arm_guards, case_choices, case_place, view_choices, WalksBranch, WalksChoices}
 use Rattle.state_diagrams.proofs.arms.+walks.Given as goal
 
 abbrev pub invariant-walk_case-loop-index : goal.invariant-walk_case-loop-index

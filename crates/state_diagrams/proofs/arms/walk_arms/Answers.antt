@@ -1,13 +1,6 @@
 -- One transition more, and all of them.
 use Rattle.std.proofs.Common.{◌+◌, List, drop, sym, subst, arith}
-use Rattle.std.proofs.lemmas.List.{drop_all}
-use Rattle.abel_tree.specs.declared.diagrams.Arm.{Arm}
-use Rattle.abel_tree.specs.Tree.{Branch}
-use Rattle.abel_tree.specs.View.{view_arm}
-use Rattle.section_targets.proofs.Built.{kept_inside}
-use Rattle.section_targets.proofs.WalksBehind.{walks_none}
-use Rattle.state_diagrams.specs.Arms.{view_arms}
-use Rattle.state_diagrams.specs.DiagramWalks.{WalksBranches}
+use Rattle.state_diagrams.proofs.Common.{drop_all, Arm, Branch, view_arm, kept_inside, walks_none, view_arms, WalksBranches}
 use Rattle.state_diagrams.proofs.WalkedBranches.{branch_keeps, branches_walk, rest_at}
 use Rattle.state_diagrams.proofs.arms.walk_arms.Goals as goal
 

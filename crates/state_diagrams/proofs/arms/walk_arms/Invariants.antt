@@ -1,9 +1,6 @@
 -- What the other transitions leave, all leave.
 use Rattle.std.proofs.Common.{◌<◌, drop, length}
-use Rattle.bit_expr.specs.Arena.{arena}
-use Rattle.section_targets.specs.declared.walked.Walked.{Walked}
-use Rattle.state_diagrams.specs.Arms.{view_arms}
-use Rattle.state_diagrams.specs.DiagramWalks.{WalksBranches}
+use Rattle.state_diagrams.proofs.Common.{arena, Walked, view_arms, WalksBranches}
 use Rattle.state_diagrams.proofs.arms.walk_arms.Given as goal
 
 abbrev pub invariant-loop-arm : goal.invariant-loop-arm

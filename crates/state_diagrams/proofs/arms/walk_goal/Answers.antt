@@ -1,11 +1,6 @@
 -- A goal alone, and one with statements.
 use Rattle.std.proofs.Common.{List, Option, refl, sym, subst}
-use Rattle.std.proofs.lemmas.Result.{on_ok_weaker}
-use Rattle.abel_tree.specs.declared.statements.Stmt.{Stmt}
-use Rattle.section_targets.proofs.Built.{kept_inside}
-use Rattle.equations.specs.StatementWalks.{WalksStatements}
-use Rattle.equations.specs.Checks.{view_list}
-use Rattle.section_targets.proofs.WalksBehind.{walks_none}
+use Rattle.state_diagrams.proofs.Common.{on_ok_weaker, Stmt, kept_inside, WalksStatements, view_list, walks_none}
 use Rattle.state_diagrams.proofs.WalkedBranches.{goal_walk, with_list}
 use Rattle.state_diagrams.proofs.arms.walk_goal.Goals as goal
 

@@ -1,19 +1,9 @@
 -- One condition more, and all conditions.
 use Rattle.std.proofs.Common.{◌+◌, List, map, drop, ap, sym, ◌∙◌, arith}
-use Rattle.std.proofs.lemmas.List.{drop_all}
-use Rattle.abel_tree.specs.FirstRefusal.{earlier}
-use Rattle.abel_tree.specs.Tree.{choices_of}
-use Rattle.abel_tree.specs.View.{view_choice}
-use Rattle.abel_tree.proofs.FirstRefusals.{earlier_none}
-use Rattle.set_expr.specs.SectionOrder.{section_order}
-use Rattle.equations.specs.StatementUnits.{condition_refused}
-use Rattle.state_diagrams.specs.Arms.{view_choices}
-use Rattle.state_diagrams.specs.DiagramUnits.{choices_refused}
+use Rattle.state_diagrams.proofs.Common.{drop_all, earlier, choices_of, view_choice, earlier_none, section_order, condition_refused, view_choices, choices_refused, entries_of, context_for}
 use Rattle.state_diagrams.proofs.GuardLaws.{Choice, first, conditions_next}
 use Rattle.state_diagrams.proofs.ArmViews.{choice_parts}
 use Rattle.state_diagrams.proofs.WalkedBranches.{rest_at}
-use Rattle.abel_tree.specs.Entries.{entries_of}
-use Rattle.set_expr.specs.Contexts.{context_for}
 use Rattle.state_diagrams.proofs.choices.check_conditions.Goals as goal
 
 pub loop-arm-preserved : goal.loop-arm-preserved

@@ -1,10 +1,6 @@
 -- What is found so far, and of the other conditions, is found of all.
 use Rattle.std.proofs.Common.{◌≡◌, drop}
-use Rattle.abel_tree.specs.FirstRefusal.{earlier}
-use Rattle.set_expr.specs.Contexts.{context_for}
-use Rattle.set_expr.specs.SectionOrder.{section_order}
-use Rattle.state_diagrams.specs.Arms.{view_choices}
-use Rattle.state_diagrams.specs.DiagramUnits.{choices_refused}
+use Rattle.state_diagrams.proofs.Common.{earlier, context_for, section_order, view_choices, choices_refused}
 use Rattle.state_diagrams.proofs.GuardLaws.{first}
 use Rattle.state_diagrams.proofs.choices.check_conditions.Given as goal
 

@@ -1,24 +1,7 @@
 -- One guard more, and all guards.
 use Rattle.std.proofs.Common.{◌≡◌, ◌+◌, ◌++◌, List, [], ◌∷◌, Ok, Err, map, take, drop, refl, sym, ap, ◌∙◌, subst, arith}
-use Rattle.std.proofs.lemmas.List.{drop_all}
-use Rattle.std.proofs.lemmas.Result.{err_from_is_err_and}
-use Rattle.std.proofs.Math.Seq.{take-length}
-use Rattle.bit_expr.specs.Arena.{arena, formula_at}
-use Rattle.bit_expr.specs.declared.node.ExprId.{ExprId}
-use Rattle.abel_tree.specs.declared.diagrams.CaseArm.{CaseArm}
-use Rattle.abel_tree.specs.Tree.{choices_of}
-use Rattle.abel_tree.specs.View.{view, view_choice}
-use Rattle.abel_meaning.specs.CountedNodes.{condition_of, guard_then}
-use Rattle.set_expr.proofs.FoundMembers.{front_more}
-use Rattle.section_targets.specs.Building.{NoMemory, AreBits, IsBit}
-use Rattle.set_expr.specs.Contexts.{context_for}
-use Rattle.section_targets.proofs.Built.{kept_formula, kept_inside, keeps_on}
-use Rattle.section_targets.proofs.Parts.{leaves_nodes}
-use Rattle.equations.proofs.BuiltUnits.{at}
+use Rattle.state_diagrams.proofs.Common.{drop_all, err_from_is_err_and, take-length, arena, formula_at, ExprId, CaseArm, choices_of, view, view_choice, condition_of, guard_then, front_more, NoMemory, AreBits, IsBit, context_for, kept_formula, kept_inside, keeps_on, leaves_nodes, at, arm_guards, BuildsConditions, case_place, view_choices, choices_refused}
 use Rattle.state_diagrams.proofs.GuardLaws.{Choice, arm_clear, conditions_stop, conditions_then, no_nodes}
-use Rattle.state_diagrams.specs.ArmGuards.{arm_guards, BuildsConditions}
-use Rattle.state_diagrams.specs.Arms.{case_place, view_choices}
-use Rattle.state_diagrams.specs.DiagramUnits.{choices_refused}
 use Rattle.state_diagrams.proofs.StateBits.{bits_kept, bits_more}
 use Rattle.state_diagrams.proofs.WalkedBranches.{rest_at}
 use Rattle.state_diagrams.proofs.choices.make_guards.Goals as goal

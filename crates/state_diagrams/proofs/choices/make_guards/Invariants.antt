@@ -1,13 +1,6 @@
 -- What the other arms' conditions build, all build; and the guards so far.
 use Rattle.std.proofs.Common.{List, Result, drop, take}
-use Rattle.bit_expr.specs.declared.node.Node.{Node}
-use Rattle.bit_expr.specs.Arena.{arena, formula_at}
-use Rattle.set_expr.specs.declared.fault.SectionFault.{SectionFault}
-use Rattle.set_expr.specs.Answer.{Keeps}
-use Rattle.set_expr.specs.Contexts.{context_for}
-use Rattle.section_targets.specs.Building.{AreBits}
-use Rattle.state_diagrams.specs.ArmGuards.{arm_guards, BuildsConditions}
-use Rattle.state_diagrams.specs.Arms.{case_place, view_choices}
+use Rattle.state_diagrams.proofs.Common.{Node, arena, formula_at, SectionFault, Keeps, context_for, AreBits, arm_guards, BuildsConditions, case_place, view_choices}
 use Rattle.state_diagrams.proofs.choices.make_guards.Given as goal
 
 abbrev pub invariant-loop-arm : goal.invariant-loop-arm

@@ -1,15 +1,7 @@
 -- Conditions that are refused or stand behind what is, and those whose guards are made.
 use Rattle.std.proofs.Common.{[], Ok, Err, refl, sym, ◌∙◌, subst}
-use Rattle.bit_expr.specs.Arena.{arena, formula_at}
-use Rattle.set_expr.specs.Contexts.{context_for}
-use Rattle.section_targets.specs.declared.walked.Walked.{Walked}
-use Rattle.section_targets.specs.Building.{AreBits}
-use Rattle.equations.proofs.WalkedUnits.{limit_kept, unit_clear, unit_refused}
-use Rattle.truth_tables.proofs.RowsWalked.{not_clear}
+use Rattle.state_diagrams.proofs.Common.{arena, formula_at, context_for, Walked, AreBits, limit_kept, unit_clear, unit_refused, not_clear, arm_guards, case_unit, case_arms, case_choices, case_place, choices_refused}
 use Rattle.state_diagrams.proofs.GuardLaws.{conditions_made}
-use Rattle.state_diagrams.specs.ArmGuards.{arm_guards, case_unit}
-use Rattle.state_diagrams.specs.Arms.{case_arms, case_choices, case_place}
-use Rattle.state_diagrams.specs.DiagramUnits.{choices_refused}
 use Rattle.state_diagrams.proofs.choices.walk_conditions.Goals as goal
 
 pub returns-then-refuse-clause-walks : goal.returns-then-refuse-clause-walks

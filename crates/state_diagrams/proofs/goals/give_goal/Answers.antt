@@ -1,17 +1,6 @@
 -- The value, one register more, and all registers.
 use Rattle.std.proofs.Common.{◌<◌, Ok, Err, length, get_or, refl, sym, ap, ◌∙◌, subst, arith}
-use Rattle.std.proofs.lemmas.Result.{err_from_is_err_and}
-use Rattle.bit_expr.specs.declared.node.ExprId.{ExprId}
-use Rattle.bit_expr.specs.Arena.{arena}
-use Rattle.abel_tree.specs.declared.names.Names.{Names}
-use Rattle.abel_tree.specs.Entries.{entries_of}
-use Rattle.set_expr.specs.Contexts.{context_for}
-use Rattle.set_expr.specs.Given.{view_guard}
-use Rattle.section_targets.specs.declared.aim.Aim.{Aim}
-use Rattle.section_targets.specs.Walking.{standing}
-use Rattle.section_targets.proofs.Built.{kept_formula, kept_inside}
-use Rattle.equations.proofs.BuiltParts.{bits_length}
-use Rattle.equations.proofs.BuiltUnits.{at, guard_kept}
+use Rattle.state_diagrams.proofs.Common.{err_from_is_err_and, ExprId, arena, Names, entries_of, context_for, view_guard, Aim, standing, kept_formula, kept_inside, bits_length, at, guard_kept}
 use Rattle.state_diagrams.proofs.GoalWorks.{goal_built, goal_word, register_step, registers_done, value_made, value_stops}
 use Rattle.state_diagrams.proofs.StateBits.{bits_kept}
 use Rattle.state_diagrams.proofs.goals.give_goal.Goals as goal

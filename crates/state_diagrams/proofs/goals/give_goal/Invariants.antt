@@ -1,11 +1,6 @@
 -- The registers from here on are left of the goal.
 use Rattle.std.proofs.Common.{◌≡◌, ◌<◌, length}
-use Rattle.bit_expr.specs.Arena.{arena}
-use Rattle.set_expr.specs.Contexts.{context_for}
-use Rattle.set_expr.specs.Given.{view_guard}
-use Rattle.section_targets.specs.Building.{AreBits}
-use Rattle.section_targets.specs.Walking.{standing}
-use Rattle.truth_tables.proofs.WorkLaws.{IsLeft}
+use Rattle.state_diagrams.proofs.Common.{arena, context_for, view_guard, AreBits, standing, IsLeft}
 use Rattle.state_diagrams.proofs.GoalWorks.{goal_parted, goal_word, goals_from}
 use Rattle.state_diagrams.proofs.goals.give_goal.Given as goal
 

@@ -1,9 +1,5 @@
 -- A register's bit, and a match behind it.
-use Rattle.std.proofs.lemmas.Result.{err_from_is_err_and}
-use Rattle.bit_expr.specs.Arena.{arena, formula_at}
-use Rattle.set_expr.specs.Given.{view_guard}
-use Rattle.section_targets.proofs.Built.{kept_formula, kept_inside, keeps_on}
-use Rattle.equations.proofs.BuiltUnits.{at, guard_kept}
+use Rattle.state_diagrams.proofs.Common.{err_from_is_err_and, arena, formula_at, view_guard, kept_formula, kept_inside, keeps_on, at, guard_kept}
 use Rattle.state_diagrams.proofs.GoalWorks.{register_given, register_stops}
 use Rattle.state_diagrams.proofs.goals.give_register.Goals as goal
 

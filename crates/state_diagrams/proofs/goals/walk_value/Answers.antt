@@ -1,23 +1,6 @@
 -- A value that is refused or stands behind what is, and one that is made.
 use Rattle.std.proofs.Common.{[], ◌++◌, length, sym, ◌∙◌, subst}
-use Rattle.std.proofs.lemmas.Result.{on_ok_weaker}
-use Rattle.bit_expr.specs.Arena.{arena}
-use Rattle.abel_tree.specs.declared.names.Names.{Names}
-use Rattle.abel_tree.specs.Entries.{entries_of}
-use Rattle.abel_tree.specs.View.{view}
-use Rattle.abel_meaning.specs.CountedNodes.{value_nodes}
-use Rattle.set_expr.specs.FoundNames.{expression_found}
-use Rattle.set_expr.specs.KnownNames.{SumsUp}
-use Rattle.set_expr.specs.Given.{view_guard}
-use Rattle.section_targets.specs.declared.walked.Walked.{Walked}
-use Rattle.section_targets.specs.Building.{Builds}
-use Rattle.set_expr.specs.Contexts.{context_for}
-use Rattle.section_targets.specs.ValueWidths.{value_refused, value_width}
-use Rattle.section_targets.specs.Walking.{standing}
-use Rattle.section_targets.proofs.Built.{left_empty}
-use Rattle.equations.proofs.BuiltParts.{value_accepted, whole}
-use Rattle.equations.proofs.WalkedUnits.{unit_clear, unit_made, unit_refused}
-use Rattle.state_diagrams.specs.Goals.{goal_unit}
+use Rattle.state_diagrams.proofs.Common.{on_ok_weaker, arena, Names, entries_of, view, value_nodes, expression_found, SumsUp, view_guard, Walked, Builds, context_for, value_refused, value_width, standing, left_empty, value_accepted, whole, unit_clear, unit_made, unit_refused, goal_unit}
 use Rattle.state_diagrams.proofs.goals.walk_value.Goals as goal
 
 pub returns-then-refuse : goal.returns-then-refuse

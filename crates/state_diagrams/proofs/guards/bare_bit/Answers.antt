@@ -1,7 +1,5 @@
 -- The answer of reading a signal, as a part of a unit.
-use Rattle.set_expr.specs.Contexts.{context_for}
-use Rattle.equations.proofs.BuiltParts.{same_context}
-use Rattle.state_diagrams.specs.StateGuards.{bare_read}
+use Rattle.state_diagrams.proofs.Common.{context_for, same_context, bare_read}
 use Rattle.state_diagrams.proofs.LiteralLaws.{bit_made, bit_past, no_memory}
 use Rattle.state_diagrams.proofs.guards.bare_bit.Goals as goal
 

@@ -1,7 +1,7 @@
 -- One digit more, and all digits in the other order.
 use Rattle.std.proofs.Common.{◌≡◌, ℕ, suc, ◌+◌, ◌-◌, ◌%◌, ◌/◌, ◌<◌, ◌≤◌, [], ◌∷◌, ◌++◌, reverse, ap, sym, ◌∙◌, arith, append_assoc, append-nil}
 use Rattle.std.specs.Prelude.{◌==◌}
-use Rattle.abel_meaning.specs.Numbers.{digits_low_first}
+use Rattle.state_diagrams.proofs.Common.{digits_low_first}
 use Rattle.state_diagrams.proofs.guards.state_digits.Goals as goal
 
 low_first : (w n : ℕ) → digits_low_first (w - 0) n ≡ digits_low_first w n

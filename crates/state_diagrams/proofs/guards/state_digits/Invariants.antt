@@ -1,6 +1,6 @@
 -- So many digits are there, the last one first.
 use Rattle.std.proofs.Common.{◌≡◌, ◌-◌, ◌++◌}
-use Rattle.abel_meaning.specs.Numbers.{digits_low_first}
+use Rattle.state_diagrams.proofs.Common.{digits_low_first}
 use Rattle.state_diagrams.proofs.guards.state_digits.Given as goal
 
 abbrev pub invariant-loop-index : goal.invariant-loop-index

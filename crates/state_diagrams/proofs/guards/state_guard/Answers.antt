@@ -1,20 +1,6 @@
 -- One register more, and all registers.
 use Rattle.std.proofs.Common.{◌≡◌, ℕ, Result, Bool, List, true, Ok, Err, length, get_or, refl, ap, sym, ◌∙◌, subst, arith}
-use Rattle.std.proofs.lemmas.List.{length-map}
-use Rattle.std.proofs.lemmas.Result.{err_from_is_err_and}
-use Rattle.pld_base.specs.declared.place.Place.{Place}
-use Rattle.bit_expr.specs.declared.node.ExprId.{ExprId}
-use Rattle.bit_expr.specs.declared.node.Node.{Node}
-use Rattle.bit_expr.specs.Arena.{arena, formula_at}
-use Rattle.bit_expr.specs.Formulas.{Const}
-use Rattle.abel_meaning.specs.Designs.{Context}
-use Rattle.abel_meaning.specs.Numbers.{digits}
-use Rattle.set_expr.specs.declared.fault.SectionFault.{SectionFault}
-use Rattle.set_expr.specs.Contexts.{context_for}
-use Rattle.section_targets.specs.declared.aim.Aim.{Aim}
-use Rattle.section_targets.proofs.MetWords.{high_bit}
-use Rattle.state_diagrams.specs.DiagramUnits.{signals_of}
-use Rattle.state_diagrams.specs.StateGuards.{MakesBit, literals, number_guard, register_literal}
+use Rattle.state_diagrams.proofs.Common.{length-map, err_from_is_err_and, Place, ExprId, Node, arena, formula_at, Const, Context, digits, SectionFault, context_for, Aim, high_bit, signals_of, MakesBit, literals, number_guard, register_literal}
 use Rattle.state_diagrams.proofs.LiteralLaws.{digits_each, literals_done, literals_next, literals_start, literals_stop, no_memory}
 use Rattle.state_diagrams.proofs.guards.state_guard.Goals as goal
 

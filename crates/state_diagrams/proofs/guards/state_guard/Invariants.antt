@@ -1,12 +1,6 @@
 -- What the other registers' literals make behind the bit so far, all make.
 use Rattle.std.proofs.Common.{◌<◌, true, List, Result, drop, length}
-use Rattle.bit_expr.specs.declared.node.ExprId.{ExprId}
-use Rattle.bit_expr.specs.declared.node.Node.{Node}
-use Rattle.bit_expr.specs.Arena.{arena, formula_at}
-use Rattle.bit_expr.specs.Formulas.{Const}
-use Rattle.set_expr.specs.declared.fault.SectionFault.{SectionFault}
-use Rattle.set_expr.specs.Contexts.{context_for}
-use Rattle.state_diagrams.specs.StateGuards.{MakesBit, literals}
+use Rattle.state_diagrams.proofs.Common.{ExprId, Node, arena, formula_at, Const, SectionFault, context_for, MakesBit, literals}
 use Rattle.state_diagrams.proofs.guards.state_guard.Given as goal
 
 abbrev pub invariant-loop-index : goal.invariant-loop-index

@@ -1,11 +1,6 @@
 -- A literal over what its register reads, plain or complemented.
 use Rattle.std.proofs.Common.{Ok, sym, subst}
-use Rattle.std.proofs.lemmas.Result.{err_from_is_err_and}
-use Rattle.bit_expr.specs.Arena.{arena, formula_at}
-use Rattle.abel_meaning.specs.CountedBlocks.{make_literal}
-use Rattle.set_expr.specs.Contexts.{context_for}
-use Rattle.section_targets.proofs.Built.{kept_inside}
-use Rattle.state_diagrams.specs.StateGuards.{MakesBit, bare_read}
+use Rattle.state_diagrams.proofs.Common.{err_from_is_err_and, arena, formula_at, make_literal, context_for, kept_inside, MakesBit, bare_read}
 use Rattle.state_diagrams.proofs.LiteralLaws.{bit_keeps, bit_stops, literal_then}
 use Rattle.state_diagrams.proofs.guards.with_register.Goals as goal
 

@@ -1,7 +1,6 @@
 -- So many contributions have their matches.
 use Rattle.std.proofs.Common.{◌≡◌, [], ◌++◌, drop}
-use Rattle.state_diagrams.specs.DiagramUnits.{signals_of}
-use Rattle.state_diagrams.specs.Matches.{pushed_for}
+use Rattle.state_diagrams.proofs.Common.{signals_of, pushed_for}
 use Rattle.state_diagrams.proofs.matches.matches_beside.Given as goal
 
 abbrev pub invariant-loop-index : goal.invariant-loop-index

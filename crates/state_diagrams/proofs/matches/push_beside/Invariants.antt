@@ -1,6 +1,6 @@
 -- So many bits have their match.
 use Rattle.std.proofs.Common.{◌≡◌, true, ◌++◌, drop}
-use Rattle.state_diagrams.specs.Matches.{pushed_if}
+use Rattle.state_diagrams.proofs.Common.{pushed_if}
 use Rattle.state_diagrams.proofs.matches.push_beside.Given as goal
 
 abbrev pub invariant-loop-index : goal.invariant-loop-index

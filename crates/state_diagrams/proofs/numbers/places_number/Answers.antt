@@ -1,9 +1,6 @@
 -- One digit more from the top.
 use Rattle.std.proofs.Common.{◌+◌, ◌-◌, ◌*◌, ◌<◌, map, drop, sym, ap, ◌∙◌, subst, arith}
-use Rattle.std.proofs.lemmas.List.{get_or-map, length-map}
-use Rattle.bit_expr.specs.Arena.{arena}
-use Rattle.abel_meaning.specs.Numbers.{number_with, one_bit}
-use Rattle.state_diagrams.specs.Still.{level_of}
+use Rattle.state_diagrams.proofs.Common.{get_or-map, length-map, arena, number_with, one_bit, level_of}
 use Rattle.state_diagrams.proofs.NumberLaws.{digit_more, in_at, still_small}
 use Rattle.state_diagrams.proofs.numbers.places_number.Goals as goal
 

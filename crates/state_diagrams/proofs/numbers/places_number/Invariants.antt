@@ -1,8 +1,6 @@
 -- The digits from the top so far.
 use Rattle.std.proofs.Common.{◌≡◌, ◌≤◌, map, drop, length}
-use Rattle.bit_expr.specs.Arena.{arena}
-use Rattle.abel_meaning.specs.Numbers.{number_with}
-use Rattle.state_diagrams.specs.Still.{level_of}
+use Rattle.state_diagrams.proofs.Common.{arena, number_with, level_of}
 use Rattle.state_diagrams.proofs.numbers.places_number.Given as goal
 
 abbrev pub invariant-loop-left : goal.invariant-loop-left

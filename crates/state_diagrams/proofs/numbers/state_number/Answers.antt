@@ -1,14 +1,7 @@
 -- A number of its own, and the number of positions.
 use Rattle.std.proofs.Common.{◌≤◌, Option, List, length, map, refl, sym, ap, ◌∙◌, subst}
-use Rattle.bit_expr.specs.declared.node.ExprId.{ExprId}
-use Rattle.bit_expr.specs.Arena.{arena}
-use Rattle.abel_tree.specs.View.{view}
-use Rattle.abel_meaning.specs.Numbers.{number_with}
-use Rattle.abel_meaning.specs.Terms.{term_of}
-use Rattle.abel_meaning.specs.Values.{constant_of}
+use Rattle.state_diagrams.proofs.Common.{ExprId, arena, view, number_with, term_of, constant_of, context_for, level_of}
 use Rattle.set_expr.specs.Answer.{AreIn}
-use Rattle.set_expr.specs.Contexts.{context_for}
-use Rattle.state_diagrams.specs.Still.{level_of}
 use Rattle.state_diagrams.proofs.NumberLaws.{few_positions, narrow, places_say}
 use Rattle.state_diagrams.proofs.numbers.state_number.Goals as goal
 

@@ -1,16 +1,6 @@
 -- Registers that are no targets, and registers that are.
 use Rattle.std.proofs.Common.{◌++◌, None, true, false, List, map, length, refl, sym, ap, ◌∙◌, subst}
-use Rattle.abel_tree.specs.declared.names.Names.{Names}
-use Rattle.abel_tree.specs.Entries.{entries_of}
-use Rattle.abel_tree.specs.FirstRefusal.{first_refusal}
-use Rattle.abel_tree.specs.View.{view}
-use Rattle.set_expr.specs.SectionOrder.{section_order}
-use Rattle.section_targets.specs.declared.aim.Aim.{Aim}
-use Rattle.set_expr.specs.Contexts.{context_for}
-use Rattle.section_targets.specs.Given.{AreNamed}
-use Rattle.section_targets.specs.Manners.{AreFirsts, aims_refused, manner_of}
-use Rattle.section_targets.specs.TargetSignals.{target_member}
-use Rattle.equations.proofs.BuiltParts.{is_context, same_context}
+use Rattle.state_diagrams.proofs.Common.{Names, entries_of, first_refusal, view, section_order, Aim, context_for, AreNamed, AreFirsts, aims_refused, manner_of, target_member, is_context, same_context}
 use Rattle.equations.proofs.CheckedUnits.{known_by_names}
 use Rattle.state_diagrams.proofs.StateLaws.{member_whole, no_manners, no_registers, some_manners, some_registers}
 use Rattle.state_diagrams.proofs.registers.check_registers.Goals as goal

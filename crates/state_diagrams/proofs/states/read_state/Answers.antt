@@ -1,9 +1,6 @@
 -- The value, and what is listed with it.
 use Rattle.std.proofs.Common.{ℕ, List, length, ◌∙◌, subst₂}
-use Rattle.abel_tree.specs.View.{view_state}
-use Rattle.set_expr.specs.Contexts.{context_for}
-use Rattle.state_diagrams.specs.DiagramUnits.{signals_of}
-use Rattle.state_diagrams.specs.StateValues.{IsState}
+use Rattle.state_diagrams.proofs.Common.{view_state, context_for, signals_of, IsState}
 use Rattle.state_diagrams.proofs.StateLaws.{listed_as}
 use Rattle.state_diagrams.proofs.GoalWorks.{sized}
 use Rattle.state_diagrams.proofs.states.read_state.Goals as goal

@@ -1,26 +1,6 @@
 -- One state more, and all of them.
 use Rattle.std.proofs.Common.{◌≡◌, ℕ, ◌+◌, None, List, [], drop, map, take, refl, sym, ap, ◌∙◌, subst, arith}
-use Rattle.std.proofs.lemmas.List.{drop_all}
-use Rattle.std.proofs.Math.Seq.{take-length}
-use Rattle.bit_expr.specs.declared.node.ExprId.{ExprId}
-use Rattle.bit_expr.specs.Arena.{arena}
-use Rattle.abel_tree.specs.declared.diagrams.State.{State}
-use Rattle.abel_tree.specs.Tree.{StateTree}
-use Rattle.abel_tree.specs.View.{view_state}
-use Rattle.set_expr.specs.Contexts.{context_for}
-use Rattle.set_expr.specs.declared.contributions.Guard.{Guard}
-use Rattle.set_expr.proofs.FoundMembers.{front_more}
-use Rattle.section_targets.specs.Building.{AreBits}
-use Rattle.section_targets.proofs.WalksBehind.{walks_none}
-use Rattle.equations.proofs.BuiltParts.{kept_bit}
-use Rattle.state_diagrams.specs.DiagramWalks.{WalksBranches, WalksStates}
-use Rattle.abel_tree.specs.declared.diagrams.Arm.{Arm}
-use Rattle.abel_tree.specs.declared.statements.Stmt.{Stmt}
-use Rattle.section_targets.proofs.Built.{kept_inside}
-use Rattle.equations.specs.Checks.{view_list}
-use Rattle.equations.specs.StatementWalks.{WalksStatements}
-use Rattle.state_diagrams.specs.Arms.{view_arms}
-use Rattle.state_diagrams.specs.DiagramWorks.{state_bit, state_bits}
+use Rattle.state_diagrams.proofs.Common.{drop_all, take-length, ExprId, arena, State, StateTree, view_state, context_for, Guard, front_more, AreBits, walks_none, kept_bit, WalksBranches, WalksStates, Arm, Stmt, kept_inside, view_list, WalksStatements, view_arms, state_bit, state_bits}
 use Rattle.state_diagrams.proofs.AnyGuards.{walked_clear}
 use Rattle.state_diagrams.proofs.StateBits.{bits_kept, states_more}
 use Rattle.state_diagrams.proofs.WalkedBranches.{rest_at}

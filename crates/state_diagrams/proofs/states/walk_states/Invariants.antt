@@ -1,12 +1,6 @@
 -- What the other states leave behind those that are listed, all leave; and the bits so far.
 use Rattle.std.proofs.Common.{◌≡◌, None, [], drop, map, take}
-use Rattle.bit_expr.specs.Arena.{arena}
-use Rattle.abel_tree.specs.View.{view_state}
-use Rattle.set_expr.specs.Contexts.{context_for}
-use Rattle.section_targets.specs.declared.walked.Walked.{Walked}
-use Rattle.section_targets.specs.Building.{AreBits}
-use Rattle.state_diagrams.specs.DiagramWalks.{WalksStates}
-use Rattle.state_diagrams.specs.DiagramWorks.{state_bits}
+use Rattle.state_diagrams.proofs.Common.{arena, view_state, context_for, Walked, AreBits, WalksStates, state_bits}
 use Rattle.state_diagrams.proofs.states.walk_states.Given as goal
 
 abbrev pub invariant-loop-state : goal.invariant-loop-state

@@ -1,34 +1,9 @@
 -- A state that is refused or stands behind what is, and one whose bit is made.
 use Rattle.std.proofs.Common.{◌≡◌, ℕ, false, List, [], ◌∷◌, Result, Ok, Err, length, refl, sym, ap, ◌∙◌, subst, subst₂}
-use Rattle.std.specs.Option.{is_some}
-use Rattle.bit_expr.specs.Arena.{arena}
-use Rattle.bit_expr.specs.declared.node.Node.{Node}
-use Rattle.abel_tree.specs.FirstRefusal.{earlier}
-use Rattle.abel_tree.specs.Tree.{StateTree}
-use Rattle.abel_tree.specs.View.{view_state}
-use Rattle.abel_meaning.specs.Designs.{Context}
-use Rattle.abel_meaning.specs.Terms.{term_of}
-use Rattle.set_expr.specs.declared.fault.SectionFault.{SectionFault}
-use Rattle.set_expr.specs.SectionOrder.{section_order}
-use Rattle.section_targets.specs.declared.manner.Manner.{Manner}
-use Rattle.section_targets.specs.declared.walked.Walked.{Walked}
-use Rattle.section_targets.specs.Building.{BuildsNodes, IsBit}
-use Rattle.section_targets.specs.Manners.{AreFirsts}
-use Rattle.set_expr.specs.Contexts.{context_for}
-use Rattle.section_targets.specs.Units.{part}
-use Rattle.section_targets.specs.Walking.{AfterMaking, Walks}
-use Rattle.section_targets.proofs.MetWords.{high_bit}
-use Rattle.equations.proofs.WalkedUnits.{limit_kept, unit_clear, unit_refused}
-use Rattle.truth_tables.proofs.RowsWalked.{not_clear}
-use Rattle.state_diagrams.specs.DiagramUnits.{signals_of, state_guard}
-use Rattle.state_diagrams.specs.DiagramWalks.{state_unit}
-use Rattle.state_diagrams.specs.StateGuards.{number_guard}
-use Rattle.state_diagrams.specs.StateValues.{IsState, state_refused}
+use Rattle.state_diagrams.proofs.Common.{is_some, arena, Node, earlier, StateTree, view_state, Context, term_of, SectionFault, section_order, Manner, Walked, BuildsNodes, IsBit, AreFirsts, context_for, part, AfterMaking, Walks, high_bit, limit_kept, unit_clear, unit_refused, not_clear, signals_of, state_guard, state_unit, number_guard, IsState, state_refused, Made, Formula}
 use Rattle.state_diagrams.specs.declared.values.StateFound.{StateFound}
 use Rattle.state_diagrams.proofs.StateBits.{guard_is_state}
 use Rattle.state_diagrams.proofs.AnyGuards.{nodes_made}
-use Rattle.bit_expr.specs.Folding.{Made}
-use Rattle.bit_expr.specs.Formulas.{Formula}
 use Rattle.state_diagrams.proofs.states.walk_unit.Goals as goal
 
 pub returns-then-refuse-clause-walks : goal.returns-then-refuse-clause-walks

@@ -1,13 +1,6 @@
 -- A value that reads a signal, and one that doesn't.
 use Rattle.std.proofs.Common.{◌≡◌, None, Some, sym, ◌∙◌, subst}
-use Rattle.abel_tree.specs.declared.names.Names.{Names}
-use Rattle.abel_tree.specs.Entries.{entries_of}
-use Rattle.abel_tree.specs.View.{view}
-use Rattle.abel_tree.proofs.FirstRefusals.{none_refused}
-use Rattle.set_expr.specs.Contexts.{context_for}
-use Rattle.set_expr.specs.FoundNames.{expression_found}
-use Rattle.set_expr.specs.KnownNames.{SumsUp}
-use Rattle.set_expr.specs.SectionOrder.{section_order}
+use Rattle.state_diagrams.proofs.Common.{Names, entries_of, view, none_refused, context_for, expression_found, SumsUp, section_order}
 use Rattle.state_diagrams.proofs.StateLaws.{read_refused}
 use Rattle.state_diagrams.proofs.values.check_value.Goals as goal
 

@@ -1,22 +1,6 @@
 -- A diagram whose registers are refused, and one whose registers aren't.
 use Rattle.std.proofs.Common.{◌≤◌, ◌++◌, List, [], map, length, refl, sym, ap, ◌∙◌, subst}
-use Rattle.std.proofs.lemmas.Result.{on_ok_weaker}
-use Rattle.bit_expr.specs.Arena.{arena}
-use Rattle.abel_tree.specs.declared.diagrams.State.{State}
-use Rattle.abel_tree.specs.Entries.{entries_of}
-use Rattle.abel_tree.specs.View.{view, view_state}
-use Rattle.abel_tree.proofs.FirstRefusals.{none_refused}
-use Rattle.set_expr.specs.Given.{view_guard}
-use Rattle.set_expr.specs.SectionOrder.{section_order}
-use Rattle.section_targets.specs.declared.aim.Aim.{Aim}
-use Rattle.section_targets.specs.declared.walked.Walked.{Walked}
-use Rattle.set_expr.specs.Contexts.{context_for}
-use Rattle.section_targets.specs.Given.{AreNamed}
-use Rattle.section_targets.specs.Manners.{AreFirsts}
-use Rattle.section_targets.specs.TargetSignals.{target_member}
-use Rattle.state_diagrams.specs.DiagramUnits.{register_manners, registers_refused, signals_of, states_manners, units_of_states}
-use Rattle.state_diagrams.specs.DiagramWalks.{WalksWork, given_by, places_by}
-use Rattle.state_diagrams.specs.DiagramWorks.{others_work}
+use Rattle.state_diagrams.proofs.Common.{on_ok_weaker, arena, State, entries_of, view, view_state, none_refused, view_guard, section_order, Aim, Walked, context_for, AreNamed, AreFirsts, target_member, register_manners, registers_refused, signals_of, states_manners, units_of_states, WalksWork, given_by, places_by, others_work}
 use Rattle.state_diagrams.proofs.AnyGuards.{still_firsts}
 use Rattle.state_diagrams.proofs.WalkedDiagrams.{diagram_refused, diagram_walks}
 use Rattle.state_diagrams.proofs.walking.walk_diagram.Goals as goal

@@ -1,19 +1,7 @@
 -- Behind what is refused, and where nothing is.
 use Rattle.std.proofs.Common.{[], length, refl, sym, ap, ◌∙◌, subst, append-nil}
-use Rattle.std.proofs.lemmas.Result.{on_ok_weaker}
-use Rattle.bit_expr.specs.Arena.{arena}
-use Rattle.abel_tree.specs.declared.names.Names.{Names}
-use Rattle.abel_tree.specs.Entries.{entries_of}
-use Rattle.set_expr.specs.Given.{view_guard}
-use Rattle.section_targets.specs.declared.walked.Walked.{Walked}
-use Rattle.set_expr.specs.Contexts.{context_for}
-use Rattle.section_targets.specs.Given.{AreNamed}
-use Rattle.section_targets.specs.Manners.{AreFirsts}
-use Rattle.section_targets.specs.Walking.{standing}
-use Rattle.section_targets.proofs.WalksBehind.{walks_made}
+use Rattle.state_diagrams.proofs.Common.{on_ok_weaker, arena, Names, entries_of, view_guard, Walked, context_for, AreNamed, AreFirsts, standing, walks_made, no_fault, header_work}
 use Rattle.truth_tables.specs.TableUnits.{some_aims}
-use Rattle.truth_tables.proofs.RowsWalked.{no_fault}
-use Rattle.state_diagrams.specs.DiagramWorks.{header_work}
 use Rattle.state_diagrams.proofs.DiagramBuilt.{header_aims, header_there}
 use Rattle.state_diagrams.proofs.WalkedDiagrams.{header_refused}
 use Rattle.state_diagrams.proofs.walking.walk_header.Goals as goal

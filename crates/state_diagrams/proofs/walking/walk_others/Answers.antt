@@ -1,14 +1,6 @@
 -- The states, and the matches behind them where nothing is refused.
 use Rattle.std.proofs.Common.{◌≡◌, [], ◌++◌, length, drop, map, refl, sym, ap, ap₂, ◌∙◌, arith, length-append}
-use Rattle.bit_expr.specs.Arena.{arena}
-use Rattle.abel_tree.specs.View.{view_state}
-use Rattle.set_expr.specs.Given.{view_guard}
-use Rattle.set_expr.specs.Contexts.{context_for}
-use Rattle.section_targets.specs.declared.walked.Walked.{Walked}
-use Rattle.truth_tables.proofs.RowsWalked.{no_fault}
-use Rattle.state_diagrams.specs.DiagramUnits.{signals_of, states_manners}
-use Rattle.state_diagrams.specs.DiagramWorks.{others_work, states_work}
-use Rattle.state_diagrams.specs.Matches.{pushed_for}
+use Rattle.state_diagrams.proofs.Common.{arena, view_state, view_guard, context_for, Walked, no_fault, signals_of, states_manners, others_work, states_work, pushed_for}
 use Rattle.state_diagrams.proofs.DiagramBuilt.{others_walk}
 use Rattle.state_diagrams.proofs.WalkedDiagrams.{walks_refusing}
 use Rattle.state_diagrams.proofs.walking.walk_others.Goals as goal
