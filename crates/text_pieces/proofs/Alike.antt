@@ -1,12 +1,9 @@
 -- Where a block or an argument ends is told by its bytes up to there: it ends so in each text that begins with them.
 use Rattle.std.proofs.Common.{◌≡◌, ℕ, zero, suc, ◌-◌, ◌<◌, ◌≤◌, inl, inr, Bool, List, [], ◌∷◌, Some, length, take, drop, get_or, refl, sym, ap, ◌∙◌, arith, length-drop}
 use Rattle.std.specs.Prelude.{◌==◌, ◌&&◌, not, if◌then◌else◌}
+use Rattle.text_pieces.proofs.Common.{braces, closes_block, closing, open_in, ends_argument, argument_end, is_plain, starts_byte, passing, quoting, rest_of, Mode}
 use Rattle.abel_lexer.specs.Bytes.{note_mark, slash}
 use Rattle.abel_lexer.proofs.Booleans.{bool_cases}
-use Rattle.text_pieces.specs.Brackets.{braces, closes_block, closing, open_in, ends_argument, argument_end}
-use Rattle.text_pieces.specs.Modes.{is_plain, starts_byte, passing, quoting}
-use Rattle.text_pieces.specs.Stacks.{rest_of}
-use Rattle.text_pieces.specs.declared.mode.Mode.{Mode}
 use Rattle.text_pieces.specs.declared.mode.Mode.TheVariants as mode
 
 some_is : (xs ys : List ℕ) → Some xs ≡ Some ys → xs ≡ ys

@@ -1,13 +1,7 @@
 -- The arguments that are open, where a byte is passed.
 use Rattle.std.proofs.Common.{◌≡◌, ℕ, zero, suc, ◌+◌, ◌-◌, ◌<◌, Bool, true, false, List, [], ◌∷◌, ◌++◌, Option, None, Some, length, drop, get_or, set, replicate, refl, sym, ap, ◌∙◌, arith, add-one}
 use Rattle.std.specs.Prelude.{◌==◌, ◌&&◌, IfSome, IfNone, if◌then◌else◌}
-use Rattle.std.proofs.lemmas.Bool.{ne_eqb}
-use Rattle.text_pieces.specs.Brackets.{argument_end}
-use Rattle.text_pieces.specs.Known.{EndsAt}
-use Rattle.text_pieces.specs.Modes.{is_plain, quoting}
-use Rattle.text_pieces.specs.Opened.{Opened, ArgumentsOpen}
-use Rattle.text_pieces.specs.declared.ends.Ends.{Ends}
-use Rattle.text_pieces.specs.declared.mode.Mode.{Mode}
+use Rattle.text_pieces.proofs.Common.{ne_eqb, argument_end, EndsAt, is_plain, quoting, Opened, ArgumentsOpen, Ends, Mode}
 use Rattle.text_pieces.specs.declared.mode.Mode.TheVariants as mode
 use Rattle.text_pieces.proofs.BlockSteps.{front, plain_is, no_zero}
 use Rattle.text_pieces.proofs.OpenPlaces.{stays, begins, ended, innermost}

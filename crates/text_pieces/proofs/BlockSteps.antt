@@ -1,14 +1,7 @@
 -- The blocks that are open, where a byte is passed.
 use Rattle.std.proofs.Common.{◌≡◌, ℕ, suc, ◌+◌, ◌-◌, ◌<◌, Bool, true, false, List, [], ◌∷◌, ◌++◌, Some, length, drop, get_or, set, replicate, Option, None, refl, sym, ap, ◌∙◌, arith, add-one}
 use Rattle.std.specs.Prelude.{◌==◌, IfSome, IfNone, if◌then◌else◌}
-use Rattle.std.proofs.Math.Seq.{drop-cons}
-use Rattle.std.proofs.lemmas.Bool.{ne_eqb}
-use Rattle.text_pieces.specs.Brackets.{closing}
-use Rattle.text_pieces.specs.Known.{ClosesAt}
-use Rattle.text_pieces.specs.Modes.{is_plain, passing}
-use Rattle.text_pieces.specs.Opened.{Opened, BlocksOpen}
-use Rattle.text_pieces.specs.declared.ends.Ends.{Ends}
-use Rattle.text_pieces.specs.declared.mode.Mode.{Mode}
+use Rattle.text_pieces.proofs.Common.{drop-cons, ne_eqb, closing, ClosesAt, is_plain, passing, Opened, BlocksOpen, Ends, Mode}
 use Rattle.text_pieces.specs.declared.mode.Mode.TheVariants as mode
 use Rattle.text_pieces.proofs.OpenPlaces.{stays, begins, ended, innermost}
 use Rattle.text_pieces.proofs.Tables.{tells_set, tells_none}

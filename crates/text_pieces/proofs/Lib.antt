@@ -1,9 +1,10 @@
-pub mod Stacked
-pub mod Pieces
-pub mod Tables
-pub mod OpenPlaces
-pub mod BlockSteps
-pub mod ArgumentSteps
-pub mod Marked
 pub mod Alike
+pub mod ArgumentSteps
+pub mod BlockSteps
+pub mod Common
+pub mod Marked
+pub mod OpenPlaces
+pub mod Pieces
+pub mod Stacked
+pub mod Tables
 pub mod Told

@@ -1,11 +1,8 @@
 -- Stretches in which no question mark stands.
 use Rattle.std.proofs.Common.{◌≡◌, ℕ, suc, ◌+◌, ◌-◌, ◌<◌, ◌≤◌, Bool, List, ◌∷◌, length, take, drop, get_or, refl, ap, ◌∙◌, arith}
 use Rattle.std.specs.Prelude.{◌==◌, if◌then◌else◌}
-use Rattle.std.specs.List.{count_by}
-use Rattle.std.proofs.lemmas.Bool.{ne_eqb}
-use Rattle.std.proofs.lemmas.List.{take-take}
+use Rattle.text_pieces.proofs.Common.{count_by, ne_eqb, take-take, NoMark}
 use Rattle.std.proofs.lemmas.List.Sums.{sum_by-cons, sum_by-take-le}
-use Rattle.text_pieces.specs.Known.{NoMark}
 use Rattle.text_pieces.proofs.BlockSteps.{front}
 
 -- a shorter stretch

@@ -1,6 +1,6 @@
 -- What is open, where a byte is passed: it stays open, something begins behind it, or the innermost ends.
 use Rattle.std.proofs.Common.{◌≡◌, ℕ, suc, ◌+◌, List, [], ◌∷◌, ◌++◌, length, Option, ap, ◌∙◌, arith, length-append}
-use Rattle.text_pieces.specs.Opened.{Opened}
+use Rattle.text_pieces.proofs.Common.{Opened}
 
 module _ (from here next : ℕ → Option (List ℕ)) where
   pub stays : (ps : List ℕ) → ((j : ℕ) → here j ≡ next j) → Opened from here ps → Opened from next ps

@@ -1,7 +1,6 @@
 -- A text in pieces, where pieces are taken from it and put before it.
 use Rattle.std.proofs.Common.{◌≡◌, ◌-◌, ◌+◌, ◌<◌, ◌≤◌, ℕ, suc, List, [], ◌∷◌, ◌++◌, length, take, drop, get_or, refl, sym, ap, ◌∙◌, append_assoc, append-nil, arith, add-one, length-append}
-use Rattle.std.proofs.Math.Seq.{drop-append-add, take-append-add, take-length, take-suc}
-use Rattle.text_pieces.specs.Stacks.{stacked, joined}
+use Rattle.text_pieces.proofs.Common.{drop-append-add, take-append-add, take-length, take-suc, stacked, joined}
 use Rattle.text_pieces.proofs.Stacked.{stacked-push}
 
 pub popped : (items more : List (List ℕ)) (p : List ℕ) → items ≡ more ++ p ∷ [] → p ++ stacked more ≡ stacked items

@@ -1,6 +1,6 @@
 -- The text of a stack, and one piece more or less.
 use Rattle.std.proofs.Common.{◌≡◌, ◌-◌, ◌+◌, ◌<◌, ◌≤◌, ℕ, zero, suc, List, [], ◌∷◌, ◌++◌, length, drop, get_or, refl, sym, ap, ◌∙◌, append_assoc, append-nil, add-one, arith, length-drop}
-use Rattle.text_pieces.specs.Stacks.{rest_of, stacked}
+use Rattle.text_pieces.proofs.Common.{rest_of, stacked}
 
 pub stacked-append : (ps qs : List (List ℕ)) → stacked (ps ++ qs) ≡ stacked qs ++ stacked ps
 stacked-append [] qs = sym (append-nil (stacked qs))

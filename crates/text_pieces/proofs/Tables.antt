@@ -1,8 +1,7 @@
 -- What a table says of its places, when one is asked and when one is set.
 use Rattle.std.proofs.Common.{◌≡◌, ℕ, zero, suc, ◌+◌, List, [], ◌∷◌, get_or, set, replicate, ◌-◌, take, drop, refl, sym, ap, ◌∙◌, arith}
 use Rattle.std.specs.Prelude.{◌==◌}
-use Rattle.std.specs.List.{count_by}
-use Rattle.text_pieces.specs.Known.{NoMark, Tells}
+use Rattle.text_pieces.proofs.Common.{count_by, NoMark, Tells}
 
 -- a fact of a number is one of an equal number
 moved : (fact : ℕ → Type 0) (a b : ℕ) → a ≡ b → fact a → fact b

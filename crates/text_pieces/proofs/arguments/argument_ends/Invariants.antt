@@ -1,6 +1,6 @@
 -- The arguments that are open before the next byte.
 use Rattle.std.proofs.Common.{◌≤◌, ◌-◌, length}
-use Rattle.text_pieces.specs.Opened.{ArgumentsOpen}
+use Rattle.text_pieces.proofs.Common.{ArgumentsOpen}
 use Rattle.text_pieces.proofs.arguments.argument_ends.Given as goal
 
 abbrev pub invariant-bytes : goal.invariant-bytes

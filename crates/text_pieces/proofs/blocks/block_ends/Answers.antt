@@ -1,6 +1,6 @@
 -- Nothing is open at first, and each byte is passed.
 use Rattle.std.proofs.Common.{◌∙◌, ap, arith, get_or, length}
-use Rattle.text_pieces.specs.Modes.{passing}
+use Rattle.text_pieces.proofs.Common.{passing}
 use Rattle.text_pieces.proofs.BlockSteps.{none_open}
 use Rattle.text_pieces.proofs.blocks.block_ends.Goals as goal
 

@@ -1,6 +1,6 @@
 -- The blocks that are open before the next byte.
 use Rattle.std.proofs.Common.{◌≤◌, ◌-◌, length}
-use Rattle.text_pieces.specs.Opened.{BlocksOpen}
+use Rattle.text_pieces.proofs.Common.{BlocksOpen}
 use Rattle.text_pieces.proofs.blocks.block_ends.Given as goal
 
 abbrev pub invariant-bytes : goal.invariant-bytes

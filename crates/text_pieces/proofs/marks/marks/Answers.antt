@@ -1,6 +1,6 @@
 -- The table is filled from the end of the text on.
 use Rattle.std.proofs.Common.{length, arith}
-use Rattle.text_pieces.specs.Known.{NoMark}
+use Rattle.text_pieces.proofs.Common.{NoMark}
 use Rattle.text_pieces.proofs.Marked.{mark_here}
 use Rattle.text_pieces.proofs.Tables.{tells_none, tells_set}
 use Rattle.text_pieces.proofs.marks.marks.Goals as goal

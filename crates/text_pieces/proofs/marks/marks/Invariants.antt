@@ -1,6 +1,6 @@
 -- The next question mark from a place on, and what the table says of those behind it.
 use Rattle.std.proofs.Common.{◌≤◌, length}
-use Rattle.text_pieces.specs.Known.{NoMark, Tells}
+use Rattle.text_pieces.proofs.Common.{NoMark, Tells}
 use Rattle.text_pieces.proofs.marks.marks.Given as goal
 
 abbrev pub invariant-bytes : goal.invariant-bytes

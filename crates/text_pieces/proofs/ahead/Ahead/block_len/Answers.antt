@@ -1,6 +1,6 @@
 -- What is known of the piece is known of the text that it begins.
 use Rattle.std.proofs.Common.{ap, ◌∙◌}
-use Rattle.text_pieces.specs.Stacks.{ahead, stacked}
+use Rattle.text_pieces.proofs.Common.{ahead, stacked}
 use Rattle.text_pieces.proofs.Told.{closes_known}
 use Rattle.text_pieces.proofs.ahead.Ahead.block_len.Goals as goal
 

@@ -1,6 +1,6 @@
 -- The first byte of the piece is the next one.
 use Rattle.std.proofs.Common.{ap, ◌∙◌, sym, arith, drop, ◌+◌, ◌++◌}
-use Rattle.text_pieces.specs.Stacks.{ahead, stacked}
+use Rattle.text_pieces.proofs.Common.{ahead, stacked}
 use Rattle.text_pieces.proofs.Stacked.{passes}
 use Rattle.text_pieces.proofs.ahead.Ahead.peek.Goals as goal
 

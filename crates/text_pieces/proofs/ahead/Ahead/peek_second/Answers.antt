@@ -1,6 +1,6 @@
 -- The second byte, in this piece or at the front of the next.
 use Rattle.std.proofs.Common.{ap, ◌∙◌, sym, arith, drop, ◌++◌}
-use Rattle.text_pieces.specs.Stacks.{ahead, stacked}
+use Rattle.text_pieces.proofs.Common.{ahead, stacked}
 use Rattle.text_pieces.proofs.Stacked.{two_of, one_then, one_behind}
 use Rattle.text_pieces.proofs.ahead.Ahead.peek_second.Goals as goal
 

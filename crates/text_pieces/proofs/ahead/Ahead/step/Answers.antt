@@ -1,6 +1,6 @@
 -- One byte is passed.
 use Rattle.std.proofs.Common.{ap, ◌∙◌, sym, arith, ◌++◌}
-use Rattle.text_pieces.specs.Stacks.{ahead, stacked}
+use Rattle.text_pieces.proofs.Common.{ahead, stacked}
 use Rattle.text_pieces.proofs.Stacked.{passes}
 use Rattle.text_pieces.proofs.ahead.Ahead.step.Goals as goal
 

@@ -1,6 +1,6 @@
 -- Where it ends in the text is within the piece.
 use Rattle.std.proofs.Common.{sym, arith}
-use Rattle.text_pieces.specs.Homes.{home_bytes}
+use Rattle.text_pieces.proofs.Common.{home_bytes}
 use Rattle.text_pieces.proofs.Told.{length_is, ends_within}
 use Rattle.text_pieces.proofs.piece.Piece.argument_len.Goals as goal
 

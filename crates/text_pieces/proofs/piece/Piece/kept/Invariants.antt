@@ -1,6 +1,6 @@
 -- The bytes of the pieces that were passed.
 use Rattle.std.proofs.Common.{◌≡◌, take}
-use Rattle.text_pieces.specs.Stacks.{joined}
+use Rattle.text_pieces.proofs.Common.{joined}
 use Rattle.text_pieces.proofs.piece.Piece.kept.Given as goal
 
 abbrev pub invariant-pieces : goal.invariant-pieces

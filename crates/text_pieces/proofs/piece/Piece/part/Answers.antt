@@ -1,6 +1,6 @@
 -- Bytes of a piece, from one of them on.
 use Rattle.std.proofs.Common.{sym, arith}
-use Rattle.text_pieces.specs.Homes.{home_bytes}
+use Rattle.text_pieces.proofs.Common.{home_bytes}
 use Rattle.text_pieces.proofs.Told.{length_is, part_is}
 use Rattle.text_pieces.proofs.piece.Piece.part.Goals as goal
 

@@ -1,6 +1,6 @@
 -- A piece without its first bytes.
 use Rattle.std.proofs.Common.{sym, arith}
-use Rattle.text_pieces.specs.Homes.{home_bytes}
+use Rattle.text_pieces.proofs.Common.{home_bytes}
 use Rattle.text_pieces.proofs.Told.{length_is, rest_is}
 use Rattle.text_pieces.proofs.piece.Piece.skip.Goals as goal
 

@@ -1,6 +1,6 @@
 -- No question mark stands up to there in the text, nor in the piece.
 use Rattle.std.proofs.Common.{sym, arith}
-use Rattle.text_pieces.specs.Homes.{home_bytes}
+use Rattle.text_pieces.proofs.Common.{home_bytes}
 use Rattle.text_pieces.proofs.Told.{length_is, unmarked_within}
 use Rattle.text_pieces.proofs.piece.Piece.unmarked_len.Goals as goal
 

@@ -1,6 +1,6 @@
 -- The bytes that are left to pass lead to where all lead.
 use Rattle.std.proofs.Common.{◌≡◌, ◌≤◌, length, drop}
-use Rattle.text_pieces.specs.Places.{text_at, IsPlace}
+use Rattle.text_pieces.proofs.Common.{text_at, IsPlace}
 use Rattle.text_pieces.proofs.place.Place.behind.Given as goal
 
 abbrev pub invariant-pieces : goal.invariant-pieces

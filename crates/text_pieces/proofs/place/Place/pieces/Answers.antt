@@ -1,8 +1,6 @@
 -- A piece more, and the last one.
 use Rattle.std.proofs.Common.{◌≡◌, ◌-◌, ◌++◌, ◌∙◌, ap, List, ℕ, length, take, sym, arith}
-use Rattle.std.proofs.lemmas.List.{take-append-le}
-use Rattle.text_pieces.specs.Places.{at_of, text_at}
-use Rattle.text_pieces.specs.Stacks.{stacked, joined}
+use Rattle.text_pieces.proofs.Common.{take-append-le, at_of, text_at, stacked, joined}
 use Rattle.text_pieces.proofs.Pieces.{cut_off, lengths, joined-push, part_front, whole_front, split_last}
 use Rattle.text_pieces.proofs.place.Place.pieces.Goals as goal
 

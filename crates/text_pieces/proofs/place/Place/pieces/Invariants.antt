@@ -1,7 +1,6 @@
 -- The pieces taken, with what is left of the front, are the front.
 use Rattle.std.proofs.Common.{◌≡◌, ◌≤◌, ◌++◌, length, take}
-use Rattle.text_pieces.specs.Places.{text_at, IsPlace}
-use Rattle.text_pieces.specs.Stacks.{joined}
+use Rattle.text_pieces.proofs.Common.{text_at, IsPlace, joined}
 use Rattle.text_pieces.proofs.place.Place.pieces.Given as goal
 
 abbrev pub invariant-pieces : goal.invariant-pieces

@@ -1,6 +1,6 @@
 -- A piece that holds nothing is passed.
 use Rattle.std.proofs.Common.{◌-◌, ◌∙◌, length, take}
-use Rattle.text_pieces.specs.Stacks.{stacked}
+use Rattle.text_pieces.proofs.Common.{stacked}
 use Rattle.text_pieces.proofs.Pieces.{popped, split_last}
 use Rattle.text_pieces.proofs.Stacked.{emptied}
 use Rattle.text_pieces.proofs.place.Place.settled.Goals as goal

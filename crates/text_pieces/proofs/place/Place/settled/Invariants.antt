@@ -1,6 +1,6 @@
 -- Pieces that hold nothing are passed: the text stays.
 use Rattle.std.proofs.Common.{◌≡◌, length}
-use Rattle.text_pieces.specs.Places.{text_at, IsPlace}
+use Rattle.text_pieces.proofs.Common.{text_at, IsPlace}
 use Rattle.text_pieces.proofs.place.Place.settled.Given as goal
 
 abbrev pub invariant-pieces : goal.invariant-pieces

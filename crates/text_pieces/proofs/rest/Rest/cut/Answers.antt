@@ -1,7 +1,6 @@
 -- A piece more, and the last one.
 use Rattle.std.proofs.Common.{◌≡◌, ◌+◌, ◌++◌, ◌∙◌, ap, List, [], ◌∷◌, ℕ, length, take, sym, arith}
-use Rattle.std.proofs.lemmas.List.{take-append-le}
-use Rattle.text_pieces.specs.Stacks.{stacked, joined}
+use Rattle.text_pieces.proofs.Common.{take-append-le, stacked, joined}
 use Rattle.text_pieces.proofs.Pieces.{skipped, cut_off, lengths, joined-push}
 use Rattle.text_pieces.proofs.rest.Rest.cut.Goals as goal
 

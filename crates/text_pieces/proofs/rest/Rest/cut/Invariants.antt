@@ -1,6 +1,6 @@
 -- The pieces taken, with what is left of the front, are the front.
 use Rattle.std.proofs.Common.{◌≡◌, ◌<◌, ◌≤◌, ◌^◌, ◌++◌, length, drop, take}
-use Rattle.text_pieces.specs.Stacks.{stacked, joined}
+use Rattle.text_pieces.proofs.Common.{stacked, joined}
 use Rattle.text_pieces.proofs.rest.Rest.cut.Given as goal
 
 abbrev pub invariant-pieces : goal.invariant-pieces

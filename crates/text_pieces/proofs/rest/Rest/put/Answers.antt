@@ -1,6 +1,6 @@
 -- One piece more stands before the rest.
 use Rattle.std.proofs.Common.{◌≡◌, ◌++◌, ◌∙◌, ap, List, ℕ, length, arith, length-append}
-use Rattle.text_pieces.specs.Stacks.{stacked}
+use Rattle.text_pieces.proofs.Common.{stacked}
 use Rattle.text_pieces.proofs.Stacked.{stacked-push}
 use Rattle.text_pieces.proofs.rest.Rest.put.Goals as goal
 

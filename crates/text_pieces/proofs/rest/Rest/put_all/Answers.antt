@@ -1,6 +1,6 @@
 -- The last of the pieces stands before the rest, and the others before it.
 use Rattle.std.proofs.Common.{◌-◌, ◌++◌, ◌∙◌, ap, List, ℕ, sym, length, take, arith, length-append, length-take, append_assoc}
-use Rattle.text_pieces.specs.Stacks.{joined}
+use Rattle.text_pieces.proofs.Common.{joined}
 use Rattle.text_pieces.proofs.Pieces.{joined_last}
 use Rattle.text_pieces.proofs.rest.Rest.put_all.Goals as goal
 

@@ -1,6 +1,6 @@
 -- The pieces that are left, before the rest, are the text wanted.
 use Rattle.std.proofs.Common.{◌≡◌, ◌+◌, ◌<◌, ◌≤◌, ◌^◌, ◌++◌, length}
-use Rattle.text_pieces.specs.Stacks.{joined}
+use Rattle.text_pieces.proofs.Common.{joined}
 use Rattle.text_pieces.proofs.rest.Rest.put_all.Given as goal
 
 abbrev pub invariant-pieces : goal.invariant-pieces

@@ -1,6 +1,6 @@
 -- What is left to pass lies behind the first piece.
 use Rattle.std.proofs.Common.{◌≡◌, ◌+◌, ◌++◌, ◌∙◌, ◌∷◌, [], List, ℕ, ap, sym, length, arith}
-use Rattle.text_pieces.specs.Stacks.{stacked}
+use Rattle.text_pieces.proofs.Common.{stacked}
 use Rattle.text_pieces.proofs.Pieces.{skipped, lengths}
 use Rattle.text_pieces.proofs.rest.Rest.skip.Goals as goal
 

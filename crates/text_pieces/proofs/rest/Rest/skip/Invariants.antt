@@ -1,6 +1,6 @@
 -- The bytes that are left to pass lead to where all lead.
 use Rattle.std.proofs.Common.{◌≡◌, ◌<◌, ◌≤◌, ◌^◌, ◌++◌, length, drop}
-use Rattle.text_pieces.specs.Stacks.{stacked}
+use Rattle.text_pieces.proofs.Common.{stacked}
 use Rattle.text_pieces.proofs.rest.Rest.skip.Given as goal
 
 abbrev pub invariant-pieces : goal.invariant-pieces

@@ -1,6 +1,6 @@
 -- The first byte, from the first piece that holds one.
 use Rattle.std.proofs.Common.{◌∙◌, ◌++◌, ◌∷◌, [], List, ℕ, ap, sym, length, arith}
-use Rattle.text_pieces.specs.Stacks.{stacked}
+use Rattle.text_pieces.proofs.Common.{stacked}
 use Rattle.text_pieces.proofs.Stacked.{emptied}
 use Rattle.text_pieces.proofs.Pieces.{popped}
 use Rattle.text_pieces.proofs.rest.Rest.take_byte.Goals as goal

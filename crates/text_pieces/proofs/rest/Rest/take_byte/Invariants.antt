@@ -1,6 +1,6 @@
 -- Pieces that hold nothing are left out: the text stays.
 use Rattle.std.proofs.Common.{◌≡◌, ◌<◌, ◌^◌, ◌++◌, length}
-use Rattle.text_pieces.specs.Stacks.{stacked}
+use Rattle.text_pieces.proofs.Common.{stacked}
 use Rattle.text_pieces.proofs.rest.Rest.take_byte.Given as goal
 
 abbrev pub invariant-pieces : goal.invariant-pieces

@@ -1,6 +1,6 @@
 -- The table's entry.
 use Rattle.std.proofs.Common.{sym}
-use Rattle.text_pieces.specs.Known.{EndsAt}
+use Rattle.text_pieces.proofs.Common.{EndsAt}
 use Rattle.text_pieces.proofs.Tables.{asked}
 use Rattle.text_pieces.proofs.text.Text.argument_end.Goals as goal
 

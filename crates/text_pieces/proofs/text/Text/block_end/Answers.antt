@@ -1,6 +1,6 @@
 -- The table's entry.
 use Rattle.std.proofs.Common.{sym}
-use Rattle.text_pieces.specs.Known.{ClosesAt}
+use Rattle.text_pieces.proofs.Common.{ClosesAt}
 use Rattle.text_pieces.proofs.Tables.{asked}
 use Rattle.text_pieces.proofs.text.Text.block_end.Goals as goal
 
