@@ -1,23 +1,12 @@
 -- The arguments by the parameters that they stand for, the last pair kept first.
 use Rattle.std.proofs.Common.{◌≡◌, ◌+◌, ◌<◌, ◌≤◌, ℕ, zero, suc, Bool, true, false, inl, inr, ◌⊎◌, List, [], ◌∷◌, Option, Some, None, length, drop, get_or, refl, sym, ap, ◌∙◌, arith, add-one, if◌then◌else◌}
 use Rattle.std.specs.Prelude.{option_map, min, nat_lt}
+use Rattle.text_rewriting.proofs.Common.{le-min, ltb-true, ltb-false, Vec, bytes_eq, drop_all, joined, bool_cases, standing_for, names, texts, under, by_bytes, with_name, bound}
 use Rattle.std.specs.Map.{lookup}
 use Rattle.std.specs.Option.{option_copied}
-use Rattle.std.proofs.Math.Nat.{le-min}
-use Rattle.std.proofs.lemmas.Bool.{ltb-true, ltb-false}
 use Rattle.std.specs.Borrow.{Bor}
-use Rattle.std.specs.Global.{Vec}
-use Rattle.std.specs.Str.{bytes_eq}
-use Rattle.std.proofs.lemmas.List.{drop_all}
 use Rattle.indexmap.specs.IndexMap.{insert_entry}
-use Rattle.text_pieces.specs.Stacks.{joined}
-use Rattle.abel_lexer.proofs.Booleans.{bool_cases}
-use Rattle.abel_macros.specs.Forms.{standing_for}
-use Rattle.abel_macros.specs.Pieces.{names, texts}
-use Rattle.abel_macros.specs.Kept.{under, by_bytes}
-use Rattle.abel_macros.specs.Rules.{with_name}
 use Rattle.abel_macros.proofs.Looked.{inserted, looked_up}
-use Rattle.text_rewriting.specs.Bound.{bound}
 
 abbrev Pieces : Type 0
 Pieces = List (List ℕ)

@@ -1,14 +1,9 @@
 -- What a front says of a move.
 use Rattle.std.proofs.Common.{◌≡◌, ◌-◌, ◌<◌, ◌≤◌, ℕ, List, length, take, drop, refl, sym, ap, ◌∙◌, subst, arith, length-drop}
 use Rattle.std.specs.Prelude.{Result, Ok, Err, IfOk}
-use Rattle.std.specs.Global.{Vec}
-use Rattle.abel_macros.specs.Gaps.{before}
-use Rattle.abel_macros.specs.Rules.{Tables, Done, Rewritten}
-use Rattle.abel_macros.proofs.Behind.{before_drop}
+use Rattle.text_rewriting.proofs.Common.{Vec, before, Tables, Done, Rewritten, before_drop, Front, changed, IsChange, IsFront, IsMade, IsRewritten}
 use Rattle.text_rewriting.specs.declared.front.Change.{Change}
-use Rattle.text_rewriting.specs.declared.front.Front.{Front}
 use Rattle.text_rewriting.specs.declared.front.Front.TheVariants as front
-use Rattle.text_rewriting.specs.Fronts.{changed, IsChange, IsFront, IsMade, IsRewritten}
 
 -- bytes that are done unchanged
 pub copy_front : (t : Tables) (text : List ℕ) (most n : ℕ) → 0 < n → n ≤ length text → IsFront t text most (Done t (before text (drop n text)) (drop n text)) (front.Copy n)

@@ -1,8 +1,9 @@
-pub mod Gathers
-pub mod Replaces
 pub mod Bounds
+pub mod Common
 pub mod DigitSteps
-pub mod Moves
-pub mod SpokenSteps
 pub mod Fronts
+pub mod Gathers
 pub mod Marks
+pub mod Moves
+pub mod Replaces
+pub mod SpokenSteps

@@ -1,11 +1,7 @@
 -- The end of a text stays, where bytes are taken from its front or put before it.
 use Rattle.std.proofs.Common.{◌≡◌, ◌+◌, ◌-◌, ◌≤◌, ℕ, zero, suc, List, [], ◌∷◌, ◌++◌, Option, Some, None, length, drop, sym, ap, ◌∙◌, arith, length-drop, length-append}
 use Rattle.std.specs.Prelude.{codes}
-use Rattle.std.specs.Str.{str_eq_ignore_ascii_case}
-use Rattle.std.proofs.Math.Seq.{drop-length, drop-nil, drop-append-add}
-use Rattle.std.proofs.lemmas.List.{drop-drop}
-use Rattle.abel_macros.specs.Gaps.{◌>>=◌, given, before, gap, word}
-use Rattle.abel_macros.specs.Rules.{macro_word}
+use Rattle.text_rewriting.proofs.Common.{str_eq_ignore_ascii_case, drop-length, drop-nil, drop-append-add, drop-drop, ◌>>=◌, given, before, gap, word, macro_word}
 use Rattle.text_rewriting.specs.Marks.{last}
 
 pub none_at_end : (w : List ℕ) (n : ℕ) → n ≡ 0 → macro_word (last n w) ≡ None

@@ -1,20 +1,7 @@
 -- The move of a text, by what stands at its front.
 use Rattle.std.proofs.Common.{◌≡◌, ◌+◌, ◌<◌, ◌≤◌, ℕ, suc, Bool, true, false, inl, inr, List, [], ◌∷◌, ◌++◌, Option, Some, None, length, take, drop, refl, sym, ap, ◌∙◌, arith, if◌then◌else◌, codes}
 use Rattle.std.specs.Prelude.{◌==◌, nat_lt}
-use Rattle.std.specs.List.{prefix_len}
-use Rattle.std.specs.Global.{Vec}
-use Rattle.std.proofs.lemmas.Bool.{eqb-true, eq-eqb, ltb-true}
-use Rattle.abel_lexer.proofs.Booleans.{bool_cases}
-use Rattle.abel_lexer.specs.Bytes.{quote, is_name_later}
-use Rattle.abel_lexer.specs.Lengths.{quoted_len}
-use Rattle.abel_macros.specs.Gaps.{◌>>=◌, given, before, starts_byte, rest_of, comment, string_len, word}
-use Rattle.abel_macros.specs.Forms.{arguments, replaced, standing_for}
-use Rattle.abel_macros.specs.Kept.{IsResult}
-use Rattle.abel_macros.specs.Pieces.{names, texts}
-use Rattle.abel_macros.specs.Rules.{Tables, Macro, Move, Done, Rewritten, Refused, BadDirective, or_bad, macro_word, definition, called, named, directed, directive_of, behind_directive, token_len, move}
-use Rattle.abel_macros.proofs.Behind.{before_drop}
-use Rattle.abel_macros.specs.Values.{digits_in}
-use Rattle.text_rewriting.specs.RuleMoves.{plain_move, digits}
+use Rattle.text_rewriting.proofs.Common.{prefix_len, Vec, eqb-true, eq-eqb, ltb-true, bool_cases, quote, is_name_later, quoted_len, ◌>>=◌, given, before, starts_byte, rest_of, comment, string_len, word, arguments, replaced, standing_for, IsResult, names, texts, Tables, Macro, Move, Done, Rewritten, Refused, BadDirective, or_bad, macro_word, definition, called, named, directed, directive_of, behind_directive, token_len, move, before_drop, digits_in, plain_move, digits}
 
 pub zero_takes_none : (v : ℕ) (w : List ℕ) → v ≡ 0 → (if v == 0 then [] else w) ≡ []
 zero_takes_none v w e = ap (λ (b : Bool). if b then [] else w) (eq-eqb v 0 e)

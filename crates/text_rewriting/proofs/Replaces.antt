@@ -1,20 +1,10 @@
 -- A block in which arguments stand for parameters, part by part.
 use Rattle.std.proofs.Common.{◌≡◌, ◌+◌, ◌<◌, ◌≤◌, ℕ, zero, suc, Bool, true, false, List, [], ◌∷◌, ◌++◌, Option, Some, None, inl, inr, length, take, drop, refl, sym, ap, ◌∙◌, arith, append-nil, append_assoc, add-one, length-append, length-drop, if◌then◌else◌}
 use Rattle.std.specs.Prelude.{◌==◌, Result, Ok, Err, IfErr, IfSome, IfNone}
-use Rattle.std.specs.List.{count_by}
-use Rattle.std.proofs.lemmas.List.{drop-drop}
+use Rattle.text_rewriting.proofs.Common.{count_by, drop-drop, take-add, bool_cases, Vec, starts_byte, rest_of, is_name_later, shaped_len, asked, replaced, standing_for, texts, each_replaced}
 use Rattle.std.proofs.lemmas.List.Sums.{sum_by-cons}
-use Rattle.std.proofs.Math.Seq.{take-add}
-use Rattle.abel_lexer.proofs.Booleans.{bool_cases}
-use Rattle.std.specs.Global.{Vec}
-use Rattle.abel_macros.specs.Gaps.{starts_byte, rest_of}
-use Rattle.abel_lexer.specs.Bytes.{is_name_later}
 use Rattle.abel_lexer.specs.Kinds.{word_head}
-use Rattle.abel_lexer.specs.Lengths.{shaped_len}
 use Rattle.abel_macros.proofs.Passed.{take_within}
-use Rattle.abel_macros.specs.Forms.{asked, replaced, standing_for}
-use Rattle.abel_macros.specs.Pieces.{texts}
-use Rattle.abel_macros.specs.Rules.{each_replaced}
 
 past : {A : Type 0} (ws : List A) (i : ℕ) → length ws ≤ i → drop i ws ≡ []
 past [] zero h = refl

@@ -1,11 +1,9 @@
 -- Line feeds and spaces of a form, byte by byte.
 use Rattle.std.proofs.Common.{◌≡◌, ◌+◌, ◌<◌, ◌≤◌, ℕ, Bool, true, false, List, [], ◌∷◌, ◌++◌, length, take, refl, sym, ap, ◌∙◌, arith, append-nil, append_assoc, length-take, if◌then◌else◌}
 use Rattle.std.specs.Prelude.{◌==◌}
-use Rattle.std.proofs.lemmas.Bool.{eqb-true, eq-eqb}
+use Rattle.text_rewriting.proofs.Common.{eqb-true, eq-eqb, passing, line_feeds, shown_in}
 use Rattle.text_pieces.specs.declared.mode.Mode.{Mode}
 use Rattle.text_pieces.specs.declared.mode.Mode.TheVariants as mode
-use Rattle.abel_macros.specs.Gaps.{passing}
-use Rattle.abel_macros.specs.Rules.{line_feeds, shown_in}
 use Rattle.text_rewriting.specs.Shown.{shown_of}
 
 pub part_fits : (v w : List ℕ) (n m : ℕ) → v ≡ take n w → length w < m → 0 + length v < m

@@ -1,9 +1,8 @@
 -- What stands for parameters, as the code keeps it: names with their arguments in pieces.
 use Rattle.std.specs.Prelude.{ℕ, List, Option, option_map}
+use Rattle.text_rewriting.specs.Prelude.{joined, under, by_bytes}
 use Rattle.std.specs.Borrow.{Bor}
 use Rattle.std.specs.Global.{Vec}
-use Rattle.text_pieces.specs.Stacks.{joined}
-use Rattle.abel_macros.specs.Kept.{under, by_bytes}
 
 -- the argument that stands for a name
 abbrev pub bound : List (Vec ℕ × Bor (List (List ℕ))) → List ℕ → Option (List ℕ)

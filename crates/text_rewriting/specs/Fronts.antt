@@ -1,8 +1,6 @@
 -- What the front of the rest asks for, as the code tells it.
 use Rattle.std.specs.Prelude.{◌≡◌, ℕ, ◌+◌, ◌<◌, ◌≤◌, List, length, take, drop, Option, IfSome}
-use Rattle.abel_macros.specs.Rules.{Tables, Move, Done, Rewritten, Refused, BadDirective, Unsupported, with_name}
-use Rattle.abel_macros.specs.Kept.{IsResult}
-use Rattle.abel_macros.specs.Pieces.{texts}
+use Rattle.text_rewriting.specs.Prelude.{Tables, Move, Done, Rewritten, Refused, BadDirective, Unsupported, with_name, IsResult, texts}
 use Rattle.abel_macros.specs.declared.call.Call.{Call}
 use Rattle.text_rewriting.specs.declared.front.Change.{Change}
 use Rattle.text_rewriting.specs.declared.front.Change.TheVariants as change

@@ -1,6 +1,7 @@
 pub mod Bound
-pub mod Marks
+pub mod Fronts
 pub mod Gathering
+pub mod Marks
+pub mod Prelude
 pub mod RuleMoves
 pub mod Shown
-pub mod Fronts

@@ -1,7 +1,6 @@
 -- What is known of the end of a text: that no word MACRO stands behind its first blanks and comments.
 use Rattle.std.specs.Prelude.{◌≡◌, ℕ, ◌-◌, List, length, drop, Some, None}
-use Rattle.abel_macros.specs.Gaps.{word}
-use Rattle.abel_macros.specs.Rules.{macro_word}
+use Rattle.text_rewriting.specs.Prelude.{word, macro_word}
 
 -- the last bytes of a text, so many
 abbrev pub last : ℕ → List ℕ → List ℕ

@@ -1,15 +1,8 @@
 -- The moves that the rules ask for, as the code tells them.
 use Rattle.std.specs.Prelude.{◌≡◌, ℕ, ◌<◌, ◌≤◌, ◌^◌, List, [], ◌++◌, length, take, drop, replicate, codes, Some, None}
-use Rattle.std.specs.List.{concat}
-use Rattle.text_pieces.specs.Stacks.{Look, ahead, joined}
+use Rattle.text_rewriting.specs.Prelude.{concat, Look, ahead, joined, Kept, tables_of, before, word, replaced, standing_for, names, texts, digits_in, Tables, Move, Done, Rewritten, Refused, BadDirective, Unsupported, with_name, line_feeds, shown_in, each_replaced, named, token_len, directed}
 use Rattle.abel_macros.specs.declared.directive.Directive.{Directive}
-use Rattle.abel_macros.specs.Kept.{Kept, tables_of}
 use Rattle.text_pieces.specs.declared.mode.Mode.TheVariants as mode
-use Rattle.abel_macros.specs.Gaps.{before, word}
-use Rattle.abel_macros.specs.Forms.{replaced, standing_for}
-use Rattle.abel_macros.specs.Pieces.{names, texts}
-use Rattle.abel_macros.specs.Values.{digits_in}
-use Rattle.abel_macros.specs.Rules.{Tables, Move, Done, Rewritten, Refused, BadDirective, Unsupported, with_name, line_feeds, shown_in, each_replaced, named, token_len, directed}
 use Rattle.text_rewriting.specs.declared.rules.Rewriting.{Rewriting}
 use Rattle.text_rewriting.specs.declared.rules.Rewriting.TheVariants as rewriting
 use Rattle.text_rewriting.specs.declared.rules.Rule.{Rule}

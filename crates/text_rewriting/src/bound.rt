@@ -1,9 +1,7 @@
 //! The arguments of a call, by the parameters that they stand for.
 
 ghost use Rattle.std.specs.Prelude.{◌≡◌, Some, None, IfOk, IfSome, IfNone};
-ghost use Rattle.text_pieces.specs.Stacks.{joined};
-ghost use Rattle.abel_macros.specs.Forms.{standing_for};
-ghost use Rattle.abel_macros.specs.Pieces.{names, texts};
+ghost use Rattle.text_rewriting.specs.Prelude.{joined, standing_for, names, texts};
 ghost use Rattle.text_rewriting.specs.Bound.{bound};
 
 use indexmap::IndexMap;

@@ -1,9 +1,8 @@
 //! The rules of names: definitions and calls.
 
 ghost use Rattle.std.specs.Prelude.{◌≡◌, ◌≤◌, false, Some, None, IfOk, IfSome, IfNone};
-ghost use Rattle.text_pieces.specs.Stacks.{ahead};
+ghost use Rattle.text_rewriting.specs.Prelude.{ahead, tables_of};
 ghost use Rattle.abel_macros.specs.Gaps as gaps;
-ghost use Rattle.abel_macros.specs.Kept.{tables_of};
 ghost use Rattle.abel_macros.specs.Rules as spec;
 ghost use Rattle.text_rewriting.specs.declared.rules.Rewriting.TheVariants as rewriting;
 ghost use Rattle.text_rewriting.specs.RuleMoves.{rewriting_text, rule_move, IsCallOf, IsNamed, IsRewriting, Fits};

@@ -1,7 +1,7 @@
 //! Numbers in digits.
 
 ghost use Rattle.std.specs.Prelude.{◌≡◌, [], ◌∷◌, ◌++◌, ◌<◌, ◌≤◌, codes, length, slice_index, OnOk, IfErr};
-ghost use Rattle.abel_macros.specs.Values.{digits_in};
+ghost use Rattle.text_rewriting.specs.Prelude.{digits_in};
 ghost use Rattle.text_rewriting.specs.RuleMoves.{digits};
 ghost use Rattle.text_rewriting.specs.declared.gathered.Shortage.TheVariants as shortage;
 

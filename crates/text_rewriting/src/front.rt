@@ -1,7 +1,7 @@
 //! What a turn does to the front of the rest.
 
 ghost use Rattle.std.specs.Prelude.{◌≡◌, [], ◌∷◌, ◌<◌, ◌≤◌, false, length, drop, IfOk};
-ghost use Rattle.abel_macros.specs.Kept.{tables_of};
+ghost use Rattle.text_rewriting.specs.Prelude.{tables_of};
 ghost use Rattle.abel_macros.specs.Rules as spec;
 ghost use Rattle.text_rewriting.specs.RuleMoves.{rewriting_text, rule_move, IsCallOf, IsRewriting, IsRule, IsRuleOf};
 ghost use Rattle.text_rewriting.specs.Marks.{DefinesNone};

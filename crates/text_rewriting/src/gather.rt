@@ -1,8 +1,7 @@
 //! The result of a rewriting, gathered.
 
 ghost use Rattle.std.specs.Prelude.{◌≡◌, ◌++◌, ◌<◌, ◌≤◌, length, OnOk, IfOk, IfErr};
-ghost use Rattle.text_pieces.specs.Stacks.{joined};
-ghost use Rattle.abel_macros.specs.Rules.{Tables};
+ghost use Rattle.text_rewriting.specs.Prelude.{joined, Tables};
 ghost use Rattle.text_rewriting.specs.Fronts.{IsMade};
 ghost use Rattle.text_rewriting.specs.RuleMoves.{digits, rewriting_text, IsCallOf, IsRewriting};
 ghost use Rattle.text_rewriting.specs.declared.rules.Rewriting.TheVariants as rewriting;

@@ -1,8 +1,7 @@
 //! The result of a rewriting, gathered in pieces and counted, so that nothing too long is built.
 
 ghost use Rattle.std.specs.Prelude.{◌≡◌, ◌++◌, ◌+◌, ◌*◌, ◌<◌, ◌≤◌, ◌^◌, [], length, replicate, true, false, OnOk, IfErr};
-ghost use Rattle.std.specs.List.{concat};
-ghost use Rattle.text_pieces.specs.Stacks.{joined};
+ghost use Rattle.text_rewriting.specs.Prelude.{concat, joined};
 ghost use Rattle.text_rewriting.specs.declared.gathered.Shortage.TheVariants as shortage;
 
 use pld_base::OutOfMemory;

@@ -1,8 +1,7 @@
 //! Results that are kept: as one piece, and with the calls that make them.
 
 ghost use Rattle.std.specs.Prelude.{◌≡◌};
-ghost use Rattle.abel_macros.specs.Kept.{tables_of, IsResult};
-ghost use Rattle.abel_macros.specs.Pieces.{texts};
+ghost use Rattle.text_rewriting.specs.Prelude.{tables_of, IsResult, texts};
 ghost use Rattle.text_rewriting.specs.Fronts.{IsMade};
 
 use crate::gathered::Gathered;

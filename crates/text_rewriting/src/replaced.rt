@@ -1,12 +1,7 @@
 //! Blocks in which arguments stand for parameters.
 
 ghost use Rattle.std.specs.Prelude.{◌≡◌, ◌==◌, ◌+◌, ◌++◌, ◌<◌, ◌≤◌, ◌^◌, length, take, drop, true, false, Some, None, IfSome, IfNone, IfOk, OnOk, IfErr};
-ghost use Rattle.std.specs.List.{count_by};
-ghost use Rattle.text_pieces.specs.Stacks.{ahead, joined};
-ghost use Rattle.abel_macros.specs.Forms.{asked, replaced, standing_for};
-ghost use Rattle.abel_macros.specs.Gaps.{starts_byte, rest_of};
-ghost use Rattle.abel_macros.specs.Pieces.{names, texts};
-ghost use Rattle.abel_macros.specs.Rules.{each_replaced};
+ghost use Rattle.text_rewriting.specs.Prelude.{count_by, ahead, joined, asked, replaced, standing_for, starts_byte, rest_of, names, texts, each_replaced};
 ghost use Rattle.text_rewriting.specs.Bound.{bound};
 ghost use Rattle.text_rewriting.specs.declared.gathered.Shortage.TheVariants as shortage;
 

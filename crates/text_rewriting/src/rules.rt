@@ -1,9 +1,8 @@
 //! The first rule that fits the front of the rest, and what it takes.
 
 ghost use Rattle.std.specs.Prelude.{◌≡◌, ◌<◌, ◌≤◌, length, drop, true, false, IfOk};
-ghost use Rattle.text_pieces.specs.Stacks.{ahead};
+ghost use Rattle.text_rewriting.specs.Prelude.{ahead, tables_of};
 ghost use Rattle.abel_macros.specs.Gaps as gaps;
-ghost use Rattle.abel_macros.specs.Kept.{tables_of};
 ghost use Rattle.abel_macros.specs.Rules as spec;
 ghost use Rattle.text_rewriting.specs.Marks.{DefinesNone};
 ghost use Rattle.text_rewriting.specs.RuleMoves.{rule_move, Fits, plain_move};

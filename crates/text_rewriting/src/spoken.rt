@@ -1,7 +1,7 @@
 //! The bytes that are done for a form.
 
 ghost use Rattle.std.specs.Prelude.{◌≡◌, ◌+◌, ◌++◌, ◌<◌, ◌≤◌, length, take, IfOk, OnOk};
-ghost use Rattle.text_pieces.specs.Stacks.{ahead};
+ghost use Rattle.text_rewriting.specs.Prelude.{ahead};
 ghost use Rattle.abel_macros.specs.Rules as spec;
 ghost use Rattle.text_pieces.specs.declared.mode.Mode.TheVariants as mode;
 ghost use Rattle.text_rewriting.specs.Shown.{shown_of};

@@ -1,9 +1,7 @@
 //! What is still to be read, and a gap in it that needn't be read again.
 
 ghost use Rattle.std.specs.Prelude.{◌≡◌, ◌++◌, ◌+◌, ◌<◌, ◌≤◌, ◌^◌, [], ◌∷◌, length, drop, true, false, Some, None, IfOk, IfSome, IfNone, OnOk};
-ghost use Rattle.text_pieces.specs.Stacks.{ahead, joined};
-ghost use Rattle.abel_macros.specs.Gaps.{word};
-ghost use Rattle.abel_macros.specs.Rules.{macro_word};
+ghost use Rattle.text_rewriting.specs.Prelude.{ahead, joined, word, macro_word};
 ghost use Rattle.text_rewriting.specs.Marks.{last, DefinesNone};
 
 use abel_macros::{skip_gap_to, skip_macro_word, word_len};

@@ -1,9 +1,7 @@
 -- A result that was kept is that of the call.
 use Rattle.std.proofs.Common.{refl, sym, ap}
-use Rattle.abel_macros.specs.Kept.{tables_of, IsResult}
-use Rattle.abel_macros.specs.Pieces.{names, texts}
+use Rattle.text_rewriting.proofs.Common.{tables_of, IsResult, names, texts, joined}
 use Rattle.abel_macros.proofs.Calls.{same_call}
-use Rattle.text_pieces.specs.Stacks.{joined}
 use Rattle.text_rewriting.proofs.Moves.{result_kept}
 use Rattle.text_rewriting.proofs.called.rewriting_of.Goals as goal
 

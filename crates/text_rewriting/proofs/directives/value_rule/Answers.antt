@@ -1,9 +1,6 @@
 -- A block, and the digits of a value in the radix in force.
 use Rattle.std.proofs.Common.{rules, ◌≡◌, ◌++◌, Some}
-use Rattle.text_pieces.specs.Stacks.{ahead, joined}
-use Rattle.abel_macros.specs.Kept.{tables_of}
-use Rattle.abel_macros.specs.Rules.{value_form}
-use Rattle.abel_macros.specs.Values.{digits_in}
+use Rattle.text_rewriting.proofs.Common.{ahead, joined, tables_of, value_form, digits_in}
 use Rattle.text_rewriting.proofs.Moves.{value_moves}
 use Rattle.text_rewriting.proofs.directives.value_rule.Goals as goal
 

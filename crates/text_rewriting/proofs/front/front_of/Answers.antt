@@ -1,10 +1,7 @@
 -- A rewriting is one for all tables.
 use Rattle.std.proofs.Common.{◌-◌, ℕ, sym, ap, subst, drop}
-use Rattle.abel_macros.specs.Rules.{Tables}
-use Rattle.text_rewriting.specs.declared.front.Front.{Front}
+use Rattle.text_rewriting.proofs.Common.{Tables, Front, rewriting_text, rule_move, IsCallOf, IsRuleOf, IsFront, IsRewritten}
 use Rattle.text_rewriting.specs.declared.rules.Rule.{Rule}
-use Rattle.text_rewriting.specs.RuleMoves.{rewriting_text, rule_move, IsCallOf, IsRuleOf}
-use Rattle.text_rewriting.specs.Fronts.{IsFront, IsRewritten}
 use Rattle.text_rewriting.proofs.Fronts.{if_ok_map, rewritten_front}
 use Rattle.text_rewriting.proofs.front.front_of.Goals as goal
 

@@ -1,8 +1,6 @@
 -- One byte more stays, and bytes behind it without a `?`.
 use Rattle.std.proofs.Common.{◌≡◌, ◌+◌, ◌∷◌, ◌++◌, ◌∙◌, ap, sym, arith, ℕ, List, length, take, drop, add-one, length-drop}
-use Rattle.text_pieces.specs.Stacks.{ahead}
-use Rattle.abel_macros.specs.Forms.{replaced}
-use Rattle.text_rewriting.specs.Bound.{bound}
+use Rattle.text_rewriting.proofs.Common.{ahead, replaced, bound}
 use Rattle.text_rewriting.proofs.Replaces.{some_step, stays_next, run_stays, drop_next, gone}
 use Rattle.text_rewriting.proofs.replaced.kept_len.Goals as goal
 

@@ -1,8 +1,6 @@
 -- The bytes that were passed stay.
 use Rattle.std.proofs.Common.{◌≡◌, ◌≤◌, ◌<◌, ◌+◌, ◌^◌, ◌++◌, length, take, drop}
-use Rattle.text_pieces.specs.Stacks.{ahead}
-use Rattle.abel_macros.specs.Forms.{replaced}
-use Rattle.text_rewriting.specs.Bound.{bound}
+use Rattle.text_rewriting.proofs.Common.{ahead, replaced, bound}
 use Rattle.text_rewriting.proofs.replaced.kept_len.Given as goal
 
 abbrev pub invariant-bytes : goal.invariant-bytes

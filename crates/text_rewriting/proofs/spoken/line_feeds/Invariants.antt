@@ -1,7 +1,6 @@
 -- The line feeds so far stand before those of what is ahead.
 use Rattle.std.proofs.Common.{◌≡◌, ◌≤◌, ◌+◌, ◌++◌, length, take}
-use Rattle.text_pieces.specs.Stacks.{ahead}
-use Rattle.abel_macros.specs.Rules.{line_feeds}
+use Rattle.text_rewriting.proofs.Common.{ahead, line_feeds}
 use Rattle.text_rewriting.proofs.spoken.line_feeds.Given as goal
 
 abbrev pub invariant-bytes : goal.invariant-bytes

@@ -1,8 +1,7 @@
 -- The bytes so far stand before those of what is ahead.
 use Rattle.std.proofs.Common.{◌≡◌, ◌≤◌, ◌+◌, ◌++◌, length, take}
-use Rattle.text_pieces.specs.Stacks.{ahead}
+use Rattle.text_rewriting.proofs.Common.{ahead, shown_in}
 use Rattle.text_pieces.specs.declared.mode.Mode.TheVariants as mode
-use Rattle.abel_macros.specs.Rules.{shown_in}
 use Rattle.text_rewriting.proofs.spoken.shown.Given as goal
 
 abbrev pub invariant-bytes : goal.invariant-bytes

@@ -1,9 +1,6 @@
 -- One pair more.
 use Rattle.std.proofs.Common.{◌≡◌, ◌+◌, ◌-◌, ◌∙◌, ap, arith, ℕ, List, drop}
-use Rattle.std.specs.Global.{Vec}
-use Rattle.abel_macros.specs.Forms.{standing_for}
-use Rattle.abel_macros.specs.Pieces.{names, texts}
-use Rattle.text_rewriting.specs.Bound.{bound}
+use Rattle.text_rewriting.proofs.Common.{Vec, standing_for, names, texts, bound}
 use Rattle.text_rewriting.proofs.Bounds.{next_bound}
 use Rattle.text_rewriting.proofs.bound.Arguments.new.Goals as goal
 

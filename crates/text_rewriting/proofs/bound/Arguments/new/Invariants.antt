@@ -1,8 +1,6 @@
 -- The pairs that were kept stand for their parameters.
 use Rattle.std.proofs.Common.{◌≡◌, ◌≤◌, length, drop}
-use Rattle.abel_macros.specs.Forms.{standing_for}
-use Rattle.abel_macros.specs.Pieces.{names, texts}
-use Rattle.text_rewriting.specs.Bound.{bound}
+use Rattle.text_rewriting.proofs.Common.{standing_for, names, texts, bound}
 use Rattle.text_rewriting.proofs.bound.Arguments.new.Given as goal
 
 abbrev pub invariant-pairs : goal.invariant-pairs

@@ -1,7 +1,6 @@
 -- A piece more, no bytes more, and a piece too many.
 use Rattle.std.proofs.Common.{◌++◌, ◌<◌, ◌∙◌, ap, subst, arith, length}
-use Rattle.text_pieces.specs.Stacks.{joined}
-use Rattle.text_rewriting.specs.Gathering.{Gathering}
+use Rattle.text_rewriting.proofs.Common.{joined, Gathering}
 use Rattle.text_rewriting.proofs.Gathers.{added, added_nothing, over}
 use Rattle.text_rewriting.proofs.gathered.Gathered.add.Goals as goal
 

@@ -1,6 +1,6 @@
 -- What was gathered and the pieces that are left are the whole.
 use Rattle.std.proofs.Common.{◌≡◌, ◌++◌, drop}
-use Rattle.text_pieces.specs.Stacks.{joined}
+use Rattle.text_rewriting.proofs.Common.{joined}
 use Rattle.text_rewriting.proofs.gathered.Gathered.add_all.Given as goal
 
 abbrev pub invariant-loop-piece : goal.invariant-loop-piece

@@ -1,8 +1,6 @@
 -- What was gathered and what stands for the rest are the whole.
 use Rattle.std.proofs.Common.{◌≡◌, ◌++◌, length}
-use Rattle.text_pieces.specs.Stacks.{joined}
-use Rattle.abel_macros.specs.Forms.{replaced}
-use Rattle.text_rewriting.specs.Bound.{bound}
+use Rattle.text_rewriting.proofs.Common.{joined, replaced, bound}
 use Rattle.text_rewriting.proofs.gathered.Gathered.add_bound.Given as goal
 
 abbrev pub invariant-parts : goal.invariant-parts

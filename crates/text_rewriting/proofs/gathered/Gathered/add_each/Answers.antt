@@ -1,12 +1,7 @@
 -- One argument more.
 use Rattle.std.proofs.Common.{rules, ◌≡◌, ◌++◌, ◌∙◌, List, [], ◌∷◌, ap, arith, take, drop}
-use Rattle.std.specs.Global.{Vec}
+use Rattle.text_rewriting.proofs.Common.{Vec, joined, replaced, standing_for, texts, each_replaced, Gathering}
 use Rattle.std.specs.Prelude.{ℕ}
-use Rattle.text_pieces.specs.Stacks.{joined}
-use Rattle.abel_macros.specs.Forms.{replaced, standing_for}
-use Rattle.abel_macros.specs.Pieces.{texts}
-use Rattle.abel_macros.specs.Rules.{each_replaced}
-use Rattle.text_rewriting.specs.Gathering.{Gathering}
 use Rattle.text_rewriting.proofs.Replaces.{each_next}
 use Rattle.text_rewriting.proofs.gathered.Gathered.add_each.Goals as goal
 

@@ -1,8 +1,6 @@
 -- What was gathered and what the arguments that are left give are the whole.
 use Rattle.std.proofs.Common.{◌≡◌, ◌++◌, ◌-◌, length, drop}
-use Rattle.text_pieces.specs.Stacks.{joined}
-use Rattle.abel_macros.specs.Pieces.{texts}
-use Rattle.abel_macros.specs.Rules.{each_replaced}
+use Rattle.text_rewriting.proofs.Common.{joined, texts, each_replaced}
 use Rattle.text_rewriting.proofs.gathered.Gathered.add_each.Given as goal
 
 abbrev pub invariant-arguments : goal.invariant-arguments

@@ -1,6 +1,6 @@
 -- The digits of a value are at most 32.
 use Rattle.std.proofs.Common.{◌≡◌, ◌++◌, ◌<◌, OnOk, IfErr, List, ℕ, sym, subst, length}
-use Rattle.text_rewriting.specs.declared.gathered.Shortage.{Shortage}
+use Rattle.text_rewriting.proofs.Common.{Shortage}
 use Rattle.text_rewriting.specs.declared.gathered.Shortage.TheVariants as shortage
 use Rattle.text_rewriting.proofs.Moves.{digits_are}
 use Rattle.text_rewriting.proofs.gathered.Gathered.add_number.Goals as goal

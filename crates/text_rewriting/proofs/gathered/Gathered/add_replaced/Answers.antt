@@ -1,8 +1,6 @@
 -- The arguments by their names stand for the parameters.
 use Rattle.std.proofs.Common.{◌≡◌, ◌++◌, ◌<◌, OnOk, IfErr, List, ℕ, Option, subst, length}
-use Rattle.text_pieces.specs.Stacks.{joined}
-use Rattle.abel_macros.specs.Forms.{replaced}
-use Rattle.text_rewriting.specs.declared.gathered.Shortage.{Shortage}
+use Rattle.text_rewriting.proofs.Common.{joined, replaced, Shortage}
 use Rattle.text_rewriting.specs.declared.gathered.Shortage.TheVariants as shortage
 use Rattle.text_rewriting.proofs.gathered.Gathered.add_replaced.Goals as goal
 

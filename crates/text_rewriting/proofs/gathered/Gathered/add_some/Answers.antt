@@ -1,7 +1,6 @@
 -- A text that is too long once is too long more often.
 use Rattle.std.proofs.Common.{rules, ◌≡◌, ◌<◌, ◌++◌, length, replicate}
-use Rattle.std.specs.List.{concat}
-use Rattle.text_pieces.specs.Stacks.{joined}
+use Rattle.text_rewriting.proofs.Common.{concat, joined}
 use Rattle.text_rewriting.specs.declared.gathered.Shortage.TheVariants as shortage
 use Rattle.text_rewriting.proofs.Gathers.{once_long}
 use Rattle.text_rewriting.proofs.gathered.Gathered.add_some.Goals as goal

@@ -1,7 +1,6 @@
 -- What was gathered and the times that are left are the whole.
 use Rattle.std.proofs.Common.{◌≡◌, ◌++◌, replicate}
-use Rattle.std.specs.List.{concat}
-use Rattle.text_pieces.specs.Stacks.{joined}
+use Rattle.text_rewriting.proofs.Common.{concat, joined}
 use Rattle.text_rewriting.proofs.gathered.Gathered.add_times.Given as goal
 
 abbrev pub invariant-times : goal.invariant-times

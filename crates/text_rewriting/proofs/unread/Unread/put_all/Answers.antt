@@ -1,5 +1,5 @@
 -- What is known of the end stays, where bytes are put in front.
-use Rattle.text_pieces.specs.Stacks.{joined}
+use Rattle.text_rewriting.proofs.Common.{joined}
 use Rattle.text_rewriting.proofs.Marks.{none_before, more_before}
 use Rattle.text_rewriting.proofs.unread.Unread.put_all.Goals as goal
 
