@@ -1,20 +1,8 @@
 -- What is found in sets and ranges, one member or name more at a time.
 use Rattle.std.proofs.Common.{◌≡◌, ℕ, Bool, ◌||◌, List, [], ◌∷◌, ◌++◌, map, refl, sym, ap, ◌∙◌, append_assoc, append-nil, rules}
-use Rattle.std.specs.List.{list_any}
-use Rattle.std.specs.Global.{Vec}
-use Rattle.std.proofs.Math.Bool.{or_assoc, or-false}
+use Rattle.truth_tables.proofs.Common.{list_any, Vec, or_assoc, or-false, Place, the_lemmas, Member, Extension, SetMember, members_of, view, view_member, name_items, SectionFault, NameFound, name_found, holds_pulse, any_holds_pulse, member_holds_pulse, names_refused, refused_inside, all_refused_inside, member_refused_inside}
 use Rattle.std.specs.Prelude.{Option}
-use Rattle.pld_base.specs.declared.place.Place.{Place}
-use Rattle.abel_tree.specs.declared.expressions.Expr.{the_lemmas}
 use Rattle.abel_tree.specs.declared.expressions.Expr as expr
-use Rattle.abel_tree.specs.declared.expressions.Member.{Member}
-use Rattle.abel_tree.specs.declared.words.Extension.{Extension}
-use Rattle.abel_tree.specs.Tree.{SetMember, members_of}
-use Rattle.abel_tree.specs.View.{view, view_member}
-use Rattle.name_uses.specs.RangeParts.{name_items}
-use Rattle.set_expr.specs.declared.fault.SectionFault.{SectionFault}
-use Rattle.set_expr.specs.FoundNames.{NameFound, name_found}
-use Rattle.truth_tables.specs.RowEntries.{holds_pulse, any_holds_pulse, member_holds_pulse, names_refused, refused_inside, all_refused_inside, member_refused_inside}
 
 pub any_named : (test : List ℕ → Bool) (names : List (Vec ℕ)) → list_any (λ (n : Vec ℕ). test (name_items n)) names ≡ list_any test (map name_items names)
 any_named test [] = refl

@@ -1,35 +1,11 @@
 -- What outputs are given, position by position.
 use Rattle.std.proofs.Common.{◌≡◌, ℕ, zero, suc, ◌+◌, ◌<◌, ◌≤◌, min, Bool, true, false, Option, None, Some, List, [], ◌∷◌, ◌++◌, Result, length, drop, get_or, refl, sym, ap, ap₂, ◌∙◌, subst, arith, append_assoc, append-nil, add-one}
-use Rattle.std.proofs.Math.Seq.{drop-cons}
-use Rattle.bit_expr.specs.declared.node.ExprId.{ExprId}
-use Rattle.bit_expr.specs.declared.node.Node.{Node}
-use Rattle.bit_expr.specs.Arena.{arena, formula_at}
-use Rattle.bit_expr.specs.Folding.{Made, free, make_and}
-use Rattle.bit_expr.specs.Formulas.{Formula, Const}
-use Rattle.abel_tree.specs.declared.names.Names.{Names}
+use Rattle.truth_tables.proofs.Common.{drop-cons, ExprId, Node, arena, formula_at, Made, free, make_and, Formula, Const, Names, Context, formulas, level_gives, match_of, no_matches, outputs_given, Contribution, Contributions, Guard, SectionFault, view_gives, view_guard, Aim, StopsWith, IsBuilt, Builds, AreNamed, part, builds_then, builds_stop, low_bit, high_bit, some_aims, places_for, places_of, row_places, Assigning, signals_of, matched_guard, value_places, GivesOutput, Work, before, given_freely, nothing}
 use Rattle.abel_meaning.specs.Contributions as meant
 use Rattle.abel_meaning.specs.Contributions.{contribution}
-use Rattle.abel_meaning.specs.Designs.{Context}
-use Rattle.abel_meaning.specs.FormulaBits.{formulas}
-use Rattle.abel_meaning.specs.Tables.{level_gives, match_of, no_matches, outputs_given}
-use Rattle.set_expr.specs.declared.contributions.Contribution.{Contribution}
-use Rattle.set_expr.specs.declared.contributions.Contributions.{Contributions}
 use Rattle.set_expr.specs.declared.contributions.Gives.{Gives}
-use Rattle.set_expr.specs.declared.contributions.Guard.{Guard}
-use Rattle.set_expr.specs.declared.fault.SectionFault.{SectionFault}
-use Rattle.set_expr.specs.Given.{view_gives, view_guard}
-use Rattle.section_targets.specs.declared.aim.Aim.{Aim}
 use Rattle.section_targets.specs.declared.giving.Giving.{Giving}
-use Rattle.section_targets.specs.Building.{StopsWith, IsBuilt, Builds}
-use Rattle.section_targets.specs.Given.{AreNamed}
 use Rattle.section_targets.specs.Gives.{GivesOne}
-use Rattle.section_targets.specs.Units.{part}
-use Rattle.section_targets.proofs.Built.{builds_then, builds_stop}
-use Rattle.section_targets.proofs.MetWords.{low_bit, high_bit}
-use Rattle.truth_tables.specs.TableUnits.{some_aims, places_for, places_of, row_places}
-use Rattle.truth_tables.specs.declared.giving.Assigning.{Assigning}
-use Rattle.truth_tables.specs.Gives.{signals_of, matched_guard, value_places, GivesOutput}
-use Rattle.truth_tables.specs.Works.{Work, before, given_freely, nothing}
 use Rattle.truth_tables.proofs.WorkLaws.{AfterStep, DoesWork, IsLeft, free_part, left_step}
 
 -- ---- one output

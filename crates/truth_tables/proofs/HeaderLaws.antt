@@ -1,24 +1,6 @@
 -- What is found of a header, part by part.
 use Rattle.std.proofs.Common.{◌≡◌, ℕ, Bool, true, false, Option, Some, List, [], ◌∷◌, ◌++◌, ◌-◌, if◌then◌else◌, length, nat_lt, refl, sym, ap, ap₂, ◌∙◌, subst, append_assoc, append-nil, arith}
-use Rattle.std.specs.Bool.{then_some}
-use Rattle.std.specs.Option.{is_some}
-use Rattle.std.proofs.lemmas.List.{length-append}
-use Rattle.pld_base.specs.declared.place.Place.{Place}
-use Rattle.abel_tree.specs.FirstRefusal.{earlier, first_refusal}
-use Rattle.abel_tree.proofs.FirstRefusals.{first_append, none_refused}
-use Rattle.abel_tree.specs.Tree.{Tree, SetMember, members_of}
-use Rattle.abel_meaning.specs.Designs.{Context}
-use Rattle.abel_meaning.specs.Targets.{targets_of}
-use Rattle.abel_meaning.specs.Terms.{Term}
-use Rattle.set_expr.specs.declared.fault.SectionFault.{SectionFault}
-use Rattle.set_expr.specs.declared.fault.SectionFault.TheVariants.{BadWidth, NotAnOutput}
-use Rattle.set_expr.specs.Refusals.{too_wide}
-use Rattle.set_expr.specs.SectionOrder.{section_order}
-use Rattle.section_targets.specs.declared.aim.Aim.{Aim}
-use Rattle.truth_tables.specs.HeaderSignals.{names_positions}
-use Rattle.truth_tables.specs.OutputHeaders.{HeaderFound, header_of, refused_header, outputs_at, named_outputs, header_name, both_headers, header_set, header_range, output_header, output_member, output_members}
-use Rattle.truth_tables.specs.TableUnits.{if_none, unless_refused}
-use Rattle.truth_tables.specs.Headers.{IsAdded}
+use Rattle.truth_tables.proofs.Common.{then_some, is_some, length-append, Place, earlier, first_refusal, first_append, none_refused, Tree, SetMember, members_of, Context, targets_of, Term, SectionFault, BadWidth, NotAnOutput, too_wide, section_order, Aim, names_positions, HeaderFound, header_of, refused_header, outputs_at, named_outputs, header_name, both_headers, header_set, header_range, output_header, output_member, output_members, if_none, unless_refused, IsAdded}
 use Rattle.truth_tables.proofs.RowsWalked.{no_fault}
 
 abbrev pub first : List SectionFault → Option SectionFault

@@ -1,29 +1,11 @@
 -- The positions of an input header stand for its bits.
 use Rattle.std.proofs.Common.{◌≡◌, ℕ, zero, suc, ◌<◌, Bool, true, false, Option, None, Some, List, [], ◌∷◌, ◌++◌, All, length, map, reverse, replicate, if◌then◌else◌, refl, sym, ap, ap₂, ◌∙◌, subst, arith}
-use Rattle.std.proofs.lemmas.List.{reverse-append}
-use Rattle.bit_expr.specs.declared.node.ExprId.{ExprId}
-use Rattle.bit_expr.specs.Arena.{formula_at}
-use Rattle.bit_expr.specs.Formulas.{Formula, Const}
-use Rattle.abel_tree.specs.declared.words.Binary.{Binary}
-use Rattle.abel_tree.specs.declared.words.Extension.{Extension}
+use Rattle.truth_tables.proofs.Common.{reverse-append, ExprId, formula_at, Formula, Const, Binary, Extension, row_literals, Context, bits_of, formulas, met_by, met_word, resized, Single, Value, width_of, Term, NoTerm, Before, extended, extended_if, binary_by, constant_of, is_relation, map_reverse, Shape, AreIn, HasUnknown, bits_at, positions, unknown_at, HasShape, AreBits, met_length, bits_length, is_computed, IsShapedTerm, StandForInputs}
 use Rattle.abel_meaning.specs.BitWords.{Word}
-use Rattle.abel_meaning.specs.CountedBlocks.{row_literals}
-use Rattle.abel_meaning.specs.Designs.{Context}
-use Rattle.abel_meaning.specs.FormulaBits.{bits_of, formulas, met_by, met_word, resized}
-use Rattle.abel_meaning.specs.Numbers.{Number, Single, Value, width_of}
-use Rattle.abel_meaning.specs.Terms.{Term, NoTerm, Before, extended, extended_if}
+use Rattle.abel_meaning.specs.Numbers.{Number}
 use Rattle.abel_meaning.specs.Terms as term
-use Rattle.abel_meaning.specs.Values.{binary_by, constant_of, is_relation}
-use Rattle.abel_meaning.proofs.RelationWords.{map_reverse}
-use Rattle.set_expr.specs.declared.shaped.Shape.{Shape}
 use Rattle.set_expr.specs.declared.shaped.Shape.TheVariants as shape
 use Rattle.set_expr.specs.declared.shaped.Shaped.{Shaped}
-use Rattle.set_expr.specs.Answer.{AreIn, HasUnknown, bits_at, positions, unknown_at}
-use Rattle.set_expr.specs.Shapes.{HasShape}
-use Rattle.section_targets.specs.Building.{AreBits}
-use Rattle.equations.proofs.BuiltParts.{met_length, bits_length}
-use Rattle.truth_tables.specs.PartTerms.{is_computed}
-use Rattle.truth_tables.specs.Products.{IsShapedTerm, StandForInputs}
 
 -- ---- positions in the other order
 

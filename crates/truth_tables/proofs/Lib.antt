@@ -1,3 +1,4 @@
+pub mod Common
 pub mod EntryParts
 mod ExampleTrees
 pub mod GivenLaws

@@ -1,28 +1,9 @@
 -- The outputs of a header that isn't refused are the signals of its term, position by position, and names of the design.
 use Rattle.std.proofs.Common.{◌≡◌, ℕ, Bool, true, false, Option, None, Some, List, [], ◌∷◌, ◌++◌, if◌then◌else◌, length, bytes_eq, append_assoc, refl, sym, ap, ap₂, ◌∙◌, zero, suc, ◌<◌, nat_lt, subst, arith}
 use Rattle.std.specs.Prelude.{codes}
-use Rattle.std.specs.Option.{option_map}
-use Rattle.std.proofs.lemmas.List.{map-append, get_or_past}
-use Rattle.pld_base.specs.declared.place.Place.{Place}
-use Rattle.abel_tree.specs.Entries.{find, Entry, is_signal}
-use Rattle.abel_tree.specs.Ranges.{range_names}
-use Rattle.abel_tree.specs.Tree.{Tree, ANumber, ASpecial, AName, ASet, AParen, AUnary, ABinary, OneMember, SpanMember, Members, NoMember, MoreMembers}
-use Rattle.abel_meaning.specs.Designs.{Context, no_name}
-use Rattle.abel_meaning.specs.Targets.{targets_of, all_targets}
-use Rattle.abel_meaning.specs.Terms.{Term, Terms, X, Pulse, Release, term_named, term_of, terms_of, named_before, special_term, known_of}
-use Rattle.set_expr.specs.declared.fault.SectionFault.{SectionFault}
-use Rattle.set_expr.specs.declared.fault.SectionFault.TheVariants.{MisplacedSpecial, NotAnOutput}
-use Rattle.set_expr.specs.FoundNames.{found_use, name_found, names_found}
-use Rattle.set_expr.specs.Refusals.{too_wide}
-use Rattle.section_targets.specs.declared.aim.Aim.{Aim}
-use Rattle.section_targets.proofs.Built.{left_empty, right_empty}
-use Rattle.truth_tables.specs.HeaderSignals.{names_positions}
-use Rattle.truth_tables.specs.OutputHeaders.{header_of, refused_header, outputs_at, named_outputs, header_name, header_range, header_special, output_header, output_members}
-use Rattle.truth_tables.specs.Gives.{signals_of}
+use Rattle.truth_tables.proofs.Common.{option_map, map-append, get_or_past, Place, find, Entry, is_signal, range_names, Tree, ANumber, ASpecial, AName, ASet, AParen, AUnary, ABinary, OneMember, SpanMember, Members, NoMember, MoreMembers, Context, no_name, targets_of, all_targets, Term, Terms, X, Pulse, Release, term_named, term_of, terms_of, named_before, special_term, known_of, SectionFault, MisplacedSpecial, NotAnOutput, found_use, name_found, names_found, too_wide, Aim, left_empty, right_empty, names_positions, header_of, refused_header, outputs_at, named_outputs, header_name, header_range, header_special, output_header, output_members, signals_of, AreNamed, some_aims}
 use Rattle.std.proofs.lemmas.Bool.{ltb-true, ltb-false}
-use Rattle.section_targets.specs.Given.{AreNamed}
 use Rattle.section_targets.proofs.KnownTargets.{EachTarget, IsSignalOf, signal_targets}
-use Rattle.truth_tables.specs.TableUnits.{some_aims}
 
 signals_append : (xs ys : List (Option Aim)) → signals_of (xs ++ ys) ≡ signals_of xs ++ signals_of ys
 signals_append xs ys = map-append (λ (x : Option Aim). option_map (λ (a : Aim). a.signal) x) xs ys

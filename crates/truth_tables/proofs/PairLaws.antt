@@ -1,36 +1,11 @@
 -- Headers and entries met pair by pair.
 use Rattle.std.proofs.Common.{◌≡◌, ℕ, zero, suc, ◌+◌, ◌-◌, ◌/◌, ◌%◌, ◌==◌, ◌<◌, ◌≤◌, Bool, true, false, ◌&&◌, Option, List, [], ◌∷◌, ◌++◌, length, map, reverse, replicate, refl, sym, ap, ap₂, ◌∙◌, subst, arith, append-nil, Bor}
-use Rattle.std.specs.List.{AllZip, flat_map, list_all, sum_by, zip}
-use Rattle.std.proofs.Math.Bool.{and-false}
-use Rattle.std.proofs.lemmas.List.{map-append, reverse-append, replicate-append-replicate}
-use Rattle.std.proofs.lemmas.List.Sums.{sum_by-cons}
-use Rattle.abel_tree.specs.declared.expressions.Expr.{Expr}
-use Rattle.abel_tree.specs.declared.expressions.Member.{Member}
-use Rattle.abel_tree.specs.declared.words.Extension.{Extension}
-use Rattle.abel_tree.specs.View.{view}
-use Rattle.abel_meaning.proofs.RelationWords.{map_reverse}
-use Rattle.abel_meaning.specs.Designs.{Context}
-use Rattle.abel_meaning.specs.Numbers.{digits, digits_low_first}
-use Rattle.abel_meaning.specs.Rows.{part_marks, part_width, marks_of, all_marks}
+use Rattle.truth_tables.proofs.Common.{AllZip, flat_map, list_all, sum_by, zip, and-false, map-append, reverse-append, replicate-append-replicate, sum_by-cons, Expr, Member, Extension, view, map_reverse, Context, digits, digits_low_first, part_marks, part_width, marks_of, all_marks, Term, Terms, extended_if, special_term, term_of, constant_of, Shape, HasShape, Mark, Pair, Part, view_mark, list_of, each_extended, seen, is_set, both_sets, meeting, paired, ArePaired, IsPair, IsPut, IsMet, term_parts, IsNumeral, IsOperator, IsPart, AreParts, is_operand, is_number, meets, all_meet, meets_whole, all_extended, set_extended, list_extended}
 use Rattle.abel_meaning.specs.Rows as meant
-use Rattle.abel_meaning.specs.Terms.{Term, Terms, extended_if, special_term, term_of}
 use Rattle.abel_meaning.specs.Terms as term
-use Rattle.abel_meaning.specs.Values.{constant_of}
-use Rattle.set_expr.specs.declared.shaped.Shape.{Shape}
 use Rattle.set_expr.specs.declared.shaped.Shape.TheVariants as shape
-use Rattle.set_expr.specs.Shapes.{HasShape}
-use Rattle.truth_tables.specs.declared.mark.Mark.{Mark}
-use Rattle.truth_tables.specs.declared.part.Pair.{Pair}
-use Rattle.truth_tables.specs.declared.part.Part.{Part}
 use Rattle.truth_tables.specs.declared.part.Part.TheVariants as part
-use Rattle.truth_tables.specs.EntryMarks.{view_mark}
-use Rattle.expr_bits.specs.Members.{list_of, each_extended}
-use Rattle.truth_tables.specs.PairTerms.{seen, is_set, both_sets, meeting, paired, ArePaired, IsPair, IsPut, IsMet}
-use Rattle.truth_tables.specs.PartCounts.{term_parts}
-use Rattle.truth_tables.specs.PartTerms.{IsNumeral, IsOperator, IsPart, AreParts, is_operand}
-use Rattle.truth_tables.specs.RowEntries.{is_number, meets, all_meet, meets_whole}
 use Rattle.truth_tables.proofs.PartLaws.{operand_case, operator_operand, operator_shape, special_case}
-use Rattle.expr_bits.proofs.Extensions.{all_extended, set_extended, list_extended}
 use Rattle.truth_tables.proofs.PartSums.{set_fewer, some_parts}
 use Rattle.std.proofs.lemmas.Slice.Zip.{AllZip-long}
 

@@ -1,31 +1,12 @@
 -- Numbers, operators and specials, and what was checked of a part, as the value of its term.
 use Rattle.std.proofs.Common.{◌≡◌, ℕ, Bool, true, false, Option, None, Some, List, [], ◌∷◌, if◌then◌else◌, bytes_eq, map, get_or, refl, sym, ap, ◌∙◌, subst}
 use Rattle.std.specs.Prelude.{codes}
+use Rattle.truth_tables.proofs.Common.{Expr, Names, Extension, entries_of, view_declared, Tree, view, Context, Value, member_width, part_width, Term, Terms, Set, term_of, extended_if, extended, special_term, constant_of, SectionFault, Shape, expression_found, HasShapeIf, Found, HasShape, IsOver, IsNumeral, IsOperator, IsSet, is_operand, Binary}
 use Rattle.std.proofs.Math.ListN.{get_or-map}
-use Rattle.abel_tree.specs.declared.expressions.Expr.{Expr}
 use Rattle.abel_tree.specs.declared.names.Declared.{Declared}
-use Rattle.abel_tree.specs.declared.names.Names.{Names}
-use Rattle.abel_tree.specs.declared.words.Extension.{Extension}
-use Rattle.abel_tree.specs.Entries.{entries_of, view_declared}
-use Rattle.abel_tree.specs.Tree.{Tree}
-use Rattle.abel_tree.specs.View.{view}
-use Rattle.abel_meaning.specs.Designs.{Context}
-use Rattle.abel_meaning.specs.Numbers.{Value, member_width}
-use Rattle.abel_meaning.specs.Rows.{part_width}
-use Rattle.abel_meaning.specs.Terms.{Term, Terms, Set, term_of, extended_if, extended, special_term}
-use Rattle.abel_meaning.specs.Values.{constant_of}
-use Rattle.set_expr.specs.declared.fault.SectionFault.{SectionFault}
-use Rattle.set_expr.specs.declared.shaped.Shape.{Shape}
 use Rattle.set_expr.specs.declared.shaped.Shape.TheVariants as shape
-use Rattle.set_expr.specs.FoundNames.{expression_found}
-use Rattle.set_expr.specs.KnownNames.{HasShapeIf}
-use Rattle.set_expr.specs.Refusals.{Found}
-use Rattle.set_expr.specs.Shapes.{HasShape}
 use Rattle.expr_bits.proofs.Linked.{HasKind, IsLinkedIf, expression_linked}
 use Rattle.expr_bits.proofs.Links.{SameKind, same_kind, extended_alike}
-use Rattle.truth_tables.specs.EntryTerms.{IsOver}
-use Rattle.truth_tables.specs.PartTerms.{IsNumeral, IsOperator, IsSet, is_operand}
-use Rattle.abel_tree.specs.declared.words.Binary.{Binary}
 use Rattle.abel_tree.specs.declared.words.Unary.{Unary}
 use Rattle.abel_meaning.specs.Terms as term
 

@@ -1,20 +1,9 @@
 -- Each step of a walk over parts leaves fewer of them.
 use Rattle.std.proofs.Common.{◌≡◌, suc, ◌+◌, ◌<◌, true, Option, None, Some, map, refl, sym, ap, ap₂, ◌∙◌, arith}
-use Rattle.std.specs.List.{sum_by}
-use Rattle.std.proofs.lemmas.List.Sums.{sum_by-cons}
-use Rattle.abel_tree.specs.declared.words.Extension.{Extension}
-use Rattle.abel_tree.specs.Tree.{members_of}
-use Rattle.abel_tree.specs.View.{view_member}
-use Rattle.abel_meaning.specs.Designs.{Context}
-use Rattle.abel_meaning.specs.Terms.{Term, Terms, extended, extended_each, extended_if, terms_of}
+use Rattle.truth_tables.proofs.Common.{sum_by, sum_by-cons, Extension, members_of, view_member, Context, Term, Terms, extended, extended_each, extended_if, terms_of, Part, list_of, each_extended, term_parts, terms_parts, part_parts, IsPart, is_operand, all_extended, set_extended, list_extended}
 use Rattle.abel_meaning.specs.Terms as term
-use Rattle.truth_tables.specs.declared.part.Part.{Part}
 use Rattle.truth_tables.specs.declared.part.Part.TheVariants as part
-use Rattle.expr_bits.specs.Members.{list_of, each_extended}
-use Rattle.truth_tables.specs.PartCounts.{term_parts, terms_parts, part_parts}
-use Rattle.truth_tables.specs.PartTerms.{IsPart, is_operand}
 use Rattle.truth_tables.proofs.PartLaws.{operand_case, operator_operand, special_case}
-use Rattle.expr_bits.proofs.Extensions.{all_extended, set_extended, list_extended}
 
 -- an extension changes none
 mutual

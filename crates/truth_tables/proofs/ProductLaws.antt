@@ -1,23 +1,7 @@
 -- The literals of a row, position by position.
 use Rattle.std.proofs.Common.{◌≡◌, ℕ, zero, suc, ◌+◌, ◌<◌, ◌≤◌, min, Bool, true, Option, None, Some, List, [], ◌∷◌, Result, Ok, Err, length, drop, get_or, refl, sym, ap, ap₂, ◌∙◌, subst, subst₂, arith, add-one}
-use Rattle.std.proofs.Math.Seq.{drop-cons}
+use Rattle.truth_tables.proofs.Common.{drop-cons, Place, ExprId, Node, arena, formula_at, Made, Formula, Const, make_literal, SectionFault, AreIn, Keeps, StopsWith, IsBuilt, Builds, BuildsNodes, IsBit, part, builds_none, kept_formula, two_parts, high_bit, stops_longer, position_literal, literals, IsJoined}
 use Rattle.std.specs.Prelude.{IfOk}
-use Rattle.pld_base.specs.declared.place.Place.{Place}
-use Rattle.bit_expr.specs.declared.node.ExprId.{ExprId}
-use Rattle.bit_expr.specs.declared.node.Node.{Node}
-use Rattle.bit_expr.specs.Arena.{arena, formula_at}
-use Rattle.bit_expr.specs.Folding.{Made}
-use Rattle.bit_expr.specs.Formulas.{Formula, Const}
-use Rattle.abel_meaning.specs.CountedBlocks.{make_literal}
-use Rattle.set_expr.specs.declared.fault.SectionFault.{SectionFault}
-use Rattle.set_expr.specs.Answer.{AreIn, Keeps}
-use Rattle.section_targets.specs.Building.{StopsWith, IsBuilt, Builds, BuildsNodes, IsBit}
-use Rattle.section_targets.specs.Units.{part}
-use Rattle.section_targets.proofs.Built.{builds_none, kept_formula}
-use Rattle.section_targets.proofs.OneUnit.{two_parts}
-use Rattle.section_targets.proofs.MetWords.{high_bit}
-use Rattle.equations.proofs.BuiltParts.{stops_longer}
-use Rattle.truth_tables.specs.Products.{position_literal, literals, IsJoined}
 
 -- ---- positions in an arena
 

@@ -1,17 +1,6 @@
 -- What is refused of an entry, by what is inside and by whether it meets its header.
 use Rattle.std.proofs.Common.{◌≡◌, Bool, true, false, Option, None, Some, List, [], ◌∷◌, refl, sym, ap, ◌∙◌, subst}
-use Rattle.abel_tree.specs.declared.names.Names.{Names}
-use Rattle.abel_tree.specs.Entries.{entries_of}
-use Rattle.abel_tree.specs.FirstRefusal.{first_refusal}
-use Rattle.abel_tree.proofs.FirstRefusals.{none_refused}
-use Rattle.abel_tree.specs.Tree.{Tree}
-use Rattle.abel_meaning.specs.Designs.{Context}
-use Rattle.abel_meaning.specs.Terms.{Term, term_of}
-use Rattle.set_expr.specs.declared.fault.SectionFault.{SectionFault}
-use Rattle.set_expr.specs.FoundNames.{names_found}
-use Rattle.set_expr.specs.SectionOrder.{section_order}
-use Rattle.truth_tables.specs.EntryTerms.{IsOver}
-use Rattle.truth_tables.specs.RowEntries.{refused_inside, meets, unless_met, entry_refused}
+use Rattle.truth_tables.proofs.Common.{Names, entries_of, first_refusal, none_refused, Tree, Context, Term, term_of, SectionFault, names_found, section_order, IsOver, refused_inside, meets, unless_met, entry_refused}
 
 pub inside_first : (rs : List SectionFault) (r f : SectionFault) (b : Bool) → Some f ≡ first_refusal section_order rs → first_refusal section_order (unless_met rs r b) ≡ Some f
 inside_first [] r f b e = absurd cc

@@ -2,17 +2,9 @@
 -- the constant [a,b], x is .X., k is .C., z is .Z., m is the constant [0,.X.].
 use Rattle.std.specs.Prelude.{◌≡◌, true, false, List, [], ◌∷◌}
 use Rattle.std.proofs.Common.{refl}
-use Rattle.pld_device.specs.SampleTable.{sample}
-use Rattle.abel_tree.specs.declared.words.Binary.{Binary}
+use Rattle.truth_tables.proofs.Common.{sample, Binary, APin, Entry, Tree, AParen, AUnary, ABinary, Context, context_of, term_of, SectionFault, MisplacedSpecial, NotConstant, ZeroDivisor, BadRow, entry_refused}
 use Rattle.abel_tree.specs.declared.words.Binary.TheVariants as binary
 use Rattle.abel_tree.specs.declared.words.Unary.TheVariants as unary
-use Rattle.abel_tree.specs.Entries.{APin, Entry}
-use Rattle.abel_tree.specs.Tree.{Tree, AParen, AUnary, ABinary}
-use Rattle.abel_meaning.specs.Designs.{Context, context_of}
-use Rattle.abel_meaning.specs.Terms.{term_of}
-use Rattle.set_expr.specs.declared.fault.SectionFault.{SectionFault}
-use Rattle.set_expr.specs.declared.fault.SectionFault.TheVariants.{MisplacedSpecial, NotConstant, ZeroDivisor, BadRow}
-use Rattle.truth_tables.specs.RowEntries.{entry_refused}
 use Rattle.truth_tables.proofs.ExampleTrees.{at, constant, declared, name, number, pulse, release, set, unknown}
 
 -- operators stand at column 5

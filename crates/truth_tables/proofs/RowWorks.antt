@@ -1,50 +1,11 @@
 -- What rows make and give, and a whole table behind its header.
 use Rattle.std.proofs.Common.{◌≡◌, ℕ, ◌+◌, ◌≤◌, Bool, true, false, Option, None, Some, List, [], ◌∷◌, ◌++◌, Result, length, reverse, refl, sym, ap, ap₂, ◌∙◌, subst, arith, map}
-use Rattle.pld_base.specs.declared.place.Place.{Place}
-use Rattle.bit_expr.specs.declared.node.ExprId.{ExprId}
-use Rattle.bit_expr.specs.Arena.{arena, formula_at}
-use Rattle.bit_expr.specs.Folding.{Made, make_and, make_not}
-use Rattle.bit_expr.specs.Formulas.{Formula, Const}
-use Rattle.abel_tree.specs.declared.tables.Table.{Table}
-use Rattle.abel_tree.proofs.FirstRefusals.{none_refused}
-use Rattle.abel_tree.specs.Tree.{RowTree}
-use Rattle.abel_tree.specs.View.{view, view_row}
+use Rattle.truth_tables.proofs.Common.{Place, ExprId, arena, formula_at, Made, make_and, make_not, Formula, Const, Table, none_refused, RowTree, view, view_row, row_literals, rows_units, table_units, Context, formulas, width_of, entry_levels, agrees, outputs_given, rows_give, no_matches, targets_of, Term, term_of, constant_of, Contributions, Guard, SectionFault, Keeps, AreIn, bits_at, unknown_at, view_guard, section_order, Aim, IsBuilt, Builds, part, CountedUnit, builds_then, kept_formula, left_empty, right_empty, one_unit, row_places, row_refused, row_units, rows_places, header_refused, if_none, outputs_refused, places_of, some_aims, units_behind, IsRow, matched_guard, signals_of, StandForInputs, header_literals, literals, behind, found_work, nodes_behind, row_work, rows_work, NamesOutputs, Work, before, first_refusal, expression_found, Manner, output_header, given_by, places_by, units_of}
 use Rattle.abel_meaning.specs.Contributions as meant
-use Rattle.abel_meaning.specs.CountedBlocks.{row_literals, rows_units, table_units}
-use Rattle.abel_meaning.specs.Designs.{Context}
-use Rattle.abel_meaning.specs.FormulaBits.{formulas}
-use Rattle.abel_meaning.specs.Numbers.{width_of}
-use Rattle.abel_meaning.specs.Rows.{entry_levels}
-use Rattle.abel_meaning.specs.Tables.{agrees, outputs_given, rows_give, no_matches}
-use Rattle.abel_meaning.specs.Targets.{targets_of}
-use Rattle.abel_meaning.specs.Terms.{Term, term_of}
-use Rattle.abel_meaning.specs.Values.{constant_of}
-use Rattle.set_expr.specs.declared.contributions.Contributions.{Contributions}
-use Rattle.set_expr.specs.declared.contributions.Guard.{Guard}
-use Rattle.set_expr.specs.declared.fault.SectionFault.{SectionFault}
-use Rattle.set_expr.specs.Answer.{Keeps, AreIn, bits_at, unknown_at}
-use Rattle.set_expr.specs.Given.{view_guard}
-use Rattle.set_expr.specs.SectionOrder.{section_order}
-use Rattle.section_targets.specs.declared.aim.Aim.{Aim}
-use Rattle.section_targets.specs.Building.{IsBuilt, Builds}
-use Rattle.section_targets.specs.Units.{part, CountedUnit}
-use Rattle.section_targets.proofs.Built.{builds_then, kept_formula, left_empty, right_empty}
-use Rattle.section_targets.proofs.OneUnit.{one_unit}
-use Rattle.truth_tables.specs.TableUnits.{row_places, row_refused, row_units, rows_places, header_refused, if_none, outputs_refused, places_of, some_aims, units_behind}
 use Rattle.truth_tables.specs.declared.checked_rows.RowFound.{RowFound}
-use Rattle.truth_tables.specs.RowLevels.{IsRow}
-use Rattle.truth_tables.specs.Gives.{matched_guard, signals_of}
-use Rattle.truth_tables.specs.Products.{StandForInputs, header_literals, literals}
-use Rattle.truth_tables.specs.Rows.{behind, found_work, nodes_behind, row_work, rows_work, NamesOutputs}
-use Rattle.truth_tables.specs.Works.{Work, before}
 use Rattle.truth_tables.proofs.ProductLaws.{in_longer}
 use Rattle.truth_tables.proofs.WorkLaws.{DoesWork, before_none, before_assoc}
-use Rattle.abel_tree.specs.FirstRefusal.{first_refusal}
 use Rattle.abel_meaning.specs.CountedNodes.{term_nodes}
-use Rattle.set_expr.specs.FoundNames.{expression_found}
-use Rattle.section_targets.specs.declared.manner.Manner.{Manner}
-use Rattle.truth_tables.specs.OutputHeaders.{output_header}
-use Rattle.truth_tables.specs.TableWalks.{given_by, places_by, units_of}
 use Rattle.truth_tables.proofs.OutputPositions.{header_signals}
 
 -- ---- products

@@ -1,40 +1,11 @@
 -- Walks over the rows of a table, part by part.
 use Rattle.std.proofs.Common.{◌≡◌, ℕ, ◌+◌, Bool, true, false, Option, None, Some, List, [], ◌∷◌, ◌++◌, if◌then◌else◌, Result, Ok, Err, refl, sym, ap, ◌∙◌, subst, append-nil}
-use Rattle.std.specs.Option.{is_some}
-use Rattle.std.specs.Result.{OnOk}
-use Rattle.std.specs.Global.{Vec}
-use Rattle.pld_base.specs.declared.place.Place.{Place}
+use Rattle.truth_tables.proofs.Common.{is_some, OnOk, Vec, Place, ExprId, Formula, Names, Table, earlier, first_refusal, is_before, none_refused, RowTree, view, row_nodes, Context, term_of, SectionFault, section_order, Aim, Manner, context_for, AreFirsts, CountedUnit, units_refused, AfterMaking, Walks, standing, both_clear, walks_alike, walks_made, walks_none, walks_refused, walks_then, whole, IsOver, WalksWork, nodes_left, row_work, row_refused, units_behind, Work, before, given_freely}
 use Rattle.pld_device.specs.Table as device
-use Rattle.bit_expr.specs.declared.node.ExprId.{ExprId}
-use Rattle.bit_expr.specs.Formulas.{Formula}
-use Rattle.abel_tree.specs.declared.names.Names.{Names}
-use Rattle.abel_tree.specs.declared.tables.Table.{Table}
-use Rattle.abel_tree.specs.FirstRefusal.{earlier, first_refusal, is_before}
-use Rattle.abel_tree.proofs.FirstRefusals.{none_refused}
-use Rattle.abel_tree.specs.Tree.{RowTree}
-use Rattle.abel_tree.specs.View.{view}
-use Rattle.abel_meaning.specs.CountedBlocks.{row_nodes}
 use Rattle.abel_meaning.specs.Contributions as meant
-use Rattle.abel_meaning.specs.Designs.{Context}
-use Rattle.abel_meaning.specs.Terms.{term_of}
-use Rattle.set_expr.specs.declared.fault.SectionFault.{SectionFault}
-use Rattle.set_expr.specs.SectionOrder.{section_order}
-use Rattle.section_targets.specs.declared.aim.Aim.{Aim}
-use Rattle.section_targets.specs.declared.manner.Manner.{Manner}
 use Rattle.section_targets.specs.declared.walked.Walked.{Walked}
-use Rattle.set_expr.specs.Contexts.{context_for}
-use Rattle.section_targets.specs.Manners.{AreFirsts}
-use Rattle.section_targets.specs.Units.{CountedUnit, units_refused}
-use Rattle.section_targets.specs.Walking.{AfterMaking, Walks, standing}
-use Rattle.section_targets.proofs.WalksBehind.{both_clear, walks_alike, walks_made, walks_none, walks_refused, walks_then}
-use Rattle.equations.proofs.BuiltParts.{whole}
 use Rattle.equations.proofs.WalkedUnits.{limit_kept, unit_refused}
-use Rattle.truth_tables.specs.EntryTerms.{IsOver}
 use Rattle.truth_tables.specs.declared.rows.Headed.{Headed}
-use Rattle.truth_tables.specs.RowWalks.{WalksWork, nodes_left}
-use Rattle.truth_tables.specs.Rows.{row_work}
-use Rattle.truth_tables.specs.TableUnits.{row_refused, units_behind}
-use Rattle.truth_tables.specs.Works.{Work, before, given_freely}
 use Rattle.truth_tables.proofs.WorkLaws.{DoesWork}
 
 pub is_over : (v : device.Table) (n : Names) → IsOver n (context_for v n)

@@ -1,22 +1,10 @@
 -- The signals of headers, part by part.
 use Rattle.std.proofs.Common.{◌≡◌, ℕ, Bool, true, false, ◌&&◌, Option, None, Some, List, [], ◌∷◌, ◌++◌, if◌then◌else◌, bytes_eq, reverse, refl, sym, ap, ◌∙◌, append-nil}
 use Rattle.std.specs.Prelude.{codes}
-use Rattle.std.specs.Option.{is_some}
+use Rattle.truth_tables.proofs.Common.{is_some, flat_map, list_all, reverse-append, Extension, Context, targets_of, all_targets, Term, Terms, extended_if, special_term, Part, list_of, each_extended, names_positions, all_name_positions, AreParts, is_operand, IsListed, all_extended, set_extended, list_extended}
 use Rattle.std.proofs.lemmas.Slice.Eq.{bytes_eq-Decides}
-use Rattle.std.specs.List.{flat_map, list_all}
-use Rattle.std.proofs.lemmas.List.{reverse-append}
-use Rattle.abel_tree.specs.declared.words.Extension.{Extension}
-use Rattle.abel_meaning.specs.Designs.{Context}
-use Rattle.abel_meaning.specs.Targets.{targets_of, all_targets}
-use Rattle.abel_meaning.specs.Terms.{Term, Terms, extended_if, special_term}
 use Rattle.abel_meaning.specs.Terms as term
-use Rattle.truth_tables.specs.declared.part.Part.{Part}
-use Rattle.expr_bits.specs.Members.{list_of, each_extended}
-use Rattle.truth_tables.specs.HeaderSignals.{names_positions, all_name_positions}
-use Rattle.truth_tables.specs.PartTerms.{AreParts, is_operand}
-use Rattle.truth_tables.specs.SignalTerms.{IsListed}
 use Rattle.truth_tables.proofs.PartLaws.{operand_case}
-use Rattle.expr_bits.proofs.Extensions.{all_extended, set_extended, list_extended}
 use Rattle.truth_tables.proofs.PartSums.{set_fewer, some_parts}
 
 -- ---- what one part is

@@ -1,11 +1,6 @@
 -- A walk over a stack, step by step.
 use Rattle.std.proofs.Common.{◌≡◌, ℕ, ◌<◌, Bool, true, false, ◌&&◌, List, [], ◌∷◌, ◌++◌, refl, sym, ap, ◌∙◌, subst, arith, append_assoc, append-nil}
-use Rattle.std.specs.List.{AllZip, flat_map, list_all, sum_by}
-use Rattle.std.proofs.Math.Bool.{and-false, and-true}
-use Rattle.std.proofs.lemmas.Grind.{flat_map-append}
-use Rattle.std.proofs.lemmas.List.Folds.{list_all-append}
-use Rattle.std.proofs.lemmas.List.Sums.{sum_by-append}
-use Rattle.truth_tables.specs.Stacks.{Walking, Opened, Taken, IsStep, Walked}
+use Rattle.truth_tables.proofs.Common.{AllZip, flat_map, list_all, sum_by, and-false, and-true, flat_map-append, list_all-append, sum_by-append, Walking, Opened, Taken, IsStep, Walked}
 use Rattle.truth_tables.proofs.NamesInOrder.{right_true}
 
 -- ---- what lies on stacks

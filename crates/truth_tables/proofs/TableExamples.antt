@@ -2,17 +2,8 @@
 -- constant [Y,Z], x is .X., k is .C.; the header stands on line 2, its outputs in its columns.
 use Rattle.std.specs.Prelude.{◌≡◌, ℕ, true, false, None, Some, List, [], ◌∷◌, codes}
 use Rattle.std.proofs.Common.{refl}
-use Rattle.pld_base.specs.declared.place.Place.{Place}
-use Rattle.pld_device.specs.SampleTable.{sample}
+use Rattle.truth_tables.proofs.Common.{Place, sample, APin, Entry, Tree, AName, RowTree, Context, context_of, SectionFault, MisplacedSpecial, NotAnOutput, MixedAssignment, BadRow, Manner, units_refused, units_of_table}
 use Rattle.abel_tree.specs.declared.words.Extension.TheVariants as extension
-use Rattle.abel_tree.specs.Entries.{APin, Entry}
-use Rattle.abel_tree.specs.Tree.{Tree, AName, RowTree}
-use Rattle.abel_meaning.specs.Designs.{Context, context_of}
-use Rattle.set_expr.specs.declared.fault.SectionFault.{SectionFault}
-use Rattle.set_expr.specs.declared.fault.SectionFault.TheVariants.{MisplacedSpecial, NotAnOutput, MixedAssignment, BadRow}
-use Rattle.section_targets.specs.declared.manner.Manner.{Manner}
-use Rattle.section_targets.specs.Units.{units_refused}
-use Rattle.truth_tables.specs.TableUnits.{units_of_table}
 use Rattle.truth_tables.proofs.ExampleTrees.{at, constant, declared, name, number, pulse, set, unknown}
 
 -- a line's first column

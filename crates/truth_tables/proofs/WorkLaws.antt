@@ -1,15 +1,7 @@
 -- Works that are built one after another.
 use Rattle.std.proofs.Common.{◌≡◌, List, [], ◌∷◌, Result, Ok, Err, length, refl, sym, subst, arith, append_assoc, append-nil}
-use Rattle.pld_base.specs.declared.place.Place.{Place}
-use Rattle.bit_expr.specs.Arena.{arena}
-use Rattle.bit_expr.specs.Formulas.{Formula}
+use Rattle.truth_tables.proofs.Common.{Place, arena, Formula, Contributions, SectionFault, StopsWith, Builds, part, builds_none, builds_then, builds_stop, stops_on, Work, before, nothing, IsDone}
 use Rattle.abel_meaning.specs.Contributions as meant
-use Rattle.set_expr.specs.declared.contributions.Contributions.{Contributions}
-use Rattle.set_expr.specs.declared.fault.SectionFault.{SectionFault}
-use Rattle.section_targets.specs.Building.{StopsWith, Builds}
-use Rattle.section_targets.specs.Units.{part}
-use Rattle.section_targets.proofs.Built.{builds_none, builds_then, builds_stop, stops_on}
-use Rattle.truth_tables.specs.Works.{Work, before, nothing, IsDone}
 
 pub before_none : (w : Work) → before w nothing ≡ w
 before_none w = rw (append-nil w.units, append-nil w.gives, append-nil w.places) refl

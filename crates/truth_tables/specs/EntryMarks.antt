@@ -1,13 +1,7 @@
 -- The marks of an entry, or that it doesn't meet its header (ABEL-HDL Reference Manual, truth tables and test vectors).
 use Rattle.std.specs.Prelude.{◌≡◌, Some, [], map}
-use Rattle.abel_tree.specs.FirstRefusal.{first_refusal}
-use Rattle.abel_tree.specs.Tree.{Tree}
-use Rattle.abel_meaning.specs.Designs.{Context}
-use Rattle.abel_meaning.specs.Rows.{marks_of}
+use Rattle.truth_tables.specs.Prelude.{first_refusal, Tree, Context, marks_of, Term, term_of, SectionFault, section_order}
 use Rattle.abel_meaning.specs.Rows as meant
-use Rattle.abel_meaning.specs.Terms.{Term, term_of}
-use Rattle.set_expr.specs.declared.fault.SectionFault.{SectionFault}
-use Rattle.set_expr.specs.SectionOrder.{section_order}
 use Rattle.truth_tables.specs.declared.entries.Entry.{Entry}
 use Rattle.truth_tables.specs.declared.entries.Entry.TheVariants as entry
 use Rattle.truth_tables.specs.declared.mark.Mark.{Mark}

@@ -1,9 +1,6 @@
 -- What headers and entries are over.
 use Rattle.std.specs.Prelude.{◌≡◌}
-use Rattle.abel_tree.specs.declared.names.Names.{Names}
-use Rattle.abel_tree.specs.Entries.{entries_of}
-use Rattle.abel_meaning.specs.Designs.{Context}
-use Rattle.abel_meaning.specs.Terms.{known_of}
+use Rattle.truth_tables.specs.Prelude.{Names, entries_of, Context, known_of}
 
 -- a design of these names, for any device
 pub record IsOver (n : Names) (d : Context) : Type 0 where

@@ -1,25 +1,9 @@
 -- What is left by giving outputs their bits (ABEL-HDL Reference Manual, truth tables).
 use Rattle.std.specs.Prelude.{◌≡◌, ℕ, Bool, true, false, Option, None, Some, List, [], ◌∷◌, map, Result}
-use Rattle.std.specs.Option.{option_map}
-use Rattle.pld_base.specs.declared.place.Place.{Place}
-use Rattle.bit_expr.specs.declared.node.ExprId.{ExprId}
-use Rattle.bit_expr.specs.declared.node.Node.{Node}
-use Rattle.bit_expr.specs.Arena.{arena, formula_at}
-use Rattle.bit_expr.specs.Formulas.{Formula}
-use Rattle.abel_tree.specs.declared.names.Names.{Names}
-use Rattle.abel_tree.specs.Entries.{entries_of}
+use Rattle.truth_tables.specs.Prelude.{option_map, Place, ExprId, Node, arena, formula_at, Formula, Names, entries_of, Context, formulas, no_matches, outputs_given, Contribution, Guard, SectionFault, view_gives, view_guard, Aim, Builds}
 use Rattle.abel_meaning.specs.Contributions.{contribution}
 use Rattle.abel_meaning.specs.Contributions as meant
-use Rattle.abel_meaning.specs.Designs.{Context}
-use Rattle.abel_meaning.specs.FormulaBits.{formulas}
-use Rattle.abel_meaning.specs.Tables.{no_matches, outputs_given}
-use Rattle.set_expr.specs.declared.contributions.Contribution.{Contribution}
 use Rattle.set_expr.specs.declared.contributions.Gives.{Gives}
-use Rattle.set_expr.specs.declared.contributions.Guard.{Guard}
-use Rattle.set_expr.specs.declared.fault.SectionFault.{SectionFault}
-use Rattle.set_expr.specs.Given.{view_gives, view_guard}
-use Rattle.section_targets.specs.declared.aim.Aim.{Aim}
-use Rattle.section_targets.specs.Building.{Builds}
 use Rattle.truth_tables.specs.TableUnits.{some_aims, places_of, row_places}
 use Rattle.truth_tables.specs.declared.giving.Assigning.{Assigning}
 

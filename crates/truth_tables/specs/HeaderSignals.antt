@@ -1,8 +1,6 @@
 -- The signals that a header names, position by position (ABEL-HDL Reference Manual, truth tables and test vectors).
 use Rattle.std.specs.Prelude.{◌≡◌, ℕ, Bool, true, false, ◌&&◌, Option, None, Some}
-use Rattle.std.specs.Global.{Vec}
-use Rattle.abel_meaning.specs.Targets.{targets_of}
-use Rattle.abel_meaning.specs.Terms.{Term, Terms}
+use Rattle.truth_tables.specs.Prelude.{Vec, targets_of, Term, Terms}
 use Rattle.abel_meaning.specs.Terms as term
 
 -- a term is a signal without extension, X, or a set of such

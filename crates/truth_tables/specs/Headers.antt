@@ -1,13 +1,6 @@
 -- What the check of a header finds (ABEL-HDL Reference Manual, truth tables).
 use Rattle.std.specs.Prelude.{◌≡◌, Option, List, ◌++◌}
-use Rattle.abel_tree.specs.declared.tables.Table.{Table}
-use Rattle.abel_tree.specs.FirstRefusal.{first_refusal}
-use Rattle.abel_tree.specs.View.{view}
-use Rattle.abel_meaning.specs.Designs.{Context}
-use Rattle.set_expr.specs.SectionOrder.{section_order}
-use Rattle.set_expr.specs.declared.fault.SectionFault.{SectionFault}
-use Rattle.section_targets.specs.declared.aim.Aim.{Aim}
-use Rattle.section_targets.specs.declared.manner.Manner.{Manner}
+use Rattle.truth_tables.specs.Prelude.{Table, first_refusal, view, Context, section_order, SectionFault, Aim, Manner}
 use Rattle.truth_tables.specs.OutputHeaders.{HeaderFound, output_header}
 use Rattle.truth_tables.specs.TableUnits.{header_refused}
 use Rattle.truth_tables.specs.declared.checked_headers.Header.{Header}

@@ -7,6 +7,7 @@ pub mod OutputHeaders
 pub mod PairTerms
 pub mod PartCounts
 pub mod PartTerms
+pub mod Prelude
 pub mod Products
 pub mod RowEntries
 pub mod RowLevels
@@ -18,3 +19,23 @@ pub mod StepsLeft
 pub mod TableUnits
 pub mod TableWalks
 pub mod Works
+unfoldable pub use EntryMarks.*
+unfoldable pub use EntryTerms.*
+unfoldable pub use Gives.*
+unfoldable pub use HeaderSignals.*
+unfoldable pub use Headers.*
+unfoldable pub use OutputHeaders.*
+unfoldable pub use PairTerms.*
+unfoldable pub use PartCounts.*
+unfoldable pub use PartTerms.*
+unfoldable pub use Products.*
+unfoldable pub use RowEntries.*
+unfoldable pub use RowLevels.*
+unfoldable pub use RowWalks.*
+unfoldable pub use Rows.*
+unfoldable pub use SignalTerms.*
+unfoldable pub use Stacks.*
+unfoldable pub use StepsLeft.*
+unfoldable pub use TableUnits.*
+unfoldable pub use TableWalks.*
+unfoldable pub use Works.*

@@ -1,20 +1,8 @@
 -- The outputs of a table's header with their places, and what is refused of it (ABEL-HDL Reference Manual, truth tables;
 -- a position that is X is no output: this project's rule).
 use Rattle.std.specs.Prelude.{ℕ, Option, None, Some, List, [], ◌∷◌, ◌++◌, length, map, if◌then◌else◌, bytes_eq, codes}
-use Rattle.std.specs.Option.{option_map}
-use Rattle.pld_base.specs.declared.place.Place.{Place}
-use Rattle.abel_tree.specs.Entries.{find}
-use Rattle.abel_tree.specs.Ranges.{range_names}
-use Rattle.abel_tree.specs.Tree.{Tree, ANumber, ASpecial, AName, ASet, AParen, AUnary, ABinary, SetMember, OneMember, SpanMember, Members, NoMember, MoreMembers}
-use Rattle.abel_meaning.specs.Designs.{Context}
-use Rattle.abel_meaning.specs.Targets.{targets_of}
-use Rattle.abel_meaning.specs.Terms.{Term, term_named}
-use Rattle.set_expr.specs.declared.fault.SectionFault.{SectionFault}
-use Rattle.set_expr.specs.declared.fault.SectionFault.TheVariants.{MisplacedSpecial, NotAnOutput}
-use Rattle.set_expr.specs.Answer.{first_place}
-use Rattle.set_expr.specs.FoundNames.{name_found, names_found, found_use}
+use Rattle.truth_tables.specs.Prelude.{option_map, Place, find, range_names, Tree, ANumber, ASpecial, AName, ASet, AParen, AUnary, ABinary, SetMember, OneMember, SpanMember, Members, NoMember, MoreMembers, Context, targets_of, Term, term_named, SectionFault, MisplacedSpecial, NotAnOutput, first_place, name_found, names_found, found_use, Aim}
 use Rattle.set_expr.specs.Refusals.{too_wide}
-use Rattle.section_targets.specs.declared.aim.Aim.{Aim}
 use Rattle.section_targets.specs.TargetSignals.{first_name}
 use Rattle.truth_tables.specs.HeaderSignals.{names_positions}
 

@@ -1,9 +1,7 @@
 -- Private: parts of headers beside what stands for them in entries, as pairs of terms.
 use Rattle.std.specs.Prelude.{◌≡◌, Bool, true, false, ◌&&◌, List, [], ◌∷◌, ◌++◌, length, map, reverse}
-use Rattle.abel_meaning.specs.Designs.{Context}
-use Rattle.abel_meaning.specs.Rows.{marks_of}
+use Rattle.truth_tables.specs.Prelude.{Context, marks_of, Term}
 use Rattle.abel_meaning.specs.Rows as meant
-use Rattle.abel_meaning.specs.Terms.{Term}
 use Rattle.abel_meaning.specs.Terms as term
 use Rattle.truth_tables.specs.declared.mark.Mark.{Mark}
 use Rattle.truth_tables.specs.declared.part.Pair.{Pair}

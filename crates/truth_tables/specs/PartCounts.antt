@@ -1,8 +1,6 @@
 -- Private: how many parts terms have, with those of their members: a walk takes each once.
 use Rattle.std.specs.Prelude.{ℕ, suc, ◌+◌, List, map}
-use Rattle.abel_tree.specs.Tree.{members_of}
-use Rattle.abel_tree.specs.View.{view_member}
-use Rattle.abel_meaning.specs.Terms.{Term, Terms, Known, terms_of}
+use Rattle.truth_tables.specs.Prelude.{members_of, view_member, Term, Terms, Known, terms_of}
 use Rattle.abel_meaning.specs.Terms as term
 use Rattle.truth_tables.specs.declared.part.Part.{Part}
 use Rattle.truth_tables.specs.declared.part.Part.TheVariants as part

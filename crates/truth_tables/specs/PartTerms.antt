@@ -1,15 +1,10 @@
 -- Private: the terms that the parts of headers and entries stand for.
 use Rattle.std.specs.Prelude.{◌≡◌, ℕ, Bool, true, false, Option, List, map}
-use Rattle.std.specs.List.{AllZip}
+use Rattle.truth_tables.specs.Prelude.{AllZip, members_of, view, view_member, Context, Term, Terms, term_of, terms_of, extended_if, special_term, constant_of}
 use Rattle.abel_tree.specs.declared.expressions.Expr.{Expr}
 use Rattle.abel_tree.specs.declared.words.Extension.{Extension}
-use Rattle.abel_tree.specs.Tree.{members_of}
-use Rattle.abel_tree.specs.View.{view, view_member}
-use Rattle.abel_meaning.specs.Designs.{Context}
 use Rattle.abel_meaning.specs.Numbers as number
-use Rattle.abel_meaning.specs.Terms.{Term, Terms, term_of, terms_of, extended_if, special_term}
 use Rattle.abel_meaning.specs.Terms as term
-use Rattle.abel_meaning.specs.Values.{constant_of}
 use Rattle.truth_tables.specs.declared.part.Part.{Part}
 use Rattle.truth_tables.specs.declared.part.Part.TheVariants as part
 use Rattle.truth_tables.specs.declared.part.Stand.{Stand}

@@ -1,22 +1,7 @@
 -- Private: the product of a row, position by position (ABEL-HDL Reference Manual, truth tables).
 use Rattle.std.specs.Prelude.{◌≡◌, ◌+◌, ℕ, Bool, true, length, Option, None, Some, List, [], ◌∷◌, reverse}
-use Rattle.pld_base.specs.declared.place.Place.{Place}
-use Rattle.bit_expr.specs.declared.node.ExprId.{ExprId}
-use Rattle.bit_expr.specs.declared.node.Node.{Node}
-use Rattle.bit_expr.specs.Arena.{arena, formula_at}
-use Rattle.bit_expr.specs.Folding.{Made, free}
-use Rattle.bit_expr.specs.Formulas.{Formula, Const}
-use Rattle.abel_meaning.specs.CountedBlocks.{make_literal, row_literals}
-use Rattle.abel_meaning.specs.Designs.{Context}
-use Rattle.abel_meaning.specs.FormulaBits.{bits_of, formulas}
-use Rattle.abel_meaning.specs.Numbers.{width_of}
-use Rattle.abel_meaning.specs.Terms.{Term}
-use Rattle.abel_meaning.specs.Values.{constant_of}
-use Rattle.set_expr.specs.declared.contributions.Contribution.{Contribution}
+use Rattle.truth_tables.specs.Prelude.{Place, ExprId, Node, arena, formula_at, Made, free, Formula, Const, make_literal, row_literals, Context, bits_of, formulas, width_of, Term, constant_of, Contribution, AreIn, IsShaped, bits_at, unknown_at, IsBit, IsBuilt, part}
 use Rattle.set_expr.specs.declared.shaped.Shaped.{Shaped}
-use Rattle.set_expr.specs.Answer.{AreIn, IsShaped, bits_at, unknown_at}
-use Rattle.section_targets.specs.Building.{IsBit, IsBuilt}
-use Rattle.section_targets.specs.Units.{part}
 
 -- a position beside its level
 abbrev pub position_literal : List Formula → (found : Formula) → Option ExprId → Option Bool → Made Formula

@@ -2,16 +2,9 @@
 -- truth tables and test vectors; where specials may stand is this project's rule). How an entry that meets is read is
 -- said by abel_meaning's `Rows`.
 use Rattle.std.specs.Prelude.{ℕ, Bool, true, false, ◌&&◌, ◌||◌, List, [], ◌∷◌, ◌++◌, if◌then◌else◌, bytes_eq, codes}
-use Rattle.std.specs.List.{list_any}
-use Rattle.abel_tree.specs.Ranges.{range_names}
-use Rattle.abel_tree.specs.Tree.{Tree, ANumber, ASpecial, AName, ASet, AParen, AUnary, ABinary, SetMember, OneMember, SpanMember, Members, NoMember, MoreMembers}
-use Rattle.abel_meaning.specs.Designs.{Context}
+use Rattle.truth_tables.specs.Prelude.{list_any, range_names, Tree, ANumber, ASpecial, AName, ASet, AParen, AUnary, ABinary, SetMember, OneMember, SpanMember, Members, NoMember, MoreMembers, Context, Term, Terms, term_of, constant_of, SectionFault, NameFound, name_found, names_found, found_of}
 use Rattle.abel_meaning.specs.Numbers as number
-use Rattle.abel_meaning.specs.Terms.{Term, Terms, term_of}
 use Rattle.abel_meaning.specs.Terms as term
-use Rattle.abel_meaning.specs.Values.{constant_of}
-use Rattle.set_expr.specs.declared.fault.SectionFault.{SectionFault}
-use Rattle.set_expr.specs.FoundNames.{NameFound, name_found, names_found, found_of}
 
 -- ---- meeting, by terms
 

@@ -1,12 +1,6 @@
 -- What is found of the rows of a table (ABEL-HDL Reference Manual, truth tables).
 use Rattle.std.specs.Prelude.{◌≡◌, Bool, Option, None, List, map}
-use Rattle.abel_tree.specs.FirstRefusal.{first_refusal}
-use Rattle.abel_tree.specs.Tree.{Tree, RowTree}
-use Rattle.abel_meaning.specs.Designs.{Context}
-use Rattle.abel_meaning.specs.Rows.{entry_levels, level_of_mark}
-use Rattle.abel_meaning.specs.Terms.{Term, term_of}
-use Rattle.set_expr.specs.declared.fault.SectionFault.{SectionFault}
-use Rattle.set_expr.specs.SectionOrder.{section_order}
+use Rattle.truth_tables.specs.Prelude.{first_refusal, Tree, RowTree, Context, entry_levels, level_of_mark, Term, term_of, SectionFault, section_order}
 use Rattle.truth_tables.specs.declared.mark.Mark.{Mark}
 use Rattle.truth_tables.specs.EntryMarks.{view_mark}
 use Rattle.truth_tables.specs.TableUnits.{level_refused, row_refused}

@@ -1,28 +1,8 @@
 -- Private: what making the rows of a table and walks over them leave (ABEL-HDL Reference Manual, truth tables).
 use Rattle.std.specs.Prelude.{◌≡◌, ℕ, false, Option, None, Some, List, [], length, map, Result}
-use Rattle.std.specs.Global.{Vec}
+use Rattle.truth_tables.specs.Prelude.{Vec, ExprId, Node, arena, entries_of, RowTree, view, view_row, term_nodes, Context, formulas, no_matches, Term, term_of, SectionFault, refusal_of, context_for, view_guard, Manner, Walked, AreNamed, AreFirsts, Walks}
 use Rattle.pld_device.specs.Table as device
-use Rattle.bit_expr.specs.declared.node.ExprId.{ExprId}
-use Rattle.bit_expr.specs.declared.node.Node.{Node}
-use Rattle.bit_expr.specs.Arena.{arena}
 use Rattle.abel_tree.specs.declared.tables.Row.{Row}
-use Rattle.abel_tree.specs.Entries.{entries_of}
-use Rattle.abel_tree.specs.Tree.{RowTree}
-use Rattle.abel_tree.specs.View.{view, view_row}
-use Rattle.abel_meaning.specs.CountedNodes.{term_nodes}
-use Rattle.abel_meaning.specs.Designs.{Context}
-use Rattle.abel_meaning.specs.FormulaBits.{formulas}
-use Rattle.abel_meaning.specs.Tables.{no_matches}
-use Rattle.abel_meaning.specs.Terms.{Term, term_of}
-use Rattle.set_expr.specs.declared.fault.SectionFault.{SectionFault}
-use Rattle.set_expr.specs.Answer.{refusal_of}
-use Rattle.set_expr.specs.Contexts.{context_for}
-use Rattle.set_expr.specs.Given.{view_guard}
-use Rattle.section_targets.specs.declared.manner.Manner.{Manner}
-use Rattle.section_targets.specs.declared.walked.Walked.{Walked}
-use Rattle.section_targets.specs.Given.{AreNamed}
-use Rattle.section_targets.specs.Manners.{AreFirsts}
-use Rattle.section_targets.specs.Walking.{Walks}
 use Rattle.truth_tables.specs.declared.checked_rows.RowFound.{RowFound}
 use Rattle.truth_tables.specs.declared.rows.Headed.{Headed}
 use Rattle.truth_tables.specs.Gives.{signals_of}

@@ -1,24 +1,7 @@
 -- Private: the rows of a table with what they give (ABEL-HDL Reference Manual, truth tables).
 use Rattle.std.specs.Prelude.{◌≡◌, ℕ, ◌+◌, Bool, Option, List, [], ◌∷◌, Result}
-use Rattle.bit_expr.specs.declared.node.Node.{Node}
-use Rattle.bit_expr.specs.Folding.{Made}
-use Rattle.bit_expr.specs.Formulas.{Formula}
-use Rattle.abel_tree.specs.declared.tables.Table.{Table}
-use Rattle.abel_tree.specs.Tree.{RowTree}
-use Rattle.abel_tree.specs.View.{view}
+use Rattle.truth_tables.specs.Prelude.{Node, Made, Formula, Table, RowTree, view, row_nodes, Context, formulas, entry_levels, outputs_given, row_matches, targets_of, term_of, Contribution, SectionFault, Aim, Builds, part}
 use Rattle.abel_meaning.specs.Contributions as meant
-use Rattle.abel_meaning.specs.CountedBlocks.{row_nodes}
-use Rattle.abel_meaning.specs.Designs.{Context}
-use Rattle.abel_meaning.specs.FormulaBits.{formulas}
-use Rattle.abel_meaning.specs.Rows.{entry_levels}
-use Rattle.abel_meaning.specs.Tables.{outputs_given, row_matches}
-use Rattle.abel_meaning.specs.Targets.{targets_of}
-use Rattle.abel_meaning.specs.Terms.{term_of}
-use Rattle.set_expr.specs.declared.contributions.Contribution.{Contribution}
-use Rattle.set_expr.specs.declared.fault.SectionFault.{SectionFault}
-use Rattle.section_targets.specs.declared.aim.Aim.{Aim}
-use Rattle.section_targets.specs.Building.{Builds}
-use Rattle.section_targets.specs.Units.{part}
 use Rattle.truth_tables.specs.TableUnits.{row_places, row_refused}
 use Rattle.truth_tables.specs.declared.checked_rows.RowFound.{RowFound}
 use Rattle.truth_tables.specs.Gives.{signals_of}

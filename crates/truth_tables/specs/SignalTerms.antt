@@ -1,8 +1,6 @@
 -- Private: the parts of headers as signals position by position.
 use Rattle.std.specs.Prelude.{ℕ, Bool, Option, List, reverse}
-use Rattle.abel_meaning.specs.Designs.{Context}
-use Rattle.abel_meaning.specs.Targets.{targets_of}
-use Rattle.abel_meaning.specs.Terms.{Term}
+use Rattle.truth_tables.specs.Prelude.{Context, targets_of, Term}
 use Rattle.truth_tables.specs.declared.part.Part.{Part}
 use Rattle.truth_tables.specs.HeaderSignals.{names_positions}
 use Rattle.truth_tables.specs.PartCounts.{term_parts}

@@ -1,7 +1,7 @@
 -- Private: walks over what lies on a stack, from its top: each element stands for a term, and what the terms of those below
 -- give comes before what was put (this project's rule).
 use Rattle.std.specs.Prelude.{◌≡◌, ◌<◌, ℕ, Bool, true, false, List, [], ◌++◌}
-use Rattle.std.specs.List.{AllZip, flat_map, list_all, sum_by}
+use Rattle.truth_tables.specs.Prelude.{AllZip, flat_map, list_all, sum_by}
 
 -- what a walk asks of each term: whether it passes, what it gives, and how many steps it takes
 pub record Walking (T M : Type 0) : Type 0 where

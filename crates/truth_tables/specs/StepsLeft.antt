@@ -1,10 +1,7 @@
 -- Private: how far an expression leads through signs, parentheses and names of constants. A constant names earlier names
 -- alone, so that each step leaves fewer.
 use Rattle.std.specs.Prelude.{◌≡◌, ℕ, suc, ◌+◌, ◌*◌, ◌<◌, Option, None, Some, List, [], ◌∷◌}
-use Rattle.abel_tree.specs.declared.names.Names.{Names}
-use Rattle.abel_tree.specs.Entries.{Kind, APin, ANode, AConstant, ADeviceName, Entry, entries_of, find}
-use Rattle.abel_tree.specs.Tree.{Tree, ANumber, ASpecial, AName, ASet, AParen, AUnary, ABinary}
-use Rattle.abel_tree.specs.View.{view}
+use Rattle.truth_tables.specs.Prelude.{Names, Kind, APin, ANode, AConstant, ADeviceName, Entry, entries_of, find, Tree, ANumber, ASpecial, AName, ASet, AParen, AUnary, ABinary, view}
 use Rattle.truth_tables.specs.declared.part.Stand.{Stand}
 use Rattle.truth_tables.specs.declared.part.Stand.TheVariants as stand
 

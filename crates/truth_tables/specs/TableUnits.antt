@@ -1,22 +1,8 @@
 -- The units of a truth table, with what is refused of each and the nodes that it makes (ABEL-HDL Reference Manual, truth
 -- tables; units are this project's rule).
 use Rattle.std.specs.Prelude.{ℕ, Bool, false, Option, None, Some, List, [], ◌∷◌, ◌++◌, map, if◌then◌else◌}
-use Rattle.std.specs.List.{filter_map}
-use Rattle.pld_base.specs.declared.place.Place.{Place}
-use Rattle.abel_tree.specs.Tree.{Tree, RowTree}
-use Rattle.bit_expr.specs.Formulas.{differ}
-use Rattle.abel_meaning.specs.CountedBlocks.{table_units}
-use Rattle.abel_meaning.specs.Designs.{Context}
-use Rattle.abel_meaning.specs.Rows.{entry_levels}
-use Rattle.abel_meaning.specs.Terms.{Term, term_of}
-use Rattle.set_expr.specs.declared.fault.SectionFault.{SectionFault}
-use Rattle.set_expr.specs.declared.fault.SectionFault.TheVariants.{BadRow}
-use Rattle.set_expr.specs.FoundNames.{names_found, expression_found}
+use Rattle.truth_tables.specs.Prelude.{filter_map, Place, Tree, RowTree, differ, table_units, Context, entry_levels, Term, term_of, SectionFault, BadRow, names_found, expression_found, Aim, Manner, manner_of, aims_refused, CountedUnit}
 use Rattle.truth_tables.specs.RowEntries.{holds_pulse, entry_refused}
-use Rattle.section_targets.specs.declared.aim.Aim.{Aim}
-use Rattle.section_targets.specs.declared.manner.Manner.{Manner}
-use Rattle.section_targets.specs.Manners.{manner_of, aims_refused}
-use Rattle.section_targets.specs.Units.{CountedUnit}
 use Rattle.truth_tables.specs.OutputHeaders.{HeaderFound, output_header}
 
 -- the outputs alone

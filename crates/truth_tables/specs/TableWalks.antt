@@ -1,25 +1,8 @@
 -- What a walk over a truth table leaves (ABEL-HDL Reference Manual, truth tables).
 use Rattle.std.specs.Prelude.{List, map}
-use Rattle.pld_base.specs.declared.place.Place.{Place}
+use Rattle.truth_tables.specs.Prelude.{Place, arena, Formula, Names, Table, view, view_row, Context, formulas, table_gives, term_of, Guard, view_guard, Manner, Walked, context_for, AreFirsts, CountedUnit, Walks}
 use Rattle.pld_device.specs.Table as device
-use Rattle.bit_expr.specs.Arena.{arena}
-use Rattle.bit_expr.specs.Formulas.{Formula}
-use Rattle.abel_tree.specs.declared.names.Names.{Names}
-use Rattle.abel_tree.specs.declared.tables.Table.{Table}
-use Rattle.abel_tree.specs.View.{view, view_row}
 use Rattle.abel_meaning.specs.Contributions as meant
-use Rattle.abel_meaning.specs.Designs.{Context}
-use Rattle.abel_meaning.specs.FormulaBits.{formulas}
-use Rattle.abel_meaning.specs.Tables.{table_gives}
-use Rattle.abel_meaning.specs.Terms.{term_of}
-use Rattle.set_expr.specs.declared.contributions.Guard.{Guard}
-use Rattle.set_expr.specs.Given.{view_guard}
-use Rattle.section_targets.specs.declared.manner.Manner.{Manner}
-use Rattle.section_targets.specs.declared.walked.Walked.{Walked}
-use Rattle.set_expr.specs.Contexts.{context_for}
-use Rattle.section_targets.specs.Manners.{AreFirsts}
-use Rattle.section_targets.specs.Units.{CountedUnit}
-use Rattle.section_targets.specs.Walking.{Walks}
 use Rattle.truth_tables.specs.OutputHeaders.{output_header}
 use Rattle.truth_tables.specs.TableUnits.{assigned_by, table_places, units_of_table}
 

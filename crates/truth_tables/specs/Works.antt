@@ -1,11 +1,8 @@
 -- Private: units with what they give, and what is left by building them (this project's rule).
 use Rattle.std.specs.Prelude.{List, [], ◌++◌}
-use Rattle.pld_base.specs.declared.place.Place.{Place}
-use Rattle.bit_expr.specs.Formulas.{Formula}
+use Rattle.truth_tables.specs.Prelude.{Place, Formula, IsBuilt, CountedUnit}
 use Rattle.abel_meaning.specs.Contributions as meant
 use Rattle.set_expr.specs.declared.contributions.Contributions.{Contributions}
-use Rattle.section_targets.specs.Building.{IsBuilt}
-use Rattle.section_targets.specs.Units.{CountedUnit}
 
 -- units, with what they give at which places
 pub record Work : Type 0 where

@@ -1,14 +1,8 @@
 //! What is refused of both sides of a header.
 
 ghost use Rattle.std.specs.Prelude.{◌≡◌, List, ◌++◌, IfOk, OnOk};
-ghost use Rattle.abel_tree.specs.View.{view};
-ghost use Rattle.abel_meaning.specs.Designs.{Context};
-ghost use Rattle.set_expr.specs.Answer.{IsContextOf};
-ghost use Rattle.section_targets.specs.declared.manner.Manner.{Manner};
-ghost use Rattle.section_targets.specs.Manners.{AreFirsts};
-ghost use Rattle.truth_tables.specs.OutputHeaders.{output_header};
-ghost use Rattle.truth_tables.specs.TableUnits.{assigned_by, some_aims};
-ghost use Rattle.truth_tables.specs.Headers.{IsWholeHeader};
+ghost use Rattle.truth_tables.specs.Prelude.{view, Context, IsContextOf, Manner, AreFirsts};
+ghost use Rattle.truth_tables.specs.{output_header, assigned_by, some_aims, IsWholeHeader};
 
 use crate::headings::push_outputs;
 use abel_tree::{Table, earlier};

@@ -1,16 +1,9 @@
 //! The rows of a table, and the levels of their entries.
 
 ghost use Rattle.std.specs.Prelude.{◌≡◌, Some, IfOk};
-ghost use Rattle.abel_tree.specs.View.{view, view_row};
-ghost use Rattle.abel_meaning.specs.Designs.{Context};
+ghost use Rattle.truth_tables.specs.Prelude.{view, view_row, Context, term_of, first_refusal, section_order};
 ghost use Rattle.abel_meaning.specs.Rows as meant;
-ghost use Rattle.abel_meaning.specs.Terms.{term_of};
-ghost use Rattle.truth_tables.specs.EntryMarks.{view_mark};
-ghost use Rattle.truth_tables.specs.EntryTerms.{IsOver};
-ghost use Rattle.truth_tables.specs.RowLevels.{IsLevels, levels_of, IsRow};
-ghost use Rattle.abel_tree.specs.FirstRefusal.{first_refusal};
-ghost use Rattle.set_expr.specs.SectionOrder.{section_order};
-ghost use Rattle.truth_tables.specs.TableUnits.{arrow_refused};
+ghost use Rattle.truth_tables.specs.{view_mark, IsOver, IsLevels, levels_of, IsRow, arrow_refused};
 
 use crate::entries::{Entry, read_entry};
 use crate::mark::Mark;

@@ -1,13 +1,8 @@
 //! Entries of rows under their headers: parts of both, met one by one from the last on.
 
 ghost use Rattle.std.specs.Prelude.{IfOk};
-ghost use Rattle.abel_meaning.specs.Designs.{Context};
-ghost use Rattle.abel_meaning.specs.Terms.{Term, term_of};
-ghost use Rattle.truth_tables.specs.EntryTerms.{IsOver};
-ghost use Rattle.truth_tables.specs.PairTerms.{ArePaired, IsMet};
-ghost use Rattle.truth_tables.specs.PartTerms.{IsPart};
-ghost use Rattle.abel_tree.specs.View.{view};
-ghost use Rattle.truth_tables.specs.EntryMarks.{IsRead};
+ghost use Rattle.truth_tables.specs.Prelude.{Context, Term, term_of, view};
+ghost use Rattle.truth_tables.specs.{IsOver, ArePaired, IsMet, IsPart, IsRead};
 
 use crate::inside::refuse_inside;
 use crate::mark::Mark;

@@ -1,12 +1,8 @@
 //! What outputs are given, position by position.
 
 ghost use Rattle.std.specs.Prelude.{◌<◌, [], ◌∷◌, length};
-ghost use Rattle.bit_expr.specs.Arena.{arena};
-ghost use Rattle.abel_tree.specs.Entries.{entries_of};
-ghost use Rattle.set_expr.specs.Answer.{Keeps};
-ghost use Rattle.section_targets.specs.Given.{AreNamed};
-ghost use Rattle.truth_tables.specs.TableUnits.{some_aims};
-ghost use Rattle.truth_tables.specs.Gives.{GivesOutput, GivesPosition, GivesPositions, GivesNoMatches};
+ghost use Rattle.truth_tables.specs.Prelude.{arena, entries_of, Keeps, AreNamed};
+ghost use Rattle.truth_tables.specs.{some_aims, GivesOutput, GivesPosition, GivesPositions, GivesNoMatches};
 
 use bit_expr::{ExprId, Exprs};
 use pld_base::Place;

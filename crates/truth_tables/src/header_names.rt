@@ -1,11 +1,8 @@
 //! The outputs that names in headers stand for.
 
 ghost use Rattle.std.specs.Prelude.{◌≡◌, IfOk};
-ghost use Rattle.std.specs.Option.{option_map};
-ghost use Rattle.abel_meaning.specs.Designs.{Context};
-ghost use Rattle.truth_tables.specs.EntryTerms.{IsOver};
-ghost use Rattle.truth_tables.specs.OutputHeaders.{header_name, outputs_at};
-ghost use Rattle.truth_tables.specs.Headers.{IsAdded};
+ghost use Rattle.truth_tables.specs.Prelude.{option_map, Context};
+ghost use Rattle.truth_tables.specs.{IsOver, header_name, outputs_at, IsAdded};
 
 use crate::part::named_part;
 use crate::signals::part_signals;

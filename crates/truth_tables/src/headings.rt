@@ -1,12 +1,8 @@
 //! The walk of an output header: its outputs position by position from the left, None at X, and its first refusal.
 
 ghost use Rattle.std.specs.Prelude.{IfOk, map};
-ghost use Rattle.abel_tree.specs.Tree.{members_of};
-ghost use Rattle.abel_tree.specs.View.{view, view_member};
-ghost use Rattle.abel_meaning.specs.Designs.{Context};
-ghost use Rattle.truth_tables.specs.EntryTerms.{IsOver};
-ghost use Rattle.truth_tables.specs.OutputHeaders.{header_set, header_special, output_header, output_member, output_members};
-ghost use Rattle.truth_tables.specs.Headers.{IsAdded};
+ghost use Rattle.truth_tables.specs.Prelude.{members_of, view, view_member, Context};
+ghost use Rattle.truth_tables.specs.{IsOver, header_set, header_special, output_header, output_member, output_members, IsAdded};
 
 use crate::header_names::push_name;
 use abel_tree::{Expr, Member, earlier};

@@ -1,19 +1,8 @@
 //! The bits of an input header.
 
 ghost use Rattle.std.specs.Prelude.{◌≡◌, None, Some, List, [], ◌∷◌, map, IfOk};
-ghost use Rattle.bit_expr.specs.declared.node.Node.{Node};
-ghost use Rattle.bit_expr.specs.Arena.{arena};
-ghost use Rattle.abel_tree.specs.View.{view};
-ghost use Rattle.abel_meaning.specs.CountedNodes.{term_nodes};
-ghost use Rattle.abel_meaning.specs.Designs.{Context};
-ghost use Rattle.abel_meaning.specs.Terms.{term_of};
-ghost use Rattle.set_expr.specs.Answer.{Keeps, refusal_of};
-ghost use Rattle.set_expr.specs.Contexts.{context_for};
-ghost use Rattle.truth_tables.specs.EntryTerms.{IsOver};
-ghost use Rattle.section_targets.specs.Building.{BuildsNodes};
-ghost use Rattle.section_targets.specs.Units.{part};
-ghost use Rattle.truth_tables.specs.PartTerms.{is_computed};
-ghost use Rattle.truth_tables.specs.Products.{StandForInputs, IsShapedTerm};
+ghost use Rattle.truth_tables.specs.Prelude.{Node, arena, view, term_nodes, Context, term_of, Keeps, refusal_of, context_for, BuildsNodes, part};
+ghost use Rattle.truth_tables.specs.{IsOver, is_computed, StandForInputs, IsShapedTerm};
 
 use crate::part::{Stand, stand_of};
 use abel_tree::Expr;

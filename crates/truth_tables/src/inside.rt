@@ -1,12 +1,8 @@
 //! What is refused inside an entry.
 
 ghost use Rattle.std.specs.Prelude.{◌≡◌, IfOk};
-ghost use Rattle.abel_tree.specs.Entries.{entries_of};
-ghost use Rattle.abel_tree.specs.FirstRefusal.{first_refusal};
-ghost use Rattle.abel_tree.specs.View.{view, view_member};
-ghost use Rattle.set_expr.specs.FoundNames.{name_found, names_found};
-ghost use Rattle.set_expr.specs.SectionOrder.{section_order};
-ghost use Rattle.truth_tables.specs.RowEntries.{operator_refused, refused_inside, member_refused_inside};
+ghost use Rattle.truth_tables.specs.Prelude.{entries_of, first_refusal, view, view_member, name_found, names_found, section_order};
+ghost use Rattle.truth_tables.specs.{operator_refused, refused_inside, member_refused_inside};
 
 use crate::pulses::holds_pulse;
 use abel_tree::{Expr, Member, earlier};

@@ -1,15 +1,9 @@
 //! What a part of a header or of an entry stands for, through the names of constants.
 
 ghost use Rattle.std.specs.Prelude.{IfOk};
-ghost use Rattle.abel_tree.specs.Entries.{view_meaning};
-ghost use Rattle.abel_tree.specs.View.{view};
-ghost use Rattle.abel_meaning.specs.Designs.{Context};
-ghost use Rattle.abel_meaning.specs.Terms.{term_of, term_named, term_meant, extended_if};
-ghost use Rattle.abel_meaning.specs.Values.{constant_of};
+ghost use Rattle.truth_tables.specs.Prelude.{view_meaning, view, Context, term_of, term_named, term_meant, extended_if, constant_of};
 ghost use Rattle.set_expr.specs.Shapes.{HasShape};
-ghost use Rattle.truth_tables.specs.EntryTerms.{IsOver};
-ghost use Rattle.truth_tables.specs.PartTerms.{IsPart, IsStand};
-ghost use Rattle.truth_tables.specs.StepsLeft.{IsOfKind, LeadsBack};
+ghost use Rattle.truth_tables.specs.{IsOver, IsPart, IsStand, IsOfKind, LeadsBack};
 
 use abel_tree::{Expr, Extension, Meaning, Member};
 use pld_base::OutOfMemory;

@@ -1,13 +1,9 @@
 //! The parts of the members of sets.
 
 ghost use Rattle.std.specs.Prelude.{map, IfOk};
-ghost use Rattle.abel_tree.specs.Tree.{members_of};
-ghost use Rattle.abel_tree.specs.View.{view_member};
-ghost use Rattle.abel_meaning.specs.Designs.{Context};
-ghost use Rattle.abel_meaning.specs.Terms.{NoTerm, terms_of, member_before};
+ghost use Rattle.truth_tables.specs.Prelude.{members_of, view_member, Context, NoTerm, terms_of, member_before};
 ghost use Rattle.expr_bits.specs.Members.{list_of, each_extended};
-ghost use Rattle.truth_tables.specs.EntryTerms.{IsOver};
-ghost use Rattle.truth_tables.specs.PartTerms.{AreParts};
+ghost use Rattle.truth_tables.specs.{IsOver, AreParts};
 
 use crate::part::{Part, named_part, part_of};
 use abel_tree::{Extension, Member};

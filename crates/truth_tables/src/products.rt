@@ -1,13 +1,8 @@
 //! The product of a row: the literals of its inputs.
 
 ghost use Rattle.std.specs.Prelude.{◌<◌, true, [], ◌∷◌, length, IfOk};
-ghost use Rattle.bit_expr.specs.Arena.{arena, formula_at};
-ghost use Rattle.bit_expr.specs.Formulas.{Const};
-ghost use Rattle.abel_meaning.specs.CountedBlocks.{row_literals};
-ghost use Rattle.set_expr.specs.Answer.{AreIn, bits_at, unknown_at};
-ghost use Rattle.section_targets.specs.Building.{BuildsNodes, IsBit};
-ghost use Rattle.section_targets.specs.Units.{part};
-ghost use Rattle.truth_tables.specs.Products.{position_literal};
+ghost use Rattle.truth_tables.specs.Prelude.{arena, formula_at, Const, row_literals, AreIn, bits_at, unknown_at, BuildsNodes, IsBit, part};
+ghost use Rattle.truth_tables.specs.{position_literal};
 
 use bit_expr::{ExprId, Exprs, Node};
 use pld_base::Place;

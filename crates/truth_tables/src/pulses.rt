@@ -1,12 +1,9 @@
 //! Whether `.C.` or `.Z.` stands in an expression.
 
 ghost use Rattle.std.specs.Prelude.{◌≡◌, IfOk};
-ghost use Rattle.std.specs.List.{list_any};
-ghost use Rattle.abel_tree.specs.Entries.{entries_of};
-ghost use Rattle.abel_tree.specs.View.{view, view_member};
+ghost use Rattle.truth_tables.specs.Prelude.{list_any, entries_of, view, view_member, names_found};
 ghost use Rattle.name_uses.specs.RangeParts.{name_items};
-ghost use Rattle.set_expr.specs.FoundNames.{names_found};
-ghost use Rattle.truth_tables.specs.RowEntries.{is_pulse_named, holds_pulse, member_holds_pulse};
+ghost use Rattle.truth_tables.specs.{is_pulse_named, holds_pulse, member_holds_pulse};
 
 use abel_tree::{Expr, Member};
 use name_uses::range_list;

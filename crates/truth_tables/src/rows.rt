@@ -1,12 +1,8 @@
 //! The rows of a table: each is checked, and made where nothing is refused so far.
 
 ghost use Rattle.std.specs.Prelude.{◌≡◌, true, None, Some, ℕ, [], ◌∷◌, length, IfOk, OnOk};
-ghost use Rattle.std.specs.Option.{is_some};
-ghost use Rattle.bit_expr.specs.Arena.{arena};
-ghost use Rattle.set_expr.specs.Answer.{AreIn, Keeps};
-ghost use Rattle.section_targets.specs.Building.{BuildsNodes};
-ghost use Rattle.section_targets.specs.Units.{part};
-ghost use Rattle.truth_tables.specs.RowWalks.{GivesRow, HasInputs, IsAccepted, WalksRow, nodes_left};
+ghost use Rattle.truth_tables.specs.Prelude.{is_some, arena, AreIn, Keeps, BuildsNodes, part};
+ghost use Rattle.truth_tables.specs.{GivesRow, HasInputs, IsAccepted, WalksRow, nodes_left};
 
 use crate::checked_rows::{RowFound, read_row};
 use crate::giving::{Assigning, Matching, give_positions};

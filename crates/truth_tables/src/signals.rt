@@ -1,13 +1,8 @@
 //! The signals that a header names.
 
 ghost use Rattle.std.specs.Prelude.{IfOk};
-ghost use Rattle.abel_tree.specs.View.{view};
-ghost use Rattle.abel_meaning.specs.Designs.{Context};
-ghost use Rattle.abel_meaning.specs.Terms.{Term, term_of};
-ghost use Rattle.truth_tables.specs.EntryTerms.{IsOver};
-ghost use Rattle.truth_tables.specs.HeaderSignals.{AreSignals};
-ghost use Rattle.truth_tables.specs.PartTerms.{HasTerm, IsPart};
-ghost use Rattle.truth_tables.specs.SignalTerms.{IsListed};
+ghost use Rattle.truth_tables.specs.Prelude.{view, Context, Term, term_of};
+ghost use Rattle.truth_tables.specs.{IsOver, AreSignals, HasTerm, IsPart, IsListed};
 
 use crate::part::{Part, part_of};
 use crate::parts::parts_of;

@@ -1,8 +1,7 @@
 //! The walk over truth tables.
 
 ghost use Rattle.std.specs.Prelude.{OnOk};
-ghost use Rattle.truth_tables.specs.RowWalks.{IsAccepted, WalksHeaded, WalksNoMatches};
-ghost use Rattle.truth_tables.specs.TableWalks.{WalksTable};
+ghost use Rattle.truth_tables.specs.{IsAccepted, WalksHeaded, WalksNoMatches, WalksTable};
 
 use crate::checked_headers::read_header;
 use crate::giving::{Assigning, give_no_matches};

@@ -1,16 +1,9 @@
 //! Entries that meet a part of a header as a whole.
 
 ghost use Rattle.std.specs.Prelude.{◌≡◌, ◌++◌, ℕ, false, map, replicate, IfOk, OnOk};
-ghost use Rattle.abel_tree.specs.View.{view};
-ghost use Rattle.abel_meaning.specs.Designs.{Context};
-ghost use Rattle.abel_meaning.specs.Numbers.{digits_low_first};
-ghost use Rattle.abel_meaning.specs.Rows.{part_marks, part_width};
+ghost use Rattle.truth_tables.specs.Prelude.{view, Context, digits_low_first, part_marks, part_width, Term, special_term, term_of};
 ghost use Rattle.abel_meaning.specs.Rows as meant;
-ghost use Rattle.abel_meaning.specs.Terms.{Term, special_term, term_of};
-ghost use Rattle.truth_tables.specs.EntryMarks.{view_mark};
-ghost use Rattle.truth_tables.specs.EntryTerms.{IsOver};
-ghost use Rattle.truth_tables.specs.PairTerms.{both_sets, IsPut};
-ghost use Rattle.truth_tables.specs.PartTerms.{IsPart};
+ghost use Rattle.truth_tables.specs.{view_mark, IsOver, both_sets, IsPut, IsPart};
 
 use crate::mark::Mark;
 use crate::part::{Pair, Part, shape_of};

@@ -1,18 +1,6 @@
 -- Outputs that are refused, and those that are checked against what was assigned before.
 use Rattle.std.proofs.Common.{◌≡◌, None, List, ◌++◌, map, refl, sym, ap, ap₂, ◌∙◌, subst, length, append-nil, false}
-use Rattle.abel_tree.specs.Entries.{entries_of}
-use Rattle.abel_tree.specs.FirstRefusal.{earlier}
-use Rattle.abel_tree.proofs.FirstRefusals.{first_append}
-use Rattle.abel_tree.specs.View.{view}
-use Rattle.abel_meaning.specs.Designs.{Context, context_of}
-use Rattle.set_expr.specs.FoundNames.{expression_found}
-use Rattle.set_expr.specs.KnownNames.{SumsUp}
-use Rattle.set_expr.specs.SectionOrder.{section_order}
-use Rattle.section_targets.specs.declared.aim.Aim.{Aim}
-use Rattle.section_targets.specs.Given.{AreNamed}
-use Rattle.section_targets.specs.Manners.{AreFirsts, aims_refused, manner_of}
-use Rattle.truth_tables.specs.OutputHeaders.{output_header}
-use Rattle.truth_tables.specs.TableUnits.{if_none, outputs_refused, some_aims, unless_refused}
+use Rattle.truth_tables.proofs.Common.{entries_of, earlier, first_append, view, Context, context_of, expression_found, SumsUp, section_order, Aim, AreNamed, AreFirsts, aims_refused, manner_of, output_header, if_none, outputs_refused, some_aims, unless_refused}
 use Rattle.truth_tables.proofs.HeaderLaws.{added_clear, added_outputs, first, refused_alone, refused_nothing}
 use Rattle.truth_tables.proofs.OutputPositions.{outputs_inside, header_signals}
 use Rattle.truth_tables.proofs.checked_headers.read_header.Goals as goal

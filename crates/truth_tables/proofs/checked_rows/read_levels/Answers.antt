@@ -1,18 +1,6 @@
 -- An entry that is refused, and one that isn't.
 use Rattle.std.proofs.Common.{◌≡◌, false, List, [], ◌∷◌, map, refl, ap, sym, ◌∙◌, subst}
-use Rattle.std.proofs.lemmas.Option.{none-some}
-use Rattle.abel_tree.specs.Tree.{Tree}
-use Rattle.abel_tree.specs.View.{view}
-use Rattle.abel_meaning.specs.Designs.{Context}
-use Rattle.abel_meaning.specs.Rows.{entry_levels, level_of_mark, marks_of}
-use Rattle.abel_meaning.specs.Terms.{Term, term_of}
-use Rattle.set_expr.specs.declared.fault.SectionFault.{SectionFault}
-use Rattle.set_expr.specs.FoundNames.{names_found}
-use Rattle.truth_tables.specs.declared.mark.Mark.{Mark}
-use Rattle.truth_tables.specs.EntryMarks.{IsRead, view_mark}
-use Rattle.truth_tables.specs.RowEntries.{entry_refused, holds_pulse}
-use Rattle.truth_tables.specs.RowLevels.{levels_of}
-use Rattle.truth_tables.specs.TableUnits.{level_refused}
+use Rattle.truth_tables.proofs.Common.{none-some, Tree, view, Context, entry_levels, level_of_mark, marks_of, Term, term_of, SectionFault, names_found, Mark, IsRead, view_mark, entry_refused, holds_pulse, levels_of, level_refused}
 use Rattle.truth_tables.proofs.HeaderLaws.{first}
 use Rattle.truth_tables.proofs.checked_rows.read_levels.Goals as goal
 

@@ -1,18 +1,7 @@
 -- A row by its arrow and both entries.
 use Rattle.std.proofs.Common.{◌≡◌, ◌++◌, Bool, true, false, not, None, refl, ap, ap₂, sym, ◌∙◌}
-use Rattle.std.proofs.Math.Bool.{beq}
-use Rattle.std.specs.Bool.{then_some}
-use Rattle.std.specs.Option.{is_some}
-use Rattle.abel_tree.specs.FirstRefusal.{earlier}
-use Rattle.abel_tree.proofs.FirstRefusals.{first_append}
-use Rattle.abel_tree.specs.View.{view}
-use Rattle.abel_meaning.specs.Terms.{term_of}
-use Rattle.set_expr.specs.declared.fault.SectionFault.{SectionFault}
-use Rattle.set_expr.specs.declared.fault.SectionFault.TheVariants.{BadRow}
+use Rattle.truth_tables.proofs.Common.{beq, then_some, is_some, earlier, first_append, view, term_of, SectionFault, BadRow, section_order, both_clear, arrow_refused, level_refused}
 use Rattle.truth_tables.proofs.HeaderLaws.{first}
-use Rattle.set_expr.specs.SectionOrder.{section_order}
-use Rattle.section_targets.proofs.WalksBehind.{both_clear}
-use Rattle.truth_tables.specs.TableUnits.{arrow_refused, level_refused}
 use Rattle.truth_tables.proofs.checked_rows.read_row.Goals as goal
 
 arrow_first : (a b : Bool) (r : SectionFault) → then_some (not (beq b a)) r ≡ first (arrow_refused r a b)

@@ -1,8 +1,6 @@
 -- One pair more.
 use Rattle.std.proofs.Common.{◌≡◌, ◌<◌, ◌≤◌, ◌+◌, ◌++◌, [], ◌∷◌, length, take, sym, ap, ap₂, ◌∙◌, arith, append_assoc}
-use Rattle.std.proofs.lemmas.List.{take_all, take_more, length-take-le}
-use Rattle.truth_tables.specs.declared.part.Pair.{Pair}
-use Rattle.truth_tables.specs.PairTerms.{paired}
+use Rattle.truth_tables.proofs.Common.{take_all, take_more, length-take-le, Pair, paired}
 use Rattle.truth_tables.proofs.PairLaws.{paired_more}
 use Rattle.truth_tables.proofs.entries.push_pairs.Goals as goal
 

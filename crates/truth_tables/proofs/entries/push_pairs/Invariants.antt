@@ -1,6 +1,6 @@
 -- So many pairs more.
 use Rattle.std.proofs.Common.{◌≡◌, ◌++◌, take}
-use Rattle.truth_tables.specs.PairTerms.{paired}
+use Rattle.truth_tables.proofs.Common.{paired}
 use Rattle.truth_tables.proofs.entries.push_pairs.Given as goal
 
 abbrev pub invariant-loop-index : goal.invariant-loop-index

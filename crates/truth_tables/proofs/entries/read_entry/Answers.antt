@@ -1,17 +1,6 @@
 -- Refused inside, no pair left, a pair that doesn't meet, and one that does.
 use Rattle.std.proofs.Common.{◌≡◌, Option, None, Some, [], ◌∷◌, ◌++◌, map, refl, sym, ap, ◌∙◌, subst₂, arith}
-use Rattle.std.proofs.lemmas.Grind.{common_steps}
-use Rattle.pld_device.specs.SampleTable.{sample}
-use Rattle.abel_tree.specs.View.{view}
-use Rattle.abel_meaning.specs.Terms.{Term, term_of}
-use Rattle.abel_meaning.proofs.RelationWords.{map_reverse}
-use Rattle.set_expr.specs.declared.fault.SectionFault.{SectionFault}
-use Rattle.set_expr.specs.Contexts.{context_for}
-use Rattle.truth_tables.specs.declared.part.Pair.{Pair}
-use Rattle.truth_tables.specs.EntryMarks.{view_mark}
-use Rattle.truth_tables.specs.PairTerms.{IsPair, meeting, seen}
-use Rattle.truth_tables.specs.PartCounts.{part_parts}
-use Rattle.truth_tables.specs.Stacks.{Walked}
+use Rattle.truth_tables.proofs.Common.{common_steps, sample, view, Term, term_of, map_reverse, SectionFault, context_for, Pair, view_mark, IsPair, meeting, seen, part_parts, Walked}
 use Rattle.truth_tables.proofs.PartSums.{part_counted}
 use Rattle.truth_tables.proofs.ReadLaws.{read_met, read_refused, read_unmet}
 use Rattle.truth_tables.proofs.RowsWalked.{is_over}

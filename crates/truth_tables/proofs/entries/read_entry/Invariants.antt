@@ -1,14 +1,5 @@
 -- The pairs on the stack have their marks before those that were put; each step leaves fewer parts of the header.
-use Rattle.std.specs.List.{sum_by}
-use Rattle.abel_tree.specs.Entries.{entries_of}
-use Rattle.abel_tree.specs.View.{view}
-use Rattle.abel_meaning.specs.Designs.{Context}
-use Rattle.abel_meaning.specs.Terms.{known_of, term_of}
-use Rattle.truth_tables.specs.declared.part.Pair.{Pair}
-use Rattle.truth_tables.specs.EntryTerms.{IsOver}
-use Rattle.truth_tables.specs.PairTerms.{IsPair, meeting, seen}
-use Rattle.truth_tables.specs.PartCounts.{part_parts}
-use Rattle.truth_tables.specs.Stacks.{Walked}
+use Rattle.truth_tables.proofs.Common.{sum_by, entries_of, view, Context, known_of, term_of, Pair, IsOver, IsPair, meeting, seen, part_parts, Walked}
 use Rattle.truth_tables.proofs.entries.read_entry.Given as goal
 
 abbrev pub invariant-loop-pair : goal.invariant-loop-pair

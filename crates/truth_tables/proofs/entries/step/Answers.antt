@@ -1,11 +1,6 @@
 -- A set beside a set, and what is met as a whole.
 use Rattle.std.proofs.Common.{map, subst, subst₂}
-use Rattle.std.proofs.lemmas.Result.{IfOk-weaker}
-use Rattle.abel_tree.specs.Tree.{members_of}
-use Rattle.abel_tree.specs.View.{view_member}
-use Rattle.abel_meaning.specs.Terms.{terms_of}
-use Rattle.truth_tables.specs.PairTerms.{ArePaired}
-use Rattle.truth_tables.specs.PartTerms.{IsPart}
+use Rattle.truth_tables.proofs.Common.{IfOk-weaker, members_of, view_member, terms_of, ArePaired, IsPart}
 use Rattle.truth_tables.proofs.PairLaws.{given_not, header_not, sets_met, step_whole}
 use Rattle.truth_tables.proofs.entries.step.Goals as goal
 

@@ -1,11 +1,6 @@
 -- One output more, and all outputs.
 use Rattle.std.proofs.Common.{Ok, Err, refl, arith}
-use Rattle.std.proofs.lemmas.Result.{err_from_is_err_and}
-use Rattle.bit_expr.specs.Arena.{arena}
-use Rattle.section_targets.proofs.Built.{keeps_on}
-use Rattle.section_targets.proofs.MetWords.{low_bit}
-use Rattle.equations.proofs.BuiltUnits.{at}
-use Rattle.set_expr.specs.Given.{view_guard}
+use Rattle.truth_tables.proofs.Common.{err_from_is_err_and, arena, keeps_on, low_bit, at, view_guard}
 use Rattle.truth_tables.proofs.GivenLaws.{named_at, no_left, no_step_at}
 use Rattle.truth_tables.proofs.WorkLaws.{left_done}
 use Rattle.truth_tables.proofs.giving.give_no_matches.Goals as goal

@@ -1,10 +1,6 @@
 -- So many outputs have no match.
 use Rattle.std.proofs.Common.{◌≡◌, drop}
-use Rattle.bit_expr.specs.Arena.{arena}
-use Rattle.abel_tree.specs.Entries.{entries_of}
-use Rattle.abel_meaning.specs.Designs.{Context}
-use Rattle.set_expr.specs.Answer.{Keeps}
-use Rattle.set_expr.specs.Given.{view_guard}
+use Rattle.truth_tables.proofs.Common.{arena, entries_of, Context, Keeps, view_guard}
 use Rattle.truth_tables.proofs.WorkLaws.{IsLeft}
 use Rattle.truth_tables.proofs.GivenLaws.{no_work}
 use Rattle.truth_tables.proofs.giving.give_no_matches.Given as goal

@@ -1,6 +1,6 @@
 -- One output, under the guard that always holds.
 use Rattle.std.proofs.Common.{refl}
-use Rattle.section_targets.proofs.MetWords.{high_bit}
+use Rattle.truth_tables.proofs.Common.{high_bit}
 use Rattle.truth_tables.proofs.GivenLaws.{output_given}
 use Rattle.truth_tables.proofs.giving.give_output.Goals as goal
 

@@ -1,23 +1,6 @@
 -- What a level gives, and a match behind it.
 use Rattle.std.proofs.Common.{◌≡◌, ◌<◌, Bool, Option, Some, List, [], ◌∷◌, Err, length, sym, ap, ap₂, ◌∙◌, subst, subst₂}
-use Rattle.std.specs.Global.{Vec}
-use Rattle.std.proofs.lemmas.Result.{err_from_is_err_and}
-use Rattle.bit_expr.specs.declared.node.ExprId.{ExprId}
-use Rattle.bit_expr.specs.declared.node.Node.{Node}
-use Rattle.bit_expr.specs.Arena.{arena}
-use Rattle.abel_tree.specs.Entries.{entries_of}
-use Rattle.abel_meaning.specs.Designs.{Context}
-use Rattle.abel_meaning.specs.Tables.{level_gives}
-use Rattle.set_expr.specs.declared.contributions.Contribution.{Contribution}
-use Rattle.set_expr.specs.declared.contributions.Contributions.{Contributions}
-use Rattle.set_expr.specs.declared.contributions.Guard.{Guard}
-use Rattle.section_targets.specs.declared.aim.Aim.{Aim}
-use Rattle.section_targets.specs.Building.{IsBuilt, StopsWith}
-use Rattle.section_targets.specs.Given.{AreNamed}
-use Rattle.section_targets.proofs.Built.{builds_none, kept_formula, kept_inside}
-use Rattle.equations.proofs.BuiltUnits.{at}
-use Rattle.truth_tables.specs.Gives.{GivesPosition, matched_guard, value_places}
-use Rattle.truth_tables.specs.TableUnits.{some_aims}
+use Rattle.truth_tables.proofs.Common.{Vec, err_from_is_err_and, ExprId, Node, arena, entries_of, Context, level_gives, Contribution, Contributions, Guard, Aim, IsBuilt, StopsWith, AreNamed, builds_none, kept_formula, kept_inside, at, GivesPosition, matched_guard, value_places, some_aims}
 use Rattle.truth_tables.proofs.GivenLaws.{level_given, level_stops, named_one}
 use Rattle.truth_tables.proofs.giving.give_position.Goals.{in-None-level+in_ok-give_output-in-None-level, in-Some-true+in_ok-give_output-in-Some-true, in-Some-false}
 use Rattle.truth_tables.proofs.giving.give_position.Goals as goal

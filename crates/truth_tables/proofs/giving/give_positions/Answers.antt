@@ -1,10 +1,6 @@
 -- One position more, and all positions.
 use Rattle.std.proofs.Common.{◌<◌, ◌≤◌, Ok, Err, min, length, arith}
-use Rattle.std.proofs.lemmas.Result.{err_from_is_err_and}
-use Rattle.bit_expr.specs.Arena.{arena}
-use Rattle.section_targets.proofs.Built.{kept_formula, kept_inside, keeps_on}
-use Rattle.equations.proofs.BuiltUnits.{at}
-use Rattle.truth_tables.specs.Gives.{matched_guard}
+use Rattle.truth_tables.proofs.Common.{err_from_is_err_and, arena, kept_formula, kept_inside, keeps_on, at, matched_guard}
 use Rattle.truth_tables.proofs.GivenLaws.{named_at, positions_left, positions_step_at}
 use Rattle.truth_tables.proofs.WorkLaws.{left_done}
 use Rattle.truth_tables.proofs.giving.give_positions.Goals as goal

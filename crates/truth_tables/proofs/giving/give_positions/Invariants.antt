@@ -1,10 +1,6 @@
 -- So many positions are given.
 use Rattle.std.proofs.Common.{◌≡◌, drop}
-use Rattle.bit_expr.specs.Arena.{arena}
-use Rattle.abel_tree.specs.Entries.{entries_of}
-use Rattle.abel_meaning.specs.Designs.{Context}
-use Rattle.set_expr.specs.Answer.{Keeps}
-use Rattle.truth_tables.specs.Gives.{matched_guard}
+use Rattle.truth_tables.proofs.Common.{arena, entries_of, Context, Keeps, matched_guard}
 use Rattle.truth_tables.proofs.WorkLaws.{IsLeft}
 use Rattle.truth_tables.proofs.GivenLaws.{positions_work}
 use Rattle.truth_tables.proofs.giving.give_positions.Given as goal

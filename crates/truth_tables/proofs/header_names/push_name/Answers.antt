@@ -1,24 +1,7 @@
 -- A name that is refused, one that stands for something else, and one that stands for signals and X.
 use Rattle.std.proofs.Common.{◌≡◌, ℕ, ◌++◌, Option, None, Some, List, [], refl, ap, sym, ◌∙◌, subst}
-use Rattle.abel_tree.specs.Entries.{find}
-use Rattle.abel_tree.proofs.FirstRefusals.{none_refused}
-use Rattle.abel_meaning.specs.Designs.{Context}
-use Rattle.abel_meaning.specs.Terms.{term_named}
-use Rattle.pld_base.specs.declared.place.Place.{Place}
+use Rattle.truth_tables.proofs.Common.{find, none_refused, Context, term_named, Place, SectionFault, NotAnOutput, found_use, name_found, names_found, SumsUp, section_order, Names, entries_of, Aim, IsOver, AreSignals, header_name, named_outputs, outputs_at, refused_header, IsAdded, found_in}
 use Rattle.set_expr.specs.declared.checked.Checked.{Checked}
-use Rattle.set_expr.specs.declared.fault.SectionFault.{SectionFault}
-use Rattle.set_expr.specs.declared.fault.SectionFault.TheVariants.{NotAnOutput}
-use Rattle.set_expr.specs.FoundNames.{found_use, name_found, names_found}
-use Rattle.set_expr.specs.KnownNames.{SumsUp}
-use Rattle.set_expr.specs.SectionOrder.{section_order}
-use Rattle.abel_tree.specs.declared.names.Names.{Names}
-use Rattle.abel_tree.specs.Entries.{entries_of}
-use Rattle.section_targets.specs.declared.aim.Aim.{Aim}
-use Rattle.truth_tables.specs.EntryTerms.{IsOver}
-use Rattle.truth_tables.specs.HeaderSignals.{AreSignals}
-use Rattle.truth_tables.specs.OutputHeaders.{header_name, named_outputs, outputs_at, refused_header}
-use Rattle.truth_tables.specs.Headers.{IsAdded}
-use Rattle.section_targets.proofs.OverNames.{found_in}
 use Rattle.truth_tables.proofs.HeaderLaws.{added_none, named_listed, named_other, named_refused}
 use Rattle.truth_tables.proofs.header_names.push_name.Goals as goal
 

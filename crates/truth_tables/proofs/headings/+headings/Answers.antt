@@ -1,22 +1,7 @@
 -- What each variant is refused as, and one member or name more.
 use Rattle.std.proofs.Common.{◌≡◌, ◌+◌, ◌-◌, ◌++◌, Some, [], ◌∷◌, length, refl, ap, ap₂, sym, ◌∙◌, subst, take, map, arith}
-use Rattle.std.proofs.lemmas.List.{length-append}
-use Rattle.std.proofs.lemmas.Result.{IfOk-weaker}
-use Rattle.pld_device.specs.SampleTable.{sample}
-use Rattle.abel_tree.specs.Tree.{AName, ASet, members_of}
-use Rattle.abel_tree.specs.View.{view, view_member}
-use Rattle.set_expr.specs.declared.fault.SectionFault.TheVariants.{NotAnOutput}
-use Rattle.set_expr.specs.Answer.{first_place}
-use Rattle.set_expr.specs.Contexts.{context_for}
-use Rattle.set_expr.proofs.FoundMembers.{front_more, whole_front}
-use Rattle.abel_tree.specs.Entries.{find}
-use Rattle.abel_tree.specs.Ranges.{range_names}
-use Rattle.name_uses.specs.RangeParts.{name_items}
-use Rattle.section_targets.proofs.OverNames.{found_in}
+use Rattle.truth_tables.proofs.Common.{length-append, IfOk-weaker, sample, AName, ASet, members_of, view, view_member, NotAnOutput, first_place, context_for, front_more, whole_front, find, range_names, name_items, found_in, view_name, view_number, view_set, view_span, view_unary, view_binary, header_of, header_name, header_range, header_set, output_header, output_member, output_members, IsAdded}
 use Rattle.section_targets.specs.TargetSignals.{first_name}
-use Rattle.expr_bits.proofs.Views.{view_name, view_number, view_set, view_span, view_unary, view_binary}
-use Rattle.truth_tables.specs.OutputHeaders.{header_of, header_name, header_range, header_set, output_header, output_member, output_members}
-use Rattle.truth_tables.specs.Headers.{IsAdded}
 use Rattle.truth_tables.proofs.HeaderLaws.{added_more, added_none, added_refused, added_whole, members_more, range_more}
 use Rattle.truth_tables.proofs.RowsWalked.{is_over}
 use Rattle.truth_tables.proofs.headings.+headings.Goals as goal

@@ -1,12 +1,6 @@
 -- So many members or names are added.
 use Rattle.std.proofs.Common.{take, map}
-use Rattle.abel_tree.specs.Tree.{members_of}
-use Rattle.abel_tree.specs.View.{view_member}
-use Rattle.abel_meaning.specs.Designs.{Context}
-use Rattle.name_uses.specs.RangeParts.{name_items}
-use Rattle.truth_tables.specs.EntryTerms.{IsOver}
-use Rattle.truth_tables.specs.OutputHeaders.{header_range, output_members}
-use Rattle.truth_tables.specs.Headers.{IsAdded}
+use Rattle.truth_tables.proofs.Common.{members_of, view_member, Context, name_items, IsOver, header_range, output_members, IsAdded}
 use Rattle.truth_tables.proofs.headings.+headings.Given as goal
 
 abbrev pub invariant-push_set-loop-member : goal.invariant-push_set-loop-member

@@ -1,9 +1,6 @@
 -- A constant's name, and what is no operator behind a name.
 use Rattle.std.proofs.Common.{None, sym, ap, ◌∙◌, subst}
-use Rattle.abel_tree.specs.View.{view}
-use Rattle.abel_meaning.specs.Terms.{term_named, term_of}
-use Rattle.expr_bits.proofs.Views.{view_name}
-use Rattle.truth_tables.specs.PartTerms.{IsStand, is_computed}
+use Rattle.truth_tables.proofs.Common.{view, term_named, term_of, view_name, IsStand, is_computed}
 use Rattle.truth_tables.proofs.InputLaws.{computed_extended}
 use Rattle.truth_tables.proofs.inputs.has_operator.Goals as goal
 

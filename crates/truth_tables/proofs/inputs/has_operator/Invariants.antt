@@ -1,12 +1,6 @@
 -- What was begun with is an operator where what is looked at is one.
 use Rattle.std.proofs.Common.{◌≡◌}
-use Rattle.abel_tree.specs.Entries.{entries_of}
-use Rattle.abel_tree.specs.View.{view}
-use Rattle.abel_meaning.specs.Designs.{Context}
-use Rattle.abel_meaning.specs.Terms.{term_of}
-use Rattle.truth_tables.specs.EntryTerms.{IsOver}
-use Rattle.truth_tables.specs.PartTerms.{is_computed}
-use Rattle.truth_tables.specs.StepsLeft.{steps_left}
+use Rattle.truth_tables.proofs.Common.{entries_of, view, Context, term_of, IsOver, is_computed, steps_left}
 use Rattle.truth_tables.proofs.inputs.has_operator.Given as goal
 
 abbrev pub invariant-loop-at : goal.invariant-loop-at

@@ -1,8 +1,6 @@
 -- The bits of the header in the other order.
 use Rattle.std.proofs.Common.{sym, subst}
-use Rattle.abel_tree.specs.declared.names.Names.{Names}
-use Rattle.set_expr.specs.Contexts.{context_for}
-use Rattle.truth_tables.specs.EntryTerms.{IsOver}
+use Rattle.truth_tables.proofs.Common.{Names, context_for, IsOver}
 use Rattle.truth_tables.proofs.RowsWalked.{is_over}
 use Rattle.truth_tables.proofs.inputs.header_bits.Goals as goal
 

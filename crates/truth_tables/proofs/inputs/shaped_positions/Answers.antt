@@ -1,14 +1,6 @@
 -- A number that an operator makes, any other, and what has positions.
 use Rattle.std.proofs.Common.{◌≡◌, true, false, List, Option, Some, map, reverse, sym, ap, ◌∙◌, subst}
-use Rattle.bit_expr.specs.declared.node.ExprId.{ExprId}
-use Rattle.bit_expr.specs.Arena.{arena}
-use Rattle.abel_tree.specs.View.{view}
-use Rattle.abel_meaning.specs.FormulaBits.{bits_of}
-use Rattle.abel_meaning.specs.Terms.{term_of}
-use Rattle.abel_meaning.specs.Values.{constant_of}
-use Rattle.set_expr.specs.Shapes.{HasShape}
-use Rattle.truth_tables.specs.PartTerms.{is_computed}
-use Rattle.truth_tables.specs.Products.{StandForInputs}
+use Rattle.truth_tables.proofs.Common.{ExprId, arena, view, bits_of, term_of, constant_of, HasShape, is_computed, StandForInputs}
 use Rattle.truth_tables.proofs.InputLaws.{stand_all, stand_none, stand_places}
 use Rattle.truth_tables.proofs.inputs.shaped_positions.Goals as goal
 

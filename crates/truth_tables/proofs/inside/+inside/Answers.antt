@@ -1,17 +1,6 @@
 -- One member or name more, and all of them.
 use Rattle.std.proofs.Common.{◌≡◌, ◌+◌, [], ◌∷◌, ◌++◌, map, take, sym, ap, ap₂, ◌∙◌}
-use Rattle.abel_tree.specs.Entries.{entries_of}
-use Rattle.abel_tree.specs.FirstRefusal.{earlier, first_refusal}
-use Rattle.abel_tree.proofs.FirstRefusals.{first_append}
-use Rattle.abel_tree.specs.Ranges.{range_names}
-use Rattle.abel_tree.specs.Tree.{members_of}
-use Rattle.abel_tree.specs.View.{view, view_member}
-use Rattle.set_expr.specs.FoundNames.{name_found, names_found}
-use Rattle.name_uses.specs.RangeParts.{name_items}
-use Rattle.set_expr.specs.SectionOrder.{section_order}
-use Rattle.set_expr.proofs.FoundMembers.{front_more, whole_front}
-use Rattle.truth_tables.specs.RowEntries.{refused_inside, all_refused_inside, member_refused_inside, names_refused}
-use Rattle.expr_bits.proofs.Views.{view_span}
+use Rattle.truth_tables.proofs.Common.{entries_of, earlier, first_refusal, first_append, range_names, members_of, view, view_member, name_found, names_found, name_items, section_order, front_more, whole_front, refused_inside, all_refused_inside, member_refused_inside, names_refused, view_span}
 use Rattle.truth_tables.proofs.EntryParts.{inside_more, inside_set, names_more}
 use Rattle.truth_tables.proofs.inside.+inside.Goals as goal
 

@@ -1,18 +1,10 @@
 -- Names, sets, specials and operators, under the extension that counts.
 use Rattle.std.proofs.Common.{◌≡◌, ℕ, Option, List, map, sym, ap, ap₂, ◌∙◌, subst}
-use Rattle.abel_tree.specs.declared.expressions.Expr.{Expr}
+use Rattle.truth_tables.proofs.Common.{Expr, Member, Extension, members_of, view, view_member, Known, Term, Set, term_of, terms_of, term_named, extended_if, IsPart, is_operand, view_name, view_set, view_special, view_unary, view_binary, innermost_wins}
 use Rattle.abel_tree.specs.declared.expressions.Expr as expr
-use Rattle.abel_tree.specs.declared.expressions.Member.{Member}
-use Rattle.abel_tree.specs.declared.words.Extension.{Extension}
 use Rattle.abel_tree.specs.declared.words.Word.{Word}
 use Rattle.abel_tree.specs.Extensions.{innermost}
-use Rattle.abel_tree.specs.Tree.{members_of}
-use Rattle.abel_tree.specs.View.{view, view_member}
-use Rattle.abel_meaning.specs.Terms.{Known, Term, Set, term_of, terms_of, term_named, extended_if}
-use Rattle.truth_tables.specs.PartTerms.{IsPart, is_operand}
-use Rattle.expr_bits.proofs.Views.{view_name, view_set, view_special, view_unary, view_binary}
 use Rattle.expr_bits.proofs.Coming.{special_extended}
-use Rattle.expr_bits.proofs.Extensions.{innermost_wins}
 use Rattle.truth_tables.proofs.part.part_of.Goals as goal
 
 named : (ks : List Known) (x : Expr) (word : Word) (own before now : Option Extension) (text : List ℕ) → x ≡ expr.Name word own → now ≡ innermost own before → text ≡ word.text → extended_if before (term_of ks (view x)) ≡ extended_if now (term_named ks text)

@@ -1,11 +1,6 @@
 -- What was begun with is what is looked at, under the extension that counts now.
 use Rattle.std.proofs.Common.{◌≡◌}
-use Rattle.abel_tree.specs.Entries.{entries_of}
-use Rattle.abel_tree.specs.View.{view}
-use Rattle.abel_meaning.specs.Designs.{Context}
-use Rattle.abel_meaning.specs.Terms.{term_of, extended_if}
-use Rattle.truth_tables.specs.EntryTerms.{IsOver}
-use Rattle.truth_tables.specs.StepsLeft.{steps_left}
+use Rattle.truth_tables.proofs.Common.{entries_of, view, Context, term_of, extended_if, IsOver, steps_left}
 use Rattle.truth_tables.proofs.part.part_of.Given as goal
 
 abbrev pub invariant-loop-at : goal.invariant-loop-at

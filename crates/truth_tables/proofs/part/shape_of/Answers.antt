@@ -1,10 +1,5 @@
 use Rattle.std.proofs.Common.{sym, ◌∙◌, subst}
-use Rattle.abel_tree.specs.Entries.{entries_of}
-use Rattle.abel_tree.specs.View.{view}
-use Rattle.abel_tree.proofs.FirstRefusals.{none_refused}
-use Rattle.set_expr.specs.FoundNames.{expression_found}
-use Rattle.set_expr.specs.KnownNames.{HasShapeIf}
-use Rattle.set_expr.specs.SectionOrder.{section_order}
+use Rattle.truth_tables.proofs.Common.{entries_of, view, none_refused, expression_found, HasShapeIf, section_order}
 use Rattle.truth_tables.proofs.PartLaws.{over_shape}
 use Rattle.truth_tables.proofs.part.shape_of.Goals as goal
 

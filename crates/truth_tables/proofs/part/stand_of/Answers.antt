@@ -1,8 +1,6 @@
 -- What is no name, and a name by its number.
 use Rattle.std.proofs.Common.{◌≡◌, get_or, refl, sym, ap, ◌∙◌, subst}
-use Rattle.abel_tree.specs.Entries.{entries_of, view_declared}
-use Rattle.abel_meaning.specs.Terms.{Number, known_of, term_named, term_meant, extended_if}
-use Rattle.truth_tables.specs.PartTerms.{IsStand, IsNumeral, is_computed}
+use Rattle.truth_tables.proofs.Common.{entries_of, view_declared, Number, known_of, term_named, term_meant, extended_if, IsStand, IsNumeral, is_computed}
 use Rattle.truth_tables.proofs.PartLaws.{number_extended, entry_at}
 use Rattle.truth_tables.proofs.NamesInOrder.{stand_back, named_meant, unnamed}
 use Rattle.truth_tables.proofs.part.stand_of.Goals as goal

@@ -1,14 +1,6 @@
 -- An expression, one name more, and all names.
 use Rattle.std.proofs.Common.{◌≡◌, ◌+◌, ◌++◌, [], ◌∷◌, map, take, sym, ap, ap₂, ◌∙◌, subst, subst₂}
-use Rattle.abel_tree.specs.Ranges.{range_names}
-use Rattle.abel_tree.specs.View.{view_member}
-use Rattle.abel_meaning.specs.Terms.{NoTerm, extended_if, member_before, named_before, term_named}
-use Rattle.name_uses.specs.RangeParts.{name_items}
-use Rattle.set_expr.proofs.FoundMembers.{front_more, whole_front}
-use Rattle.expr_bits.specs.Members.{list_of, each_extended}
-use Rattle.truth_tables.specs.PartTerms.{AreParts, IsPart}
-use Rattle.expr_bits.proofs.Views.{view_one, view_span}
-use Rattle.expr_bits.proofs.Extensions.{range_more, each_append}
+use Rattle.truth_tables.proofs.Common.{range_names, view_member, NoTerm, extended_if, member_before, named_before, term_named, name_items, front_more, whole_front, list_of, each_extended, AreParts, IsPart, view_one, view_span, range_more, each_append}
 use Rattle.truth_tables.proofs.StackLaws.{each_append as parts_append}
 use Rattle.truth_tables.proofs.parts.member_parts.Goals as goal
 

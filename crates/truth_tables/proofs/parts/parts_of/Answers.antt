@@ -1,12 +1,6 @@
 -- One member more, and all members.
 use Rattle.std.proofs.Common.{◌≡◌, ◌+◌, [], ◌∷◌, ◌++◌, map, take, sym, ap, ◌∙◌, subst, subst₂}
-use Rattle.abel_tree.specs.Tree.{members_of}
-use Rattle.abel_tree.specs.View.{view_member}
-use Rattle.abel_meaning.specs.Terms.{NoTerm, terms_of, member_before}
-use Rattle.set_expr.proofs.FoundMembers.{front_more, whole_front}
-use Rattle.expr_bits.specs.Members.{list_of, each_extended}
-use Rattle.truth_tables.specs.PartTerms.{IsPart, AreParts}
-use Rattle.expr_bits.proofs.Extensions.{members_more, each_append}
+use Rattle.truth_tables.proofs.Common.{members_of, view_member, NoTerm, terms_of, member_before, front_more, whole_front, list_of, each_extended, IsPart, AreParts, members_more, each_append}
 use Rattle.truth_tables.proofs.StackLaws.{each_append as parts_append}
 use Rattle.truth_tables.proofs.parts.parts_of.Goals as goal
 

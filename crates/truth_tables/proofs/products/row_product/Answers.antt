@@ -1,8 +1,6 @@
 -- One position more, and all positions.
 use Rattle.std.proofs.Common.{◌<◌, ◌≤◌, [], ◌∷◌, Ok, Err, get_or, min, length, None, refl, arith}
-use Rattle.std.proofs.lemmas.Result.{err_from_is_err_and}
-use Rattle.bit_expr.specs.Arena.{arena}
-use Rattle.equations.proofs.BuiltParts.{keeps_longer}
+use Rattle.truth_tables.proofs.Common.{err_from_is_err_and, arena, keeps_longer}
 use Rattle.truth_tables.proofs.ProductLaws.{in_at, in_longer, joined_at, joined_done, joined_start}
 use Rattle.truth_tables.proofs.products.row_product.Goals as goal
 

@@ -1,8 +1,6 @@
 -- The literals of so many positions are joined.
 use Rattle.std.proofs.Common.{true, drop}
-use Rattle.bit_expr.specs.Arena.{arena}
-use Rattle.bit_expr.specs.Formulas.{Const}
-use Rattle.truth_tables.specs.Products.{IsJoined, literals}
+use Rattle.truth_tables.proofs.Common.{arena, Const, IsJoined, literals}
 use Rattle.truth_tables.proofs.products.row_product.Given as goal
 
 abbrev pub invariant-loop-index : goal.invariant-loop-index

@@ -1,15 +1,7 @@
 -- A position or a level that is X, and a literal, plain or complemented.
 use Rattle.std.proofs.Common.{◌≡◌, ℕ, ◌<◌, Bool, [], ◌∷◌, Option, Some, List, Result, Ok, refl, sym, ap, ◌∙◌, subst, subst₂}
 use Rattle.std.specs.Prelude.{IfOk}
-use Rattle.pld_base.specs.declared.place.Place.{Place}
-use Rattle.bit_expr.specs.declared.node.ExprId.{ExprId}
-use Rattle.bit_expr.specs.declared.node.Node.{Node}
-use Rattle.bit_expr.specs.Arena.{arena, formula_at}
-use Rattle.set_expr.specs.declared.fault.SectionFault.{SectionFault}
-use Rattle.set_expr.specs.Answer.{AreIn}
-use Rattle.section_targets.specs.Building.{BuildsNodes, IsBit}
-use Rattle.section_targets.specs.Units.{part}
-use Rattle.truth_tables.specs.Products.{position_literal}
+use Rattle.truth_tables.proofs.Common.{Place, ExprId, Node, arena, formula_at, SectionFault, AreIn, BuildsNodes, IsBit, part, position_literal}
 use Rattle.truth_tables.proofs.ProductLaws.{free_nodes}
 use Rattle.truth_tables.proofs.products.with_position.Goals as goal
 

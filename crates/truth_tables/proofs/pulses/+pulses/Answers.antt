@@ -1,15 +1,6 @@
 -- The names of a range, one member more, and all members.
 use Rattle.std.proofs.Common.{◌≡◌, ◌+◌, ◌||◌, [], ◌∷◌, ◌++◌, map, take, sym, ap, ap₂, ◌∙◌}
-use Rattle.std.specs.List.{list_any}
-use Rattle.abel_tree.specs.Entries.{entries_of}
-use Rattle.abel_tree.specs.Ranges.{range_names}
-use Rattle.abel_tree.specs.Tree.{members_of}
-use Rattle.abel_tree.specs.View.{view, view_member}
-use Rattle.name_uses.specs.RangeParts.{name_items}
-use Rattle.set_expr.specs.FoundNames.{names_found}
-use Rattle.expr_bits.proofs.Views.{view_span}
-use Rattle.set_expr.proofs.FoundMembers.{front_more, whole_front}
-use Rattle.truth_tables.specs.RowEntries.{is_pulse_named, holds_pulse, any_holds_pulse, member_holds_pulse}
+use Rattle.truth_tables.proofs.Common.{list_any, entries_of, range_names, members_of, view, view_member, name_items, names_found, view_span, front_more, whole_front, is_pulse_named, holds_pulse, any_holds_pulse, member_holds_pulse}
 use Rattle.truth_tables.proofs.EntryParts.{any_named, holds_more, holds_set}
 use Rattle.truth_tables.proofs.pulses.+pulses.Goals as goal
 

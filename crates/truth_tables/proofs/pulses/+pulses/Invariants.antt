@@ -1,12 +1,6 @@
 -- What holds one of them on the way down, and among a set's members.
 use Rattle.std.proofs.Common.{◌≡◌, ◌||◌, ◌+◌, ◌*◌, ◌≤◌, map, take}
-use Rattle.abel_tree.specs.declared.expressions.Expr.{size-Expr}
-use Rattle.abel_tree.specs.declared.expressions.Member.{size-Member}
-use Rattle.abel_tree.specs.Entries.{entries_of}
-use Rattle.abel_tree.specs.Tree.{members_of}
-use Rattle.abel_tree.specs.View.{view, view_member}
-use Rattle.set_expr.specs.FoundNames.{names_found}
-use Rattle.truth_tables.specs.RowEntries.{holds_pulse, any_holds_pulse}
+use Rattle.truth_tables.proofs.Common.{size-Expr, size-Member, entries_of, members_of, view, view_member, names_found, holds_pulse, any_holds_pulse}
 use Rattle.truth_tables.proofs.pulses.+pulses.Given as goal
 
 abbrev pub decreases-holds_pulse : goal.decreases-holds_pulse

@@ -1,29 +1,7 @@
 -- The bits of the input header, the product behind them, and the outputs.
 use Rattle.std.proofs.Common.{[], ◌∷◌, List, Option, Bool, true, Result, Ok, Err, length, refl, sym, ap, subst, subst₂}
-use Rattle.std.specs.Global.{Vec}
-use Rattle.std.specs.Result.{OnOk}
-use Rattle.std.proofs.lemmas.Result.{err_from_is_err_and}
-use Rattle.bit_expr.specs.declared.node.ExprId.{ExprId}
-use Rattle.bit_expr.specs.Arena.{arena}
-use Rattle.bit_expr.specs.Formulas.{Const}
-use Rattle.abel_tree.specs.declared.names.Names.{Names}
-use Rattle.abel_tree.specs.Entries.{entries_of}
-use Rattle.set_expr.specs.declared.fault.SectionFault.{SectionFault}
-use Rattle.set_expr.specs.Answer.{AreIn}
-use Rattle.set_expr.specs.Given.{view_guard}
-use Rattle.section_targets.specs.Building.{BuildsNodes, IsBit}
-use Rattle.section_targets.specs.Given.{AreNamed}
-use Rattle.section_targets.specs.Units.{part}
-use Rattle.section_targets.proofs.Built.{keeps_on}
+use Rattle.truth_tables.proofs.Common.{Vec, OnOk, err_from_is_err_and, ExprId, arena, Const, Names, entries_of, SectionFault, AreIn, view_guard, BuildsNodes, IsBit, AreNamed, part, keeps_on, keeps_longer, stops_longer, at, Assigning, GivesPositions, header_literals, literals, behind, found_work, HasInputs, design_of, inputs_term, nodes_left, some_aims}
 use Rattle.section_targets.proofs.Gives.{stops_nodes}
-use Rattle.equations.proofs.BuiltParts.{keeps_longer, stops_longer}
-use Rattle.equations.proofs.BuiltUnits.{at}
-use Rattle.truth_tables.specs.declared.giving.Assigning.{Assigning}
-use Rattle.truth_tables.specs.Gives.{GivesPositions}
-use Rattle.truth_tables.specs.Products.{header_literals, literals}
-use Rattle.truth_tables.specs.Rows.{behind, found_work}
-use Rattle.truth_tables.specs.RowWalks.{HasInputs, design_of, inputs_term, nodes_left}
-use Rattle.truth_tables.specs.TableUnits.{some_aims}
 use Rattle.truth_tables.proofs.RowWorks.{found_built, inputs_kept, row_built}
 use Rattle.truth_tables.proofs.rows.give_row.Goals as goal
 

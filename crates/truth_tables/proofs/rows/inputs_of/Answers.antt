@@ -1,8 +1,6 @@
 -- Bits that were made before.
 use Rattle.std.proofs.Common.{[], ◌∷◌, Ok, sym, subst}
-use Rattle.section_targets.specs.Building.{BuildsNodes}
-use Rattle.section_targets.specs.Units.{part}
-use Rattle.truth_tables.specs.RowWalks.{HasInputs, nodes_left}
+use Rattle.truth_tables.proofs.Common.{BuildsNodes, part, HasInputs, nodes_left}
 use Rattle.truth_tables.proofs.ProductLaws.{free_nodes}
 use Rattle.truth_tables.proofs.rows.inputs_of.Goals as goal
 

@@ -1,14 +1,7 @@
 -- A row that is refused or stands behind what is, and one that is made.
 use Rattle.std.proofs.Common.{sym, ◌∙◌, subst}
-use Rattle.std.proofs.lemmas.Result.{on_ok_weaker}
-use Rattle.bit_expr.specs.Arena.{arena}
-use Rattle.abel_tree.specs.View.{view_row}
-use Rattle.set_expr.specs.Given.{view_guard}
+use Rattle.truth_tables.proofs.Common.{on_ok_weaker, arena, view_row, view_guard, standing, row_work, HasInputs, design_of, nodes_left, Work}
 use Rattle.section_targets.specs.declared.walked.Walked.{Walked}
-use Rattle.section_targets.specs.Walking.{standing}
-use Rattle.truth_tables.specs.Rows.{row_work}
-use Rattle.truth_tables.specs.RowWalks.{HasInputs, design_of, nodes_left}
-use Rattle.truth_tables.specs.Works.{Work}
 use Rattle.truth_tables.proofs.RowWorks.{found_row}
 use Rattle.truth_tables.proofs.RowsWalked.{after_exprs, after_made, not_clear, over_same, row_accepted, row_made, row_stands}
 use Rattle.truth_tables.proofs.WorkLaws.{DoesWork}

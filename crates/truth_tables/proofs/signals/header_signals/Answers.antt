@@ -1,6 +1,4 @@
-use Rattle.std.proofs.lemmas.Result.{IfOk-weaker}
-use Rattle.abel_tree.specs.View.{view}
-use Rattle.abel_meaning.specs.Terms.{term_of}
+use Rattle.truth_tables.proofs.Common.{IfOk-weaker, view, term_of}
 use Rattle.truth_tables.proofs.signals.header_signals.Goals as goal
 
 pub part_signals-requires : goal.part_signals-requires

@@ -1,12 +1,6 @@
 -- No part is left, a part that is something else, and one that isn't.
 use Rattle.std.proofs.Common.{◌≡◌, [], ◌∷◌, ◌++◌, reverse, sym, ap, ◌∙◌, subst₂, arith}
-use Rattle.std.proofs.lemmas.Grind.{common_steps}
-use Rattle.pld_device.specs.SampleTable.{sample}
-use Rattle.set_expr.specs.Contexts.{context_for}
-use Rattle.truth_tables.specs.PartCounts.{part_parts}
-use Rattle.truth_tables.specs.PartTerms.{IsPart}
-use Rattle.truth_tables.specs.SignalTerms.{listing}
-use Rattle.truth_tables.specs.Stacks.{Walked}
+use Rattle.truth_tables.proofs.Common.{common_steps, sample, context_for, part_parts, IsPart, listing, Walked}
 use Rattle.truth_tables.proofs.PartSums.{part_counted}
 use Rattle.truth_tables.proofs.RowsWalked.{is_over}
 use Rattle.truth_tables.proofs.StackLaws.{walk_begun, walk_done, walk_fewer, walk_on, walk_stops}

@@ -1,14 +1,6 @@
 -- The parts on the stack have their signals before those that were listed; each step leaves fewer parts.
 use Rattle.std.proofs.Common.{reverse}
-use Rattle.std.specs.List.{sum_by}
-use Rattle.abel_tree.specs.Entries.{entries_of}
-use Rattle.abel_meaning.specs.Designs.{Context}
-use Rattle.abel_meaning.specs.Terms.{Term, known_of}
-use Rattle.truth_tables.specs.EntryTerms.{IsOver}
-use Rattle.truth_tables.specs.PartCounts.{part_parts}
-use Rattle.truth_tables.specs.PartTerms.{IsPart}
-use Rattle.truth_tables.specs.SignalTerms.{listing}
-use Rattle.truth_tables.specs.Stacks.{Walked}
+use Rattle.truth_tables.proofs.Common.{sum_by, entries_of, Context, Term, known_of, IsOver, part_parts, IsPart, listing, Walked}
 use Rattle.truth_tables.proofs.signals.part_signals.Given as goal
 
 abbrev pub invariant-loop-top : goal.invariant-loop-top

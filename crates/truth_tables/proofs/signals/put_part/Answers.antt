@@ -1,11 +1,7 @@
 -- What a part is, one by one.
 use Rattle.std.proofs.Common.{◌++◌, sym, ap, ◌∙◌, subst, map}
-use Rattle.abel_tree.specs.Tree.{members_of}
-use Rattle.abel_tree.specs.View.{view_member}
-use Rattle.abel_meaning.specs.Terms.{special_term, terms_of}
+use Rattle.truth_tables.proofs.Common.{members_of, view_member, special_term, terms_of, names_positions, IsPart}
 use Rattle.abel_meaning.specs.Terms as term
-use Rattle.truth_tables.specs.HeaderSignals.{names_positions}
-use Rattle.truth_tables.specs.PartTerms.{IsPart}
 use Rattle.truth_tables.proofs.PartLaws.{operator_operand}
 use Rattle.truth_tables.proofs.RowsWalked.{no_fault}
 use Rattle.truth_tables.proofs.SignalLaws.{extended_unnamed, operand_unnamed, other_unnamed, put_read, put_set, put_unknown}

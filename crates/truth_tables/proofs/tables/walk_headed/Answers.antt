@@ -1,12 +1,6 @@
 -- No match for each output, one row more, and all rows.
 use Rattle.std.proofs.Common.{◌≡◌, ◌+◌, ◌++◌, [], ◌∷◌, map, take, refl, sym, ap, ◌∙◌, subst}
-use Rattle.bit_expr.specs.Arena.{arena}
-use Rattle.abel_tree.specs.View.{view_row}
-use Rattle.set_expr.specs.Given.{view_guard}
-use Rattle.set_expr.proofs.FoundMembers.{front_more, whole_front}
-use Rattle.truth_tables.specs.Rows.{nodes_behind, row_work, rows_work}
-use Rattle.truth_tables.specs.RowWalks.{WalksWork, design_of, headed_work, inputs_nodes, no_matches_work}
-use Rattle.truth_tables.specs.Works.{Work, before}
+use Rattle.truth_tables.proofs.Common.{arena, view_row, view_guard, front_more, whole_front, nodes_behind, row_work, rows_work, WalksWork, design_of, headed_work, inputs_nodes, no_matches_work, Work, before}
 use Rattle.truth_tables.proofs.RowWorks.{none_behind, rows_more}
 use Rattle.truth_tables.proofs.RowsWalked.{none_left, work_then}
 use Rattle.truth_tables.proofs.WorkLaws.{before_assoc, before_none}

@@ -1,8 +1,6 @@
 -- So many rows were walked, and the bits of the input header that they made are there.
 use Rattle.std.proofs.Common.{◌≡◌, None, map, take}
-use Rattle.abel_tree.specs.View.{view_row}
-use Rattle.truth_tables.specs.Rows.{nodes_behind}
-use Rattle.truth_tables.specs.RowWalks.{HasInputs, WalksWork, headed_work, inputs_nodes, nodes_left}
+use Rattle.truth_tables.proofs.Common.{view_row, nodes_behind, HasInputs, WalksWork, headed_work, inputs_nodes, nodes_left}
 use Rattle.truth_tables.proofs.tables.walk_headed.Given as goal
 
 abbrev pub invariant-loop-row : goal.invariant-loop-row

@@ -1,16 +1,6 @@
 -- Behind what is refused, and where nothing is.
 use Rattle.std.proofs.Common.{false, length, refl, sym, ap, ◌∙◌, subst}
-use Rattle.std.proofs.lemmas.Result.{on_ok_weaker}
-use Rattle.bit_expr.specs.Arena.{arena}
-use Rattle.abel_tree.specs.declared.names.Names.{Names}
-use Rattle.abel_tree.specs.Entries.{entries_of}
-use Rattle.abel_meaning.specs.FormulaBits.{formulas}
-use Rattle.abel_meaning.specs.Tables.{no_matches}
-use Rattle.set_expr.specs.Given.{view_guard}
-use Rattle.section_targets.specs.Given.{AreNamed}
-use Rattle.truth_tables.specs.Gives.{signals_of}
-use Rattle.truth_tables.specs.RowWalks.{design_of, no_matches_work}
-use Rattle.truth_tables.specs.TableUnits.{places_of, some_aims}
+use Rattle.truth_tables.proofs.Common.{on_ok_weaker, arena, Names, entries_of, formulas, no_matches, view_guard, AreNamed, signals_of, design_of, no_matches_work, places_of, some_aims}
 use Rattle.truth_tables.proofs.RowsWalked.{free_refused, no_fault, work_made}
 use Rattle.truth_tables.proofs.tables.walk_outputs.Goals as goal
 

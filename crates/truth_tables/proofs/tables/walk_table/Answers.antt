@@ -1,20 +1,7 @@
 -- A table whose header is refused, and one whose header isn't.
 use Rattle.std.proofs.Common.{◌++◌, map, refl, sym, ap, ◌∙◌, subst}
-use Rattle.std.specs.Option.{is_some}
-use Rattle.std.proofs.lemmas.Result.{on_ok_weaker}
-use Rattle.bit_expr.specs.Arena.{arena}
-use Rattle.abel_tree.specs.declared.names.Names.{Names}
-use Rattle.abel_tree.specs.View.{view, view_row}
-use Rattle.abel_meaning.specs.CountedBlocks.{table_units}
-use Rattle.abel_meaning.specs.Terms.{term_of}
+use Rattle.truth_tables.proofs.Common.{is_some, on_ok_weaker, arena, Names, view, view_row, table_units, term_of, context_for, AreFirsts, Walks, is_context, same_context, value_accepted, output_header, assigned_by, header_refused, row_units, WalksTable, given_by, places_by}
 use Rattle.section_targets.specs.declared.walked.Walked.{Walked}
-use Rattle.set_expr.specs.Contexts.{context_for}
-use Rattle.section_targets.specs.Manners.{AreFirsts}
-use Rattle.section_targets.specs.Walking.{Walks}
-use Rattle.equations.proofs.BuiltParts.{is_context, same_context, value_accepted}
-use Rattle.truth_tables.specs.OutputHeaders.{output_header}
-use Rattle.truth_tables.specs.TableUnits.{assigned_by, header_refused, row_units}
-use Rattle.truth_tables.specs.TableWalks.{WalksTable, given_by, places_by}
 use Rattle.truth_tables.proofs.OutputPositions.{outputs_inside}
 use Rattle.truth_tables.proofs.RowsWalked.{header_noted, header_stands, some_refused}
 use Rattle.truth_tables.proofs.RowWorks.{inputs_clear, outputs_named, table_works}

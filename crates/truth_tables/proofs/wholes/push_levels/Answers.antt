@@ -1,10 +1,8 @@
 -- One bit more.
 use Rattle.std.proofs.Common.{◌+◌, ◌-◌, ◌/◌, ◌%◌, ◌==◌, ◌++◌, [], ◌∷◌, map, sym, ap, ◌∙◌, append_assoc}
-use Rattle.std.proofs.lemmas.List.{map-append}
-use Rattle.abel_meaning.specs.Numbers.{digits_low_first}
+use Rattle.truth_tables.proofs.Common.{map-append, digits_low_first, view_mark}
 use Rattle.abel_meaning.specs.Rows as meant
 use Rattle.truth_tables.specs.declared.mark.Mark.TheVariants as mark
-use Rattle.truth_tables.specs.EntryMarks.{view_mark}
 use Rattle.truth_tables.proofs.PairLaws.{digits_left}
 use Rattle.truth_tables.proofs.wholes.push_levels.Goals as goal
 

@@ -1,8 +1,7 @@
 -- The bits that are left are those of the rest.
 use Rattle.std.proofs.Common.{◌≡◌, ◌-◌, ◌++◌, map}
-use Rattle.abel_meaning.specs.Numbers.{digits_low_first}
+use Rattle.truth_tables.proofs.Common.{digits_low_first, view_mark}
 use Rattle.abel_meaning.specs.Rows as meant
-use Rattle.truth_tables.specs.EntryMarks.{view_mark}
 use Rattle.truth_tables.proofs.wholes.push_levels.Given as goal
 
 abbrev pub invariant-loop-position : goal.invariant-loop-position

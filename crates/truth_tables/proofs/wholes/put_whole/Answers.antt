@@ -1,10 +1,6 @@
 -- A number, a special, and an operator by its shape.
 use Rattle.std.proofs.Common.{subst}
-use Rattle.abel_tree.specs.View.{view}
-use Rattle.abel_meaning.specs.Terms.{term_of}
-use Rattle.abel_meaning.specs.Values.{constant_of}
-use Rattle.set_expr.specs.Shapes.{HasShape}
-use Rattle.truth_tables.specs.PartTerms.{IsPart}
+use Rattle.truth_tables.proofs.Common.{view, term_of, constant_of, HasShape, IsPart}
 use Rattle.truth_tables.proofs.PairLaws.{put_number, put_same, shape_unmet}
 use Rattle.truth_tables.proofs.PartLaws.{operator_numeral}
 use Rattle.truth_tables.proofs.wholes.put_whole.Goals as goal

@@ -1,9 +1,6 @@
 -- Sets and operators by their expressions, and what has one position.
 use Rattle.std.proofs.Common.{◌≡◌, refl, sym, ap, ◌∙◌, subst}
-use Rattle.std.proofs.lemmas.Result.{IfOk-weaker}
-use Rattle.abel_meaning.specs.Numbers.{member_width}
-use Rattle.abel_meaning.specs.Rows.{part_width}
-use Rattle.truth_tables.specs.PartTerms.{IsPart}
+use Rattle.truth_tables.proofs.Common.{IfOk-weaker, member_width, part_width, IsPart}
 use Rattle.truth_tables.proofs.PartLaws.{operator_width, set_width, special_case}
 use Rattle.truth_tables.proofs.wholes.width_of.Goals as goal
 
