@@ -1,11 +1,8 @@
 -- The parts of units that statements make.
-use Rattle.std.proofs.Common.{◌≡◌, ℕ, zero, suc, ◌+◌, ◌<◌, ◌≤◌, Bool, true, false, Option, None, Some, List, [], ◌∷◌, All, Result, Err, length, reverse, get_or, refl, sym, ap, ◌∙◌, subst, subst₂, arith}
-use Rattle.equations.proofs.Common.{length-map, length-replicate, Place, Table, ExprId, Node, arena, formula_at, Made, Formula, Const, Names, entries_of, first_refusal, Tree, term_nodes, choice_nodes, condition_of, guard_else, Context, formulas, resized, met_by, met_word, term_of, Contribution, Contributions, SectionFault, expression_found, section_order, IsContextOf, IsShaped, Keeps, refusal_of, bits_at, positions, context_for, NoMemory, StopsWith, IsBuilt, Builds, IsBit, AreBits, CountedUnit, part, builds_stop, stops_on, kept_inside, kept_formula, one_unit, two_parts, leaves_nodes, limit_here, at_unit}
-use Rattle.std.proofs.lemmas.Option.{slice_get-get_or, slice_get_within}
+use Rattle.std.proofs.Common.{◌≡◌, ℕ, zero, suc, ◌+◌, ◌<◌, ◌≤◌, Bool, true, false, Option, None, Some, List, [], ◌∷◌, Result, Err, length, reverse, get_or, refl, sym, ap, ◌∙◌, subst, subst₂, arith}
+use Rattle.equations.proofs.Common.{length-map, length-replicate, Place, Table, ExprId, arena, formula_at, Made, Formula, Const, Names, entries_of, first_refusal, Tree, choice_nodes, condition_of, guard_else, Context, formulas, resized, met_by, met_word, term_of, Contributions, SectionFault, expression_found, section_order, IsContextOf, IsShaped, Keeps, refusal_of, bits_at, positions, context_for, StopsWith, IsBuilt, Builds, IsBit, AreBits, CountedUnit, part, builds_stop, stops_on, kept_inside, kept_formula, one_unit, two_parts}
+pub use Rattle.expr_bits.proofs.Contexts.{is_context}
 use Rattle.std.proofs.lemmas.List.Sorted.{IsPermutation-reverse, All-permutation}
-use Rattle.bit_expr.specs.declared.fault.ExprFault.{ExprFault}
-use Rattle.bit_expr.specs.declared.fault.ExprFault.TheVariants as made
-use Rattle.abel_meaning.specs.Contributions as meant
 use Rattle.abel_meaning.specs.BitWords.{Word}
 use Rattle.abel_meaning.specs.Numbers.{Value, Single, digits_low_first}
 use Rattle.abel_meaning.proofs.DigitLaws.{length_digits}
@@ -14,35 +11,16 @@ use Rattle.set_expr.specs.declared.shaped.Shape.{Shape}
 use Rattle.set_expr.specs.declared.shaped.Shape.TheVariants as shape
 use Rattle.set_expr.specs.declared.shaped.Shaped.{Shaped}
 use Rattle.set_expr.specs.Shapes.{HasShape}
-use Rattle.expr_bits.specs.ExpressionBits.{MakesBits}
-
-pub is_context : (t : Table) (n : Names) → IsContextOf t n (context_for t n)
-is_context t n = record { device = refl; names = refl; known = refl }
 
 -- the names of a scope are those of the scope that was asked for them
 pub same_context : (t : Table) (m n : Names) → m ≡ n → IsContextOf t m (context_for t n)
 same_context t m n e = subst (λ k. IsContextOf t m (context_for t k)) e (is_context t m)
 
--- ---- expressions
-
--- what failed to be made left what was there
-pub bits_keep : (d : Context) (t : Tree) (old new : List Node) (f : ExprFault) → MakesBits d t old new (Err f) → Keeps (arena old) (arena new)
-bits_keep d t old new made.NodeLimit m = m.0
-bits_keep d t old new made.OutOfMemory m = m
-
--- and stops its unit
-pub bits_stop : (d : Context) (t : Tree) (p : Place) (old new : List Node) (f : ExprFault) → MakesBits d t old new (Err f)
-    → (list : List Contribution) → StopsWith (part p (term_nodes d t) ∷ []) [] [] (record { exprs = old; list = list }) (record { exprs = new; list = list }) (at_unit p f)
-bits_stop d t p old new made.NodeLimit m list = (limit_here p (term_nodes d t) (length (arena old)) m.1, leaves_nodes old new list m.0)
-bits_stop d t p old new made.OutOfMemory m list = (NoMemory refl, leaves_nodes old new list m)
-
 -- ---- bits
 
-reverse_all : (P : ExprId → Type 0) (ids : List ExprId) → All P ids → All P (reverse ids)
-reverse_all P ids h = All-permutation P ids (reverse ids) (IsPermutation-reverse ids) h
-
 pub bits_reversed : (fs : List Formula) (ids : List ExprId) (gs : List Formula) → AreBits fs ids gs → AreBits fs (reverse ids) (reverse gs)
-bits_reversed fs ids gs h = (reverse_all (λ (id : ExprId). id.0 < length fs) ids h.0, map_reverse (formula_at fs) ids ∙ ap reverse h.1)
+bits_reversed fs ids gs h =
+    (All-permutation (λ (id : ExprId). id.0 < length fs) ids (reverse ids) (IsPermutation-reverse ids) h.0, map_reverse (formula_at fs) ids ∙ ap reverse h.1)
 
 -- ---- how many bits
 
@@ -120,14 +98,7 @@ kept_bit old new id f k h = (kept_inside old new id k h.0, kept_formula old new 
 pub value_accepted : (n : Names) (t : Tree) → (expression_found (entries_of n) t).refusals ≡ [] → refusal_of n t ≡ None
 value_accepted n t e = ap (first_refusal section_order) e
 
--- a unit of which nothing is refused
-pub accepted_whole : {R : Type 0} (p : Place) (rs : List SectionFault) (n : ℕ) (gs : List (meant.Contribution Formula)) (ps : List Place) (old new : Contributions) (r : Result R SectionFault) → rs ≡ [] → Builds (part p n ∷ []) gs ps old new r → Builds (whole p rs n ∷ []) gs ps old new r
-accepted_whole p rs n gs ps old new r e b = subst (λ xs. Builds (whole p xs n ∷ []) gs ps old new r) (sym e) b
-
 -- an arena in which what was there stands is no shorter
 pub keeps_longer : (old new : List Formula) → Keeps old new → length old ≤ length new
-keeps_longer old new k = by_count (length old) refl
-  where
-    by_count : (n : ℕ) → length old ≡ n → length old ≤ length new
-    by_count zero e = omega (arith, e)
-    by_count (suc n) e = omega (arith, e, slice_get_within new n _ (k n _ (slice_get-get_or old n (Const false) (omega (arith, e)))))
+keeps_longer [] new k = omega arith
+keeps_longer (f ∷ fs) new k = omega (arith, kept_inside (f ∷ fs) new (record { 0 = length fs }) k (omega arith))

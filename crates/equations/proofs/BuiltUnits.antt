@@ -1,6 +1,8 @@
 -- Units of statements that were built one after another.
 use Rattle.std.proofs.Common.{◌≡◌, ◌+◌, Bool, Option, Some, List, [], ◌∷◌, ◌++◌, Result, length, map, refl, sym, ap, ◌∙◌, subst, arith}
-use Rattle.equations.proofs.Common.{length-map, Place, ExprId, Node, arena, formula_at, Formula, Extension, Sign, is_clocked, Tree, guarded, guard_nodes, term_nodes, value_nodes, Context, formulas, given_each, targets_of, term_of, Contribution, Contributions, Guard, SectionFault, view_guard, view_gives, Aim, Manner, Found, IsBuilt, Builds, AreBits, places_of, aims_refused, TargetFound, value_width, part, units_nodes, left_empty, right_empty, builds_then, AreParts, one_unit, positions_of, assign_refused, assigned_aims, taken_refused, unless_any}
+use Rattle.equations.proofs.Common.{length-map, Place, ExprId, arena, formula_at, Formula, Extension, Sign, is_clocked, Tree, guarded, guard_nodes, term_nodes, value_nodes, Context, formulas, given_each, targets_of, term_of, Contributions, Guard, SectionFault, view_guard, view_gives, Aim, Manner, Found, IsBuilt, Builds, AreBits, places_of, aims_refused, TargetFound, value_width, part, units_nodes, left_empty, right_empty, builds_then, AreParts, one_unit, positions_of, assign_refused, assigned_aims, taken_refused, unless_any}
+use Rattle.bit_expr.specs.declared.node.Node.{Node}
+use Rattle.set_expr.specs.declared.contributions.Contribution.{Contribution}
 use Rattle.abel_meaning.specs.Contributions as meant
 use Rattle.section_targets.specs.declared.giving.Giving.{Giving}
 use Rattle.section_targets.specs.GivenUnits.{one_given, each_given, each_part, guard_bit}

@@ -1,17 +1,12 @@
 -- The first refusal of units of statements, part by part.
-use Rattle.std.proofs.Common.{◌≡◌, Bool, Option, None, Some, List, [], ◌∷◌, ◌++◌, length, refl, sym, ap, ap₂, ◌∙◌, subst, append-nil, rules}
-use Rattle.std.specs.Prelude.{option_map}
-use Rattle.equations.proofs.Common.{Place, Table, Names, Stmt, the_lemmas, Extension, Sign, is_clocked, earlier, first_refusal, first_append, AGroup, AWhen, NoElse, AnElse, otherwise_of, view, view_stmt, Context, known_of, SectionFault, IsContextOf, SumsUp, Found, section_order, Aim, Manner, aims_refused, TargetFound, CountedUnit, units_refused, value_refused, view_assign, view_list, view_when, assign_refused, assigned_aims, assigned_manners, taken_refused, unless_any}
+use Rattle.std.proofs.Common.{◌≡◌, Bool, Option, Some, List, [], ◌∷◌, ◌++◌, length, refl, sym, ap, ap₂, ◌∙◌, subst, append-nil, rules, option_map}
+use Rattle.equations.proofs.Common.{Place, Table, Names, Stmt, the_lemmas, Extension, Sign, is_clocked, earlier, first_refusal, first_append, AGroup, AWhen, otherwise_of, view, view_stmt, Context, known_of, SectionFault, IsContextOf, SumsUp, Found, section_order, Aim, Manner, aims_refused, TargetFound, value_refused, view_assign, view_list, view_when, assign_refused, assigned_aims, assigned_manners, taken_refused, unless_any, When}
 use Rattle.abel_tree.specs.declared.statements.Assign.{Assign}
 use Rattle.abel_tree.specs.declared.statements.Stmt.TheVariants as stmt
-use Rattle.abel_tree.specs.declared.statements.When.{When}
 use Rattle.set_expr.specs.declared.checked.Checked.{Checked}
 
 abbrev first : List SectionFault → Option SectionFault
 first rs = first_refusal section_order rs
-
-abbrev refused : List CountedUnit → Option SectionFault
-refused us = first (units_refused us)
 
 -- ---- designs
 
@@ -54,9 +49,3 @@ view_whened w = search (rules, the_lemmas)
 
 pub view_grouped : (list slice : List Stmt) → list ≡ slice → view_stmt (stmt.Group list) ≡ AGroup (view_list slice)
 view_grouped list slice e = subst (λ (xs : List Stmt). view_stmt (stmt.Group list) ≡ AGroup (view_list xs)) e (search (rules, the_lemmas))
-
-pub view_alone : (w : When) → w.otherwise ≡ None → view_when w ≡ AWhen w.place (view w.condition) (view_stmt w.then) NoElse
-view_alone w e = view_parts w ∙ ap (λ o. AWhen w.place (view w.condition) (view_stmt w.then) (otherwise_of (option_map view_stmt o))) e
-
-pub view_both : (w : When) (s : Stmt) → w.otherwise ≡ Some s → view_when w ≡ AWhen w.place (view w.condition) (view_stmt w.then) (AnElse (view_stmt s))
-view_both w s e = view_parts w ∙ ap (λ o. AWhen w.place (view w.condition) (view_stmt w.then) (otherwise_of (option_map view_stmt o))) e

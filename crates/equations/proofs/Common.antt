@@ -11,12 +11,13 @@ pub use Rattle.abel_meaning.specs.Targets.{targets_of}
 pub use Rattle.abel_meaning.specs.Terms.{known_of, term_of}
 pub use Rattle.abel_tree.proofs.FirstRefusals.{first_append, none_refused}
 pub use Rattle.abel_tree.specs.Assigned.{is_clocked, target_extension}
-pub use Rattle.abel_tree.specs.Entries.{AConstant, ANode, APin, Entry, Kind, Words, entries_of}
+pub use Rattle.abel_tree.specs.Entries.{AConstant, ANode, APin, Entry, Kind, entries_of}
 pub use Rattle.abel_tree.specs.FirstRefusal.{earlier, first_refusal}
 pub use Rattle.abel_tree.specs.Tree.{ABinary, ADontCare, AGroup, AName, ANumber, AParen, ASet, ASpecial, AUnary, AWhen, AnAssign, AnElse, MoreStatements, NoElse, NoStatement, OneMember, Otherwise, SetMember, Statement, Statements, Tree, members_of, otherwise_of, statements_of}
 pub use Rattle.abel_tree.specs.View.{view, view_stmt}
 pub use Rattle.abel_tree.specs.declared.names.Names.{Names}
 pub use Rattle.abel_tree.specs.declared.statements.Stmt.{Stmt, the_lemmas}
+pub use Rattle.abel_tree.specs.declared.statements.When.{When}
 pub use Rattle.abel_tree.specs.declared.words.Extension.{Extension}
 pub use Rattle.abel_tree.specs.declared.words.Sign.{Sign}
 pub use Rattle.bit_expr.specs.Arena.{formula_at}
@@ -25,12 +26,10 @@ pub use Rattle.bit_expr.specs.Folding.{Made}
 unfoldable pub use Rattle.bit_expr.specs.Folding.{make_and}
 pub use Rattle.bit_expr.specs.Formulas.{Const, Formula}
 pub use Rattle.bit_expr.specs.declared.node.ExprId.{ExprId}
-pub use Rattle.bit_expr.specs.declared.node.Node.{Node}
 pub use Rattle.pld_base.specs.declared.place.Place.{Place}
 pub use Rattle.pld_device.specs.Table.{Table}
 pub use Rattle.section_targets.proofs.Built.{builds_stop, builds_then, keeps_on, kept_formula, kept_inside, left_empty, refused_append, right_empty, stops_on}
 pub use Rattle.section_targets.proofs.OneUnit.{AreParts, one_unit, two_parts}
-pub use Rattle.section_targets.proofs.Parts.{built_nodes, leaves_nodes, limit_here}
 pub use Rattle.section_targets.proofs.SideTerms.{positions_of, side_positions}
 pub use Rattle.section_targets.proofs.SmallTargets.{side_few, side_whole}
 pub use Rattle.section_targets.proofs.WalksBehind.{both_clear, clear_before, walks_alike, walks_made, walks_none, walks_refused, walks_then}
@@ -51,8 +50,7 @@ pub use Rattle.set_expr.specs.Given.{view_gives, view_guard}
 pub use Rattle.set_expr.specs.KnownNames.{SumsUp}
 pub use Rattle.set_expr.specs.Refusals.{Found}
 pub use Rattle.set_expr.specs.SectionOrder.{section_order}
-pub use Rattle.set_expr.specs.declared.contributions.Contribution.{Contribution}
 pub use Rattle.set_expr.specs.declared.contributions.Contributions.{Contributions}
 pub use Rattle.set_expr.specs.declared.contributions.Guard.{Guard}
 pub use Rattle.set_expr.specs.declared.fault.SectionFault.{SectionFault}
-pub use Rattle.equations.specs.{GivesAssign, WalksStatement, assign_refused, assigned_aims, assigned_manners, at_unit, condition_refused, condition_unit, else_manners, else_places, statement_manners, statement_places, statements_manners, statements_places, taken_refused, units_of_else, units_of_statement, units_of_statements, unless_any, view_assign, view_list, view_when}
+pub use Rattle.equations.specs.{AreBothGuards, GivesAssign, WalksCondition, WalksStatement, assign_refused, assigned_aims, assigned_manners, condition_refused, condition_unit, else_manners, else_places, statement_manners, statement_places, statements_manners, statements_places, taken_refused, units_of_else, units_of_statement, units_of_statements, unless_any, view_assign, view_list, view_when}

@@ -1,23 +1,21 @@
 -- What is refused of statements, by computation; the columns are counted by hand.
-use Rattle.std.specs.Prelude.{◌≡◌, true, None, Some, List, [], ◌∷◌, map}
-use Rattle.std.proofs.Common.{refl}
-use Rattle.equations.proofs.Common.{Const, Statement, statements_of, SectionFault, units_refused, units_of_statements}
+use Rattle.std.proofs.Common.{◌≡◌, true, None, Some, List, [], ◌∷◌, map, refl}
+use Rattle.equations.proofs.Common.{Const, ABinary, AParen, AUnary, Statement, statements_of, SectionFault, units_refused, units_of_statements}
+use Rattle.abel_tree.specs.declared.words.Binary.TheVariants.{And}
 use Rattle.abel_tree.specs.declared.words.Extension.TheVariants as extension
+use Rattle.abel_tree.specs.declared.words.Unary.TheVariants.{Not}
 use Rattle.set_expr.specs.declared.fault.SectionFault.TheVariants.{MisplacedSpecial, BadWidth, NotAnOutput, MixedAssignment}
-use Rattle.equations.proofs.Written.{at, number, unknown, name, dotted, set, paren, inverse, both, assign, not_assign, clocked, when_then, when_else, design}
+use Rattle.equations.proofs.Written.{at, number, unknown, name, dotted, set, assign, not_assign, clocked, when_then, when_else, design}
 
--- a source and its refusals
+-- sources, and all refusals of the statements of each where nothing was assigned before
 abbrev Example : Type 0
 Example = List Statement × List SectionFault
 
--- all refusals of its statements are those, where nothing was assigned before
 abbrev AreRefused : List Example → Type 0
-AreRefused examples =
-    map (λ (e : Example). units_refused (units_of_statements design (Const true) [] (statements_of e.0))) examples ≡ map (λ (e : Example). e.1) examples
+AreRefused examples = map (λ (e : Example). units_refused (units_of_statements design (Const true) [] (statements_of e.0))) examples ≡ map (λ (e : Example). e.1) examples
 
 -- values that meet so many signals
-abbrev signals : List Example
-signals =
+signals : AreRefused (
     -- Y = a;
     (assign 1 (name 1 "Y") 3 (name 5 "a") ∷ [], [])
     -- [Y,Z] = a;    one bit is spread
@@ -32,20 +30,17 @@ signals =
     ∷ (assign 1 (name 1 "c") 3 (set 5 (name 6 "a" ∷ name 8 "b" ∷ [])) ∷ [], [])
     -- [c,n] = [a,b];
     ∷ (assign 1 (set 1 (name 2 "c" ∷ name 4 "n" ∷ [])) 7 (set 9 (name 10 "a" ∷ name 12 "b" ∷ [])) ∷ [], BadWidth (at 7) ∷ [])
-    ∷ []
-
-signals_refused : AreRefused signals
-signals_refused = refl
+    ∷ [])
+signals = refl
 
 -- what is no target
-abbrev targets : List Example
-targets =
+targets : AreRefused (
     -- [Y,2] = b;
     (assign 1 (set 1 (name 2 "Y" ∷ number 4 2 ∷ [])) 7 (name 9 "b") ∷ [], NotAnOutput (at 4) None ∷ [])
     -- [Y,!Z] = b;
-    ∷ (assign 1 (set 1 (name 2 "Y" ∷ inverse 4 (name 5 "Z") ∷ [])) 8 (name 10 "b") ∷ [], NotAnOutput (at 4) None ∷ [])
+    ∷ (assign 1 (set 1 (name 2 "Y" ∷ AUnary Not (at 4) (name 5 "Z") ∷ [])) 8 (name 10 "b") ∷ [], NotAnOutput (at 4) None ∷ [])
     -- [Y,(a & b)] = b;    at what is inside, which is a declared name
-    ∷ (assign 1 (set 1 (name 2 "Y" ∷ paren 4 (both 7 (name 5 "a") (name 9 "b")) ∷ [])) 13 (name 15 "b") ∷ [], NotAnOutput (at 5) (Some 0) ∷ [])
+    ∷ (assign 1 (set 1 (name 2 "Y" ∷ AParen (at 4) (ABinary And (at 7) (name 5 "a") (name 9 "b")) ∷ [])) 13 (name 15 "b") ∷ [], NotAnOutput (at 5) (Some 0) ∷ [])
     -- [Y,Z.OE] = b;
     ∷ (assign 1 (set 1 (name 2 "Y" ∷ dotted 4 "Z" extension.Oe ∷ [])) 10 (name 12 "b") ∷ [], NotAnOutput (at 4) (Some 3) ∷ [])
     -- [Y,.X.] = b;
@@ -68,14 +63,11 @@ targets =
     ∷ (not_assign 1 (set 2 (name 3 "Y" ∷ name 5 "a" ∷ [])) 8 (name 10 "b") ∷ [], NotAnOutput (at 5) (Some 0) ∷ [])
     -- Y.FB = b;
     ∷ (assign 1 (dotted 1 "Y" extension.Fb) 6 (name 8 "b") ∷ [], NotAnOutput (at 1) (Some 2) ∷ [])
-    ∷ []
-
-targets_refused : AreRefused targets
-targets_refused = refl
+    ∷ [])
+targets = refl
 
 -- how signals are assigned
-abbrev manners : List Example
-manners =
+manners : AreRefused (
     -- W.OE = b;    no data
     (assign 1 (dotted 1 "W" extension.Oe) 6 (name 8 "b") ∷ [], NotAnOutput (at 1) (Some 4) ∷ [])
     -- Y.OE := b;
@@ -94,14 +86,11 @@ manners =
     ∷ (assign 1 (dotted 1 "Y" extension.Oe) 6 (name 8 "a") ∷ not_assign 11 (dotted 12 "Y" extension.Oe) 17 (name 19 "b") ∷ assign 22 (name 22 "Y") 24 (name 26 "a") ∷ [], MixedAssignment (at 11) 2 ∷ [])
     -- [Y,Y] = [a,b];    twice the same name
     ∷ (assign 1 (set 1 (name 2 "Y" ∷ name 4 "Y" ∷ [])) 7 (set 9 (name 10 "a" ∷ name 12 "b" ∷ [])) ∷ [], [])
-    ∷ []
-
-manners_refused : AreRefused manners
-manners_refused = refl
+    ∷ [])
+manners = refl
 
 -- X positions, and conditions
-abbrev values : List Example
-values =
+values : AreRefused (
     -- Y = .X.;
     (assign 1 (name 1 "Y") 3 (unknown 5) ∷ [], MisplacedSpecial (at 5) ∷ [])
     -- WHEN [a,b] THEN Y = a;
@@ -110,7 +99,5 @@ values =
     ∷ (when_then 1 (number 6 2) (assign 13 (name 13 "Y") 15 (name 17 "a")) ∷ [], [])
     -- WHEN a THEN WHEN b THEN WHEN a THEN Y = a; ELSE Y := b; ELSE a = b;    three deep: the inner refusals in order
     ∷ (when_else 1 (name 6 "a") (when_then 13 (name 18 "b") (when_else 25 (name 30 "a") (assign 37 (name 37 "Y") 39 (name 41 "a")) (clocked 49 (name 49 "Y") 51 (name 54 "b")))) (assign 62 (name 62 "a") 64 (name 66 "b")) ∷ [], MixedAssignment (at 49) 2 ∷ NotAnOutput (at 62) (Some 0) ∷ [])
-    ∷ []
-
-values_refused : AreRefused values
-values_refused = refl
+    ∷ [])
+values = refl

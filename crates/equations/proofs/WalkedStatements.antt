@@ -1,7 +1,10 @@
 -- Walks over statements, part by part.
-use Rattle.std.proofs.Common.{◌≡◌, Option, None, Some, List, [], ◌∷◌, ◌++◌, refl, sym, ap, ap₂, ◌∙◌, subst, append-nil}
-use Rattle.equations.proofs.Common.{Place, Formula, Tree, Statement, AnAssign, AWhen, AGroup, ADontCare, Otherwise, NoElse, AnElse, Statements, NoStatement, MoreStatements, statements_of, guarded, choice_nodes, condition_of, guard_then, guard_else, has_else, Context, formulas, statement_gives, else_gives, statements_give, SectionFault, Manner, Walked, AreFirsts, units_refused, Walks, refused_append, walks_then, walks_alike, walks_none, condition_unit, condition_refused, units_of_statement, units_of_else, units_of_statements, statement_manners, else_manners, statements_manners, statement_places, else_places, statements_places}
+use Rattle.std.proofs.Common.{◌≡◌, Bool, Option, None, Some, List, [], ◌∷◌, ◌++◌, refl, sym, ap, ap₂, ◌∙◌, subst, append-nil, option_map}
+use Rattle.equations.proofs.Common.{is_some, Table, Names, Stmt, arena, Formula, Statement, AnAssign, AWhen, AGroup, ADontCare, Otherwise, NoElse, AnElse, Statements, NoStatement, MoreStatements, statements_of, otherwise_of, view, view_stmt, guarded, choice_nodes, condition_of, guard_then, guard_else, has_else, Context, formulas, statement_gives, else_gives, statements_give, Guard, view_guard, context_for, SectionFault, Manner, Walked, AreFirsts, units_refused, Walks, refused_append, kept_formula, clear_before, walks_then, walks_alike, walks_none, condition_unit, view_when, WalksStatement, units_of_statement, units_of_else, units_of_statements, statement_manners, else_manners, statements_manners, statement_places, else_places, statements_places, When, AreBothGuards, WalksCondition}
 use Rattle.abel_meaning.specs.Contributions as meant
+use Rattle.equations.specs.declared.choices.BothGuards.{BothGuards}
+use Rattle.equations.proofs.BuiltUnits.{guard_view}
+use Rattle.equations.proofs.CheckedUnits.{view_parts}
 
 -- what a walk over a statement under a guard of formulas leaves
 abbrev pub Under : Context → List Manner → meant.Guard Formula → Statement → (old new : Walked) → Type 0
@@ -22,11 +25,7 @@ mutual
   pub any_guard : (d : Context) (g h : Formula) (all : List Manner) (s : Statement) → units_refused (units_of_statement d g all s) ≡ units_refused (units_of_statement d h all s)
   any_guard d g h all (AnAssign place complement target sign q value) = refl
   any_guard d g h all (AWhen place c s other) =
-      ap (λ rs. condition_refused d place c ++ rs)
-      (refused_append (units_of_statement d (guard_then g (condition_of d c)).what all s) (units_of_else d (guard_else g (condition_of d c)).what (all ++ statement_manners d s) other)
-      ∙ ap₂ (λ xs ys. xs ++ ys) (any_guard d (guard_then g (condition_of d c)).what (guard_then h (condition_of d c)).what all s)
-      (any_else d (guard_else g (condition_of d c)).what (guard_else h (condition_of d c)).what (all ++ statement_manners d s) other)
-      ∙ sym (refused_append (units_of_statement d (guard_then h (condition_of d c)).what all s) (units_of_else d (guard_else h (condition_of d c)).what (all ++ statement_manners d s) other)))
+      simp (refused_append, any_guard d (guard_then g (condition_of d c)).what (guard_then h (condition_of d c)).what all s, any_else d (guard_else g (condition_of d c)).what (guard_else h (condition_of d c)).what (all ++ statement_manners d s) other)
   any_guard d g h all (AGroup ss) = any_guards d g h all ss
   any_guard d g h all (ADontCare directive) = refl
 
@@ -37,9 +36,7 @@ mutual
   pub any_guards : (d : Context) (g h : Formula) (all : List Manner) (ss : Statements) → units_refused (units_of_statements d g all ss) ≡ units_refused (units_of_statements d h all ss)
   any_guards d g h all NoStatement = refl
   any_guards d g h all (MoreStatements s ss) =
-      refused_append (units_of_statement d g all s) (units_of_statements d g (all ++ statement_manners d s) ss)
-      ∙ ap₂ (λ xs ys. xs ++ ys) (any_guard d g h all s) (any_guards d g h (all ++ statement_manners d s) ss)
-      ∙ sym (refused_append (units_of_statement d h all s) (units_of_statements d h (all ++ statement_manners d s) ss))
+      simp (refused_append, any_guard d g h all s, any_guards d g h (all ++ statement_manners d s) ss)
 
 -- so a guard counts only where nothing was refused before
 pub under_guard : (d : Context) (all : List Manner) (s : Statement) (g h : meant.Guard Formula) (old new : Walked) → (old.fault ≡ None → g ≡ h) → Under d all g s old new → Under d all h s old new
@@ -52,20 +49,50 @@ under_guard d all s g h old new e w = by_fault old.fault refl
 
 -- ---- WHEN
 
--- its condition, its statement, and that of its ELSE
-pub when_walks : (d : Context) (all : List Manner) (g : meant.Guard Formula) (p : Place) (c : Tree) (s : Statement) (o : Otherwise) (old mid then new : Walked)
-    → Walks all (condition_unit d p c (choice_nodes d g.holds c (has_else o)) ∷ []) [] [] [] old mid
-    → Under d all (guarded (formulas d) g (condition_of d c)) s mid then
-    → ElseUnder d (all ++ statement_manners d s) (guarded (formulas d) g ((formulas d).not (condition_of d c))) o then new
-    → Under d all g (AWhen p c s o) old new
-when_walks d all g p c s o old mid then new w x y =
-    let k = guarded (formulas d) g (condition_of d c) in
-    let j = guarded (formulas d) g ((formulas d).not (condition_of d c)) in
-    let us = units_of_statement d k.holds all s in
-    let gs = statement_gives (formulas d) d k s in
-    let behind = walks_then all (statement_manners d s) (else_manners d o) us (units_of_else d j.holds (all ++ statement_manners d s) o) gs (else_gives (formulas d) d j o) (statement_places d s) (else_places d o) mid then new x y in
-    walks_then all [] (statement_manners d s ++ else_manners d o) (condition_unit d p c (choice_nodes d g.holds c (has_else o)) ∷ []) (us ++ units_of_else d j.holds (all ++ statement_manners d s) o) [] (gs ++ else_gives (formulas d) d j o) [] (statement_places d s ++ else_places d o) old mid new w
-    (subst (λ ms. Walks ms (us ++ units_of_else d j.holds (all ++ statement_manners d s) o) (gs ++ else_gives (formulas d) d j o) (statement_places d s ++ else_places d o) (statement_manners d s ++ else_manners d o) mid new) (sym (append-nil all)) behind)
+module _ (t : Table) (n : Names) (g : Guard) (w : When) (s : Stmt) (gs : BothGuards) (b : Bool) (old mid far : Walked) (is : s ≡ w.then) (there : b ≡ is_some w.otherwise)
+    (one : WalksCondition t n g.when w.place (view w.condition) b old mid) (both : AreBothGuards t n g.when (view w.condition) b old mid gs)
+    (inner : WalksStatement t n (record g { when = gs.then }) (view_stmt s) mid far) where
+  abbrev d : Context
+  d = context_for t n
+
+  abbrev k : Formula
+  k = condition_of d (view w.condition)
+
+  abbrev h : meant.Guard Formula
+  h = view_guard (arena old.exprs) g
+
+  abbrev under : List Manner → List Manner
+  under all = all ++ statement_manners d (view_stmt s)
+
+  then_walked : (all : List Manner) → AreFirsts old.before all → Under d all (guarded (formulas d) h k) (view_stmt s) mid far
+  then_walked all a =
+      under_guard d all (view_stmt s) (view_guard (arena mid.exprs) (record g { when = gs.then })) (guarded (formulas d) h k) mid far
+      (λ e. guard_view d (arena mid.exprs) (arena old.exprs) g (record g { when = gs.then }) k refl refl (both.then e))
+      (inner all (subst (AreFirsts mid.before) (append-nil all) (one all a).manners))
+
+  walked : (o : Option Stmt) (new : Walked) (all : List Manner) → w.otherwise ≡ o → is_some o ≡ has_else (otherwise_of (option_map view_stmt o)) → AreFirsts old.before all
+      → ElseUnder d (under all) (guarded (formulas d) h ((formulas d).not k)) (otherwise_of (option_map view_stmt o)) far new → Under d all h (view_when w) old new
+  walked o new all e has a behind =
+      let c = view w.condition in
+      let z = otherwise_of (option_map view_stmt o) in
+      let unit = subst (λ x. Walks all (condition_unit d w.place c (choice_nodes d h.holds c x) ∷ []) [] [] [] old mid) (there ∙ ap is_some e ∙ has) (one all a) in
+      let both_under = walks_then all (statement_manners d (view_stmt s)) _ _ _ _ _ _ _ mid far new (then_walked all a) behind in
+      subst (λ v. Under d all h v old new) (sym (view_parts w ∙ ap₂ (λ x y. AWhen w.place c (view_stmt x) (otherwise_of (option_map view_stmt y))) (sym is) e))
+      (walks_then all [] _ _ _ _ _ _ _ old mid new unit
+      (subst (λ ms. Walks ms (units_of_statement d (guarded (formulas d) h k).holds all (view_stmt s) ++ units_of_else d (guarded (formulas d) h ((formulas d).not k)).holds (under all) z) (statement_gives (formulas d) d (guarded (formulas d) h k) (view_stmt s) ++ else_gives (formulas d) d (guarded (formulas d) h ((formulas d).not k)) z) (statement_places d (view_stmt s) ++ else_places d z) (statement_manners d (view_stmt s) ++ else_manners d z) mid new) (sym (append-nil all)) both_under))
+
+  -- without an ELSE, and with one
+  pub alone_walked : w.otherwise ≡ None → WalksStatement t n g (view_when w) old far
+  alone_walked e all a = walked None far all e refl a (walks_none (under all) far (then_walked all a).manners)
+
+  pub both_walked : (x : Stmt) (new : Walked) → w.otherwise ≡ Some x → WalksStatement t n (record g { when = gs.otherwise }) (view_stmt x) far new → WalksStatement t n g (view_when w) old new
+  both_walked x new e outer all a =
+      let inside = then_walked all a in
+      walked (Some x) new all e refl a
+      (under_guard d (under all) (view_stmt x) (view_guard (arena far.exprs) (record g { when = gs.otherwise })) (guarded (formulas d) h ((formulas d).not k)) far new
+      (λ f. guard_view d (arena far.exprs) (arena old.exprs) g (record g { when = gs.otherwise }) ((formulas d).not k) refl refl
+      (kept_formula (arena mid.exprs) (arena far.exprs) gs.otherwise inside.keeps both.else_inside ∙ both.otherwise (clear_before mid.fault _ _ (sym f ∙ inside.fault)) (there ∙ ap is_some e)))
+      (outer (under all) inside.manners))
 
 -- ---- lists
 

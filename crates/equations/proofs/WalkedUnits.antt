@@ -1,8 +1,8 @@
 -- The walk over one unit.
-use Rattle.std.proofs.Common.{◌≡◌, ℕ, false, true, Option, None, Some, List, [], ◌∷◌, ◌++◌, Result, Err, refl, sym, ap, ◌∙◌, subst, subst₂, append-nil}
+use Rattle.std.proofs.Common.{◌≡◌, ℕ, false, true, Option, None, List, [], ◌∷◌, ◌++◌, Result, Err, refl, sym, ap, ◌∙◌, subst, subst₂, append-nil}
 use Rattle.equations.proofs.Common.{is_some, Place, Formula, earlier, first_refusal, none_refused, SectionFault, section_order, Manner, Walked, Builds, AreFirsts, CountedUnit, part, AfterMaking, Walks, standing, both_clear, walks_made, walks_refused}
 use Rattle.abel_meaning.specs.Contributions as meant
-use Rattle.equations.proofs.BuiltParts.{accepted_whole, whole}
+use Rattle.equations.proofs.BuiltParts.{whole}
 
 -- one that is refused, or stands behind what is; how it assigns signals was noted
 pub noted_refused : (all ms : List Manner) (u : CountedUnit) (gs : List (meant.Contribution Formula)) (ps : List Place) (f : Option SectionFault) (before : List Manner) (old new : Walked)
@@ -30,7 +30,7 @@ noted_made all ms p rs n gs ps f before old kept made new r e k s a mf mb b m =
     let c = noted_clear rs f old kept e told s in
     walks_made all ms (whole p rs n ∷ []) gs ps old made new r c.0
     (mf ∙ told ∙ subst₂ (λ x i. earlier section_order x i ≡ None) (sym c.0) (sym c.1.0) refl) (append-nil rs ∙ c.1.1)
-    (subst (λ ns. AreFirsts ns (all ++ ms)) (sym (mb ∙ ap (λ (w : Walked). w.before) k)) a) (accepted_whole p rs n gs ps (standing old) (standing made) r c.1.1 b) m
+    (subst (λ ns. AreFirsts ns (all ++ ms)) (sym (mb ∙ ap (λ (w : Walked). w.before) k)) a) (subst (λ xs. Builds (whole p xs n ∷ []) gs ps (standing old) (standing made) r) (sym c.1.1) b) m
 
 -- ---- units that assign no signal
 
@@ -53,9 +53,8 @@ pub unit_made : (all : List Manner) (p : Place) (rs : List SectionFault) (n : �
     → Walks all (whole p rs n ∷ []) gs ps [] old new
 unit_made all p rs n gs ps f old kept made new r e k s a = noted_made all [] p rs n gs ps f old.before old kept made new r e k s (still all old a)
 
-never : (f : SectionFault) → ◌≡◌ {A = Option SectionFault} (Some f) None → ⊥
-never f e = cc
-
 -- where making a unit failed, something is refused
 pub limit_kept : (f : SectionFault) (made new : Walked) → AfterMaking (Err f) made new → new.fault ≡ None → ⊥
-limit_kept f made new k e = never f (sym (ap (λ (w : Walked). w.fault) k.1) ∙ e)
+limit_kept f made new k e =
+    let fault = ap (λ (w : Walked). w.fault) k.1 in
+    cc

@@ -1,16 +1,13 @@
 -- Sources of one line written as trees, each token at its column.
-use Rattle.equations.proofs.Common.{Place, Table, Extension, Kind, APin, ANode, AConstant, Words, Entry, Tree, ANumber, ASpecial, AName, ASet, AParen, AUnary, ABinary, SetMember, OneMember, members_of, Statement, AnAssign, AWhen, NoElse, AnElse, Context, context_of}
+use Rattle.equations.proofs.Common.{Place, Table, Extension, Kind, APin, ANode, AConstant, Entry, Tree, ANumber, ASpecial, AName, ASet, SetMember, OneMember, members_of, Statement, AnAssign, AWhen, NoElse, AnElse, Context, context_of}
 use Prim.Native.String.{String}
-use Rattle.std.specs.Prelude.{ℕ, Bool, true, false, None, Some, List, [], ◌∷◌, codes}
-use Rattle.pld_base.specs.declared.device_name.DeviceName.TheVariants.{P16L8}
+use Rattle.std.proofs.Common.{ℕ, Bool, true, false, None, Some, List, [], ◌∷◌, codes}
+use Rattle.pld_device.specs.SampleTable.{sample}
 use Rattle.pld_device.specs.declared.cell.Cell.{Cell}
 use Rattle.pld_device.specs.declared.enable.Enable.TheVariants.{Row}
-use Rattle.pld_device.specs.declared.flip.Flip.TheVariants.{Always}
 use Rattle.pld_device.specs.declared.kinds.Kinds.TheVariants.{Combinational}
-use Rattle.abel_tree.specs.declared.words.Binary.TheVariants as binary
 use Rattle.abel_tree.specs.declared.words.Extension.TheVariants as extension
 use Rattle.abel_tree.specs.declared.words.Sign.TheVariants as sign
-use Rattle.abel_tree.specs.declared.words.Unary.TheVariants as unary
 use Rattle.abel_tree.specs.declared.words.Word.{Word}
 
 -- a column of the one line
@@ -28,9 +25,6 @@ number c n = ANumber (record { value = n; place = at c })
 abbrev pub unknown : ℕ → Tree
 unknown c = ASpecial 88 (at c)
 
-abbrev pub pulse : ℕ → Tree
-pulse c = ASpecial 67 (at c)
-
 abbrev pub name : ℕ → String → Tree
 name c text = AName (word c text) None
 
@@ -43,15 +37,6 @@ set c ts = ASet (at c) (members_of (ones ts)) None
     ones : List Tree → List SetMember
     ones [] = []
     ones (t ∷ ts) = OneMember t ∷ ones ts
-
-abbrev pub paren : ℕ → Tree → Tree
-paren c t = AParen (at c) t
-
-abbrev pub inverse : ℕ → Tree → Tree
-inverse c t = AUnary unary.Not (at c) t
-
-abbrev pub both : ℕ → Tree → Tree → Tree
-both c t u = ABinary binary.And (at c) t u
 
 -- ---- statements
 
@@ -72,40 +57,25 @@ when_else c t s u = AWhen (at c) t s (AnElse u)
 
 -- ---- names: a, b on pins that are no cell, Y, Z, W on those of cells, q a register on one, n a node, and constants
 
-abbrev words : (registered : Bool) → Words
-words r = record { combinational = false; registered = r; buffer = false; invert = true; dc = false }
-
 abbrev entry : String → Kind → (registered assigned : Bool) → Entry
-entry text k r y = record { name = codes text; place = at 1; kind = k; words = words r; assigned = y }
+entry text k r y =
+    record {
+      name = codes text;
+      place = at 1;
+      kind = k;
+      words = record { combinational = false; registered = r; buffer = false; invert = true; dc = false };
+      assigned = y;
+    }
 
 abbrev cell : ℕ → Cell
 cell p = record { pin = p; enable = Row 0; first = 0; room = 7; kinds = Combinational }
 
--- a device of four cells
-abbrev pub device : Table
-device =
-    record {
-      name = P16L8;
-      pins = 20;
-      ground_pin = 10;
-      fuses = 64;
-      short = 64;
-      columns = 32;
-      rows = 2;
-      clock = 0;
-      reset = None;
-      preset = None;
-      flip = Always;
-      cells = cell 19 ∷ cell 18 ∷ cell 17 ∷ cell 16 ∷ [];
-      pairs = [];
-      inverted = [];
-      registered = [];
-      row_switches = [];
-      fixed = [];
-    }
+-- the sample device with four cells
+abbrev device : Table
+device = record sample { cells = cell 19 ∷ cell 18 ∷ cell 17 ∷ cell 16 ∷ [] }
 
--- W has no data of its own; c = [Y, Z], k = 5, e = Y.OE, x = [Y, .X.], p = .C., i = !Y
-abbrev pub entries : List Entry
+-- W has no data of its own; c = [Y, Z], k = 5, e = Y.OE, x = [Y, .X.]
+abbrev entries : List Entry
 entries =
     entry "a" (APin 2 false) false false
     ∷ entry "b" (APin 3 false) false false
@@ -118,10 +88,7 @@ entries =
     ∷ entry "k" (AConstant (number 1 5)) false false
     ∷ entry "e" (AConstant (dotted 1 "Y" extension.Oe)) false false
     ∷ entry "x" (AConstant (set 1 (name 2 "Y" ∷ unknown 4 ∷ []))) false false
-    ∷ entry "p" (AConstant (pulse 1)) false false
-    ∷ entry "i" (AConstant (inverse 1 (name 2 "Y"))) false false
     ∷ []
 
 abbrev pub design : Context
-design =
-    context_of device entries
+design = context_of device entries

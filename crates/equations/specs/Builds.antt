@@ -1,16 +1,8 @@
 -- Conditions and assignments as units of which nothing is refused (ABEL-HDL Reference Manual, equations).
 use Rattle.std.specs.Prelude.{◌≡◌, ℕ, None, [], ◌∷◌, length, Result}
 use Rattle.equations.specs.Prelude.{Place, Table, arena, formula_at, Names, Assign, entries_of, Tree, view, value_nodes, Context, formulas, statement_gives, targets_of, known_of, term_of, Guard, SectionFault, refusal_of, view_guard, Walked, Builds, context_for, left_side, CountedUnit, part, standing}
-use Rattle.bit_expr.specs.declared.fault.ExprFault.{ExprFault}
-use Rattle.bit_expr.specs.declared.fault.ExprFault.TheVariants as made
-use Rattle.set_expr.specs.declared.fault.SectionFault.TheVariants as fault
 use Rattle.equations.specs.Checks.{view_assign}
 use Rattle.equations.specs.StatementUnits.{condition_refused, statement_places}
-
--- the limit is told at the place of its unit
-abbrev pub at_unit : Place → ExprFault → SectionFault
-at_unit p made.NodeLimit = fault.NodeLimit p
-at_unit p made.OutOfMemory = fault.OutOfMemory
 
 -- the unit of a condition at its place, with so many nodes
 abbrev pub condition_unit : Context → Place → Tree → (nodes : ℕ) → CountedUnit

@@ -35,18 +35,13 @@ fn refuse_width(place: Place, width: usize, shape: Option<Shape>) -> Option<Sect
     ensures { (v : Option Value) → HasShapeIf shape v → result ≡ first_refusal section_order (value_width place width v) }
 {
     match shape {
-        Some(Shape::Set(found)) => {
-            if found as usize == width {
-                None
-            } else {
-                Some(SectionFault::BadWidth(place))
-            }
-        }
+        Some(Shape::Set(found)) if found as usize != width => Some(SectionFault::BadWidth(place)),
         _ => None,
     }
 }
 
 /// What is refused of a value that meets so many signals.
+#[tactic(auto, using(abel_tree::proofs::FirstRefusals::first_append))]
 pub fn refuse_value(place: Place, width: usize, value: Checked) -> Option<SectionFault>
     ensures { (f : Found) → SumsUp value f → result ≡ first_refusal section_order (value_refused place width f) }
 {

@@ -3,7 +3,6 @@
 ghost use Rattle.std.specs.Prelude.{◌≡◌, None, [], ◌∷◌, length, IfOk};
 ghost use Rattle.equations.specs.Prelude.{arena, view, term_nodes, formulas, bits_of, term_of, IsShaped, Keeps, refusal_of, context_for, BuildsNodes, AreBits, part};
 ghost use Rattle.abel_meaning.specs.Values.{constant_of};
-ghost use Rattle.equations.specs.{at_unit};
 
 use abel_tree::Expr;
 use bit_expr::{ExprFault, ExprId, Exprs};
@@ -12,16 +11,6 @@ use pld_device::Device;
 use section_targets::{SectionScope, meet};
 use set_expr::{SectionFault, Shaped};
 use std::alloc::Global;
-
-/// The limit at the place of its unit.
-fn at_unit(unit: Place, fault: ExprFault) -> SectionFault
-    ensures { result ≡ at_unit unit fault }
-{
-    match fault {
-        ExprFault::NodeLimit => SectionFault::NodeLimit(unit),
-        ExprFault::OutOfMemory => SectionFault::OutOfMemory,
-    }
-}
 
 /// How many signals a value of the unit at this place meets.
 #[derive(Clone, Copy, PartialEq, Eq)]
@@ -45,7 +34,8 @@ pub fn unit_bits<D: Device>(
 {
     match scope.bits(alloc, expr, exprs) {
         Ok(shaped) => Ok(shaped),
-        Err(fault) => Err(at_unit(unit, fault)),
+        Err(ExprFault::NodeLimit) => Err(SectionFault::NodeLimit(unit)),
+        Err(ExprFault::OutOfMemory) => Err(SectionFault::OutOfMemory),
     }
 }
 

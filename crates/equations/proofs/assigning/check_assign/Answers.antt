@@ -1,9 +1,9 @@
 -- An assignment whose target is refused, and one whose target isn't.
-use Rattle.std.proofs.Common.{◌++◌, List, Some, ap, ap₂, map, sym, ◌∙◌, subst, length}
+use Rattle.std.proofs.Common.{◌++◌, List, Some, ap, ap₂, map, refl, sym, ◌∙◌, subst, length}
 use Rattle.equations.proofs.Common.{Names, entries_of, earlier, first_refusal, first_append, view, section_order, expression_found, SumsUp, context_for, Aim, AreNamed, AreFirsts, aims_refused, manner_of, left_side, value_refused, side_whole}
 use Rattle.abel_tree.specs.Assigned as assigned
-use Rattle.equations.proofs.BuiltParts.{is_context, same_context}
-use Rattle.equations.proofs.CheckedUnits.{known_by_names, behind_refused, accepted_refused, accepted_manners}
+use Rattle.equations.proofs.BuiltParts.{same_context}
+use Rattle.equations.proofs.CheckedUnits.{behind_refused, accepted_refused, accepted_manners}
 use Rattle.equations.proofs.assigning.check_assign.Goals as goal
 
 pub returns-in-Some-clause-fault : goal.returns-in-Some-clause-fault
@@ -31,7 +31,7 @@ returns-clause-fault g c = λ all a.
     let f = expression_found (entries_of n) (view x.value) in
     let e = assigned.target_extension (view x.target) in
     let aims = c.as_slice-aims.result.now in
-    let whole = side_whole d (length d.names) c.in_ok-side.side x.place (view x.target) (known_by_names t n d (is_context t n)) (c.in_ok-side.ensures t) (sym c.in-None.is) in
+    let whole = side_whole d (length d.names) c.in_ok-side.side x.place (view x.target) refl (c.in_ok-side.ensures t) (sym c.in-None.is) in
     let value = subst (λ (m : Names). SumsUp c.in_ok-value.value (expression_found (entries_of m) (view x.value))) c.scope-names.ensures c.in_ok-value.ensures in
     let mixed = c.in_ok-mixed-in-None.ensures.fault d all (same_context t c.scope-names.result.now n c.scope-names.ensures) a
     ∙ ap₂ (λ y z. first_refusal section_order (aims_refused d all y x.complement z aims)) c.target_extension.ensures c.is_clocked.ensures in
@@ -46,7 +46,7 @@ returns-clause-before g c = λ all a.
     let d = context_for t n in
     let x = c.args.assign.now in
     let aims = c.as_slice-aims.result.now in
-    let whole = side_whole d (length d.names) c.in_ok-side.side x.place (view x.target) (known_by_names t n d (is_context t n)) (c.in_ok-side.ensures t) (sym c.in-None.is) in
+    let whole = side_whole d (length d.names) c.in_ok-side.side x.place (view x.target) refl (c.in_ok-side.ensures t) (sym c.in-None.is) in
     subst (λ ms. AreFirsts c.check_aims.new.before (all ++ ms))
     (ap₂ (λ y z. map (manner_of y x.complement z) aims) c.target_extension.ensures c.is_clocked.ensures
     ∙ accepted_manners (assigned.target_extension (view x.target)) x.complement x.sign (left_side d x.place (view x.target)) aims whole.0 (c.as_slice-aims.ensures ∙ whole.1))

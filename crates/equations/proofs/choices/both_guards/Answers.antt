@@ -1,6 +1,6 @@
 -- The guard of ELSE as a part of the condition's unit.
 use Rattle.std.proofs.Common.{[], ◌∷◌, Ok, Err, sym, ap₂, ◌∙◌, subst}
-use Rattle.equations.proofs.Common.{err_from_is_err_and, arena, formula_at, view, choice_nodes, IsBuilt, context_for, part, kept_formula, kept_inside}
+use Rattle.equations.proofs.Common.{err_from_is_err_and, arena, formula_at, view, choice_nodes, IsBuilt, context_for, part, kept_formula}
 use Rattle.abel_meaning.specs.CountedNodes as counted
 use Rattle.equations.proofs.BuiltParts.{kept_bit, choice_else, choice_stops}
 use Rattle.equations.proofs.choices.both_guards.Goals as goal
@@ -11,12 +11,6 @@ returns-in_err-chosen-clause-builds g c = λ list.
     let x = c.args.condition.now in
     rw (p.1, p.2)
     (choice_stops x.unit (context_for g.D.Device.table c.args.scope.now) (formula_at (arena c.args.exprs.now) c.args.guard) (view x.expr.now) x.otherwise _ _ c.in_err-chosen.field-0.0 (c.in_err-chosen.ensures.builds list))
-
-pub guard_else-requires-clause-guard : goal.guard_else-requires-clause-guard
-guard_else-requires-clause-guard g c = kept_inside _ _ c.args.guard c.in_ok-chosen.ensures.keeps c.requires.guard
-
-pub guard_else-requires-clause-condition : goal.guard_else-requires-clause-condition
-guard_else-requires-clause-condition g c = c.in_ok-chosen.ensures.inside.0
 
 -- the unit with its ELSE
 pub returns-in_err-otherwise-clause-builds : goal.returns-in_err-otherwise-clause-builds

@@ -1,12 +1,12 @@
 -- The signals of an assignment are given its value.
-use Rattle.std.proofs.Common.{◌<◌, List, [], All, refl, sym, ap, ◌∙◌, subst, length}
-use Rattle.equations.proofs.Common.{err_from_is_err_and, ExprId, arena, formula_at, Names, entries_of, view, guard_nodes, term_nodes, formulas, targets_of, term_of, Aim, NoMemory, AreBits, context_for, AreNamed, left_side, kept_formula, kept_inside, leaves_nodes, side_positions, side_few}
+use Rattle.std.proofs.Common.{List, [], refl, sym, ap, ◌∙◌, subst, length}
+use Rattle.equations.proofs.Common.{err_from_is_err_and, ExprId, arena, formula_at, Names, entries_of, view, guard_nodes, term_nodes, formulas, targets_of, term_of, Aim, NoMemory, AreBits, context_for, AreNamed, left_side, kept_formula, kept_inside, side_positions, side_few}
+use Rattle.section_targets.proofs.Parts.{leaves_nodes}
 use Rattle.set_expr.specs.declared.fault.SectionFault.TheVariants as fault
 use Rattle.section_targets.proofs.Gives.{stops_nodes}
 use Rattle.section_targets.proofs.SignalLists.{side_all}
-use Rattle.equations.proofs.BuiltParts.{is_context, stops_longer}
+use Rattle.equations.proofs.BuiltParts.{stops_longer}
 use Rattle.equations.proofs.BuiltUnits.{assign_built}
-use Rattle.equations.proofs.CheckedUnits.{known_by_names}
 use Rattle.equations.proofs.walking.give_assign.Goals as goal
 
 pub returns-in_err-side-clause-gives : goal.returns-in_err-side-clause-gives
@@ -34,11 +34,6 @@ give_all-requires-clause-signals g c =
 pub give_all-requires-clause-guard : goal.give_all-requires-clause-guard
 give_all-requires-clause-guard g c = kept_inside _ _ c.args.guard.when c.in_ok-bits.ensures.keeps c.requires.guard
 
-pub give_all-requires-clause-bits : goal.give_all-requires-clause-bits
-give_all-requires-clause-bits g c =
-    subst (λ (xs : List ExprId). All (λ (id : ExprId). id.0 < length (arena c.value_bits.new.exprs)) xs) (sym c.deref.ensures.value)
-    c.in_ok-bits.ensures.bits.0
-
 pub returns-clause-gives : goal.returns-clause-gives
 returns-clause-gives g c =
     let n = c.args.scope.now in
@@ -47,7 +42,7 @@ returns-clause-gives g c =
     let a = c.args.assign.now in
     let side = c.in_ok-side.ensures t in
     let clear = c.requires.accepted.target in
-    let aims = c.as_slice-aims.ensures ∙ side_all (length d.names) c.in_ok-side.side (left_side d a.place (view a.target)) side (side_few d a.place (view a.target) (known_by_names t n d (is_context t n)) clear) in
+    let aims = c.as_slice-aims.ensures ∙ side_all (length d.names) c.in_ok-side.side (left_side d a.place (view a.target)) side (side_few d a.place (view a.target) refl clear) in
     assign_built d _ _ _ _ (view a.target) (view a.value) (left_side d a.place (view a.target)) c.as_slice-aims.result.now c.deref.result.now _ _ _ c.give_all.result
     clear aims (side_positions d a.place (view a.target) clear) c.target_extension.ensures c.is_clocked.ensures c.sign_gives.ensures
     (c.in_ok-bits.ensures.builds c.args.out.now.list.items) (kept_formula _ _ c.args.guard.when c.in_ok-bits.ensures.keeps c.requires.guard)
