@@ -2,7 +2,7 @@
 pub use Rattle.std.proofs.Math.Bool.{and-false, and-true, beq, or-false, or_assoc}
 pub use Rattle.std.proofs.Math.Seq.{drop-cons, take-length}
 pub use Rattle.std.proofs.lemmas.Grind.{common_steps, flat_map-append}
-pub use Rattle.std.proofs.lemmas.List.{get_or_past, length-append, length-take-le, map-append, replicate-append-replicate, reverse-append, take_all, take_more}
+pub use Rattle.std.proofs.lemmas.List.{get_or_past, length-append, map-append, replicate-append-replicate, reverse-append}
 pub use Rattle.std.proofs.lemmas.List.Folds.{list_all-append}
 pub use Rattle.std.proofs.lemmas.List.Sums.{sum_by-append, sum_by-cons}
 pub use Rattle.std.proofs.lemmas.Option.{none-some, slice_get-get_or}
@@ -45,7 +45,7 @@ pub use Rattle.bit_expr.specs.declared.node.Node.{Node}
 pub use Rattle.equations.proofs.BuiltParts.{bits_length, is_context, keeps_longer, met_length, same_context, stops_longer, value_accepted, whole}
 pub use Rattle.equations.proofs.BuiltUnits.{at}
 pub use Rattle.expr_bits.proofs.Extensions.{all_extended, each_append, innermost_wins, list_extended, members_more, range_more, set_extended}
-pub use Rattle.expr_bits.proofs.Views.{view_binary, view_name, view_number, view_one, view_set, view_span, view_special, view_unary}
+pub use Rattle.expr_bits.proofs.Views.{view_binary, view_name, view_one, view_set, view_span, view_special, view_unary}
 pub use Rattle.expr_bits.specs.Members.{each_extended, list_of}
 pub use Rattle.name_uses.specs.RangeParts.{name_items}
 pub use Rattle.pld_base.specs.declared.place.Place.{Place}
@@ -77,7 +77,7 @@ pub use Rattle.set_expr.specs.declared.contributions.Guard.{Guard}
 pub use Rattle.set_expr.specs.declared.fault.SectionFault.{SectionFault}
 pub use Rattle.set_expr.specs.declared.fault.SectionFault.TheVariants.{BadRow, BadWidth, MisplacedSpecial, MixedAssignment, NotAnOutput, NotConstant, ZeroDivisor}
 pub use Rattle.set_expr.specs.declared.shaped.Shape.{Shape}
-pub use Rattle.truth_tables.specs.{ArePaired, AreParts, AreSignals, GivesOutput, GivesPosition, GivesPositions, HasInputs, HeaderFound, IsAdded, IsDone, IsJoined, IsListed, IsMet, IsNumeral, IsOfKind, IsOperator, IsOver, IsPair, IsPart, IsPut, IsRead, IsRow, IsSet, IsShapedTerm, IsStand, IsStep, LeadsBack, NamesOutputs, Opened, StandForInputs, Taken, Walked, Walking, WalksTable, WalksWork, Work, all_meet, all_name_positions, all_refused_inside, all_signs, any_holds_pulse, arrow_refused, assigned_by, before, behind, both_headers, both_sets, design_of, entry_refused, found_work, given_by, given_freely, headed_work, header_literals, header_name, header_of, header_range, header_refused, header_set, header_special, holds_pulse, if_none, inputs_nodes, inputs_term, is_computed, is_number, is_operand, is_pulse_named, is_set, kind_signs, level_refused, levels_of, listing, literals, matched_guard, meeting, meets, meets_whole, member_holds_pulse, member_refused_inside, named_outputs, names_left, names_positions, names_refused, no_matches_work, nodes_behind, nodes_left, nothing, output_header, output_member, output_members, outputs_at, outputs_refused, paired, part_parts, places_by, places_for, places_of, position_literal, refused_header, refused_inside, row_places, row_refused, row_units, row_work, rows_places, rows_work, seen, signals_of, signs_left, some_aims, steps_left, steps_up_to, term_parts, terms_parts, units_behind, units_of, units_of_table, unless_met, unless_refused, up_to, value_places, view_mark}
+pub use Rattle.truth_tables.specs.{AreParts, AreSignals, GivesOutput, GivesPosition, GivesPositions, HasInputs, HeaderFound, IsAdded, IsDone, IsJoined, IsListed, IsMet, IsNumeral, IsOfKind, IsOperator, IsOver, IsPair, IsPart, IsPut, IsRead, IsRow, IsSet, IsShapedTerm, IsStand, IsStep, LeadsBack, NamesOutputs, Opened, StandForInputs, Taken, Walked, Walking, WalksTable, WalksWork, Work, all_meet, all_name_positions, all_refused_inside, all_signs, any_holds_pulse, arrow_refused, assigned_by, before, behind, both_headers, both_sets, design_of, entry_refused, found_work, given_by, given_freely, headed_work, header_literals, header_name, header_of, header_range, header_refused, header_set, header_special, holds_pulse, if_none, inputs_nodes, inputs_term, is_computed, is_number, is_operand, is_pulse_named, is_set, kind_signs, level_refused, levels_of, listing, literals, matched_guard, meeting, meets, meets_whole, member_holds_pulse, member_refused_inside, named_outputs, names_left, names_positions, names_refused, no_matches_work, nodes_behind, nodes_left, nothing, output_header, output_member, output_members, outputs_at, outputs_refused, paired, part_parts, places_by, places_for, places_of, position_literal, refused_header, refused_inside, row_places, row_refused, row_units, row_work, rows_places, rows_work, seen, signals_of, signs_left, some_aims, steps_left, steps_up_to, term_parts, terms_parts, units_behind, units_of, units_of_table, unless_met, unless_refused, up_to, value_places, view_mark}
 pub use Rattle.truth_tables.specs.declared.giving.Assigning.{Assigning}
 pub use Rattle.truth_tables.specs.declared.mark.Mark.{Mark}
 pub use Rattle.truth_tables.specs.declared.part.Pair.{Pair}

@@ -1,7 +1,7 @@
 -- Trees and names of the examples. A tree stands at a column of line 2, the header's; specials stand at column 9.
 use Rattle.truth_tables.proofs.Common.{Place, Kind, AConstant, Entry, Tree, ANumber, ASpecial, AName, ASet, SetMember, OneMember, members_of}
 use Prim.Native.String.{String}
-use Rattle.std.specs.Prelude.{ℕ, Bool, true, false, None, List, [], ◌∷◌, codes}
+use Rattle.std.proofs.Common.{ℕ, Bool, true, false, None, List, [], ◌∷◌, codes}
 
 abbrev pub at : ℕ → Place
 at c = record { line = 2; column = c }

@@ -1,5 +1,4 @@
 pub mod Common
-pub mod EntryParts
 mod ExampleTrees
 pub mod GivenLaws
 pub mod HeaderLaws
@@ -8,7 +7,6 @@ pub mod NamesInOrder
 pub mod OutputPositions
 pub mod PairLaws
 pub mod PartLaws
-pub mod PartSums
 pub mod ProductLaws
 pub mod ReadLaws
 mod RowExamples

@@ -1,12 +1,11 @@
 -- Headers and entries met pair by pair.
 use Rattle.std.proofs.Common.{◌≡◌, ℕ, zero, suc, ◌+◌, ◌-◌, ◌/◌, ◌%◌, ◌==◌, ◌<◌, ◌≤◌, Bool, true, false, ◌&&◌, Option, List, [], ◌∷◌, ◌++◌, length, map, reverse, replicate, refl, sym, ap, ap₂, ◌∙◌, subst, arith, append-nil, Bor}
-use Rattle.truth_tables.proofs.Common.{AllZip, flat_map, list_all, sum_by, zip, and-false, map-append, reverse-append, replicate-append-replicate, sum_by-cons, Expr, Member, Extension, view, map_reverse, Context, digits, digits_low_first, part_marks, part_width, marks_of, all_marks, Term, Terms, extended_if, special_term, term_of, constant_of, Shape, HasShape, Mark, Pair, Part, view_mark, list_of, each_extended, seen, is_set, both_sets, meeting, paired, ArePaired, IsPair, IsPut, IsMet, term_parts, IsNumeral, IsOperator, IsPart, AreParts, is_operand, is_number, meets, all_meet, meets_whole, all_extended, set_extended, list_extended}
+use Rattle.truth_tables.proofs.Common.{AllZip, flat_map, list_all, sum_by, zip, and-false, map-append, reverse-append, replicate-append-replicate, sum_by-cons, Expr, Member, Extension, view, map_reverse, Context, digits, digits_low_first, part_marks, part_width, marks_of, all_marks, Term, Terms, extended_if, special_term, term_of, constant_of, Shape, HasShape, Mark, Pair, Part, view_mark, list_of, each_extended, seen, is_set, both_sets, meeting, paired, IsPair, IsPut, IsMet, term_parts, IsNumeral, IsOperator, IsPart, AreParts, is_operand, is_number, meets, all_meet, meets_whole, all_extended, set_extended, list_extended}
 use Rattle.abel_meaning.specs.Rows as meant
 use Rattle.abel_meaning.specs.Terms as term
 use Rattle.set_expr.specs.declared.shaped.Shape.TheVariants as shape
 use Rattle.truth_tables.specs.declared.part.Part.TheVariants as part
-use Rattle.truth_tables.proofs.PartLaws.{operand_case, operator_operand, operator_shape, special_case}
-use Rattle.truth_tables.proofs.PartSums.{set_fewer, some_parts}
+use Rattle.truth_tables.proofs.PartLaws.{operand_case, operator_operand, operator_shape, special_case, set_fewer, some_parts}
 use Rattle.std.proofs.lemmas.Slice.Zip.{AllZip-long}
 
 -- ---- marks
@@ -90,12 +89,6 @@ shape_unmet d h x e (shape.Set w) o k other s = bits_unmet d h x e o k (ap is_nu
 
 -- ---- a set beside a set
 
-pub paired_more : (xs ys : List Part) (x y : Part) → length xs ≡ length ys → paired (xs ++ x ∷ []) (ys ++ y ∷ []) ≡ paired xs ys ++ record { header = x; given = y } ∷ []
-paired_more [] [] x y e = refl
-paired_more [] (b ∷ ys) x y e = absurd cc
-paired_more (a ∷ xs) [] x y e = absurd cc
-paired_more (a ∷ xs) (b ∷ ys) x y e = ap (λ ps. record { header = a; given = b } ∷ ps) (paired_more xs ys x y (omega (arith, e)))
-
 paired_stand : (d : Context) (hs es : List Part) (ts us : List Term) → AreParts d hs ts → AreParts d es us → AllZip (IsPair d) (paired hs es) (zip ts us)
 paired_stand d [] es [] us h k = tt
 paired_stand d [] es (t ∷ ts) us h k = absurd h
@@ -127,39 +120,43 @@ zipped_parts d [] us = omega arith
 zipped_parts d (t ∷ ts) [] = omega arith
 zipped_parts d (t ∷ ts) (u ∷ us) = omega (arith, zipped_parts d ts us, sum_by-cons (meeting d).size (t, u) (zip ts us), sum_by-cons term_parts t ts)
 
-pub sets_met : (d : Context) (h e : Term) (o i : Option Extension) (ts us : Terms) (hs es : List Part) (b : Bool) (stack later : List Pair) (ms : List Mark) → h ≡ extended_if o (term.Set ts) → e ≡ extended_if i (term.Set us)
-    → AreParts d hs (each_extended o (list_of ts)) → AreParts d es (each_extended i (list_of us)) → ArePaired hs es b stack later → IsMet d h e b stack later ms ms
-sets_met d h e o i ts us hs es b stack later ms ih ie sh se p = by b p
-  where
-    xs : Terms
-    xs = all_extended o ts
+module _ (d : Context) (h e : Term) (o i : Option Extension) (ts us : Terms) (hs es : List Part) (stack later : List Pair) (ms : List Mark) (ih : h ≡ extended_if o (term.Set ts)) (ie : e ≡ extended_if i (term.Set us))
+    (sh : AreParts d hs (each_extended o (list_of ts))) (se : AreParts d es (each_extended i (list_of us))) where
+  xs : Terms
+  xs = all_extended o ts
 
-    ys : Terms
-    ys = all_extended i us
+  ys : Terms
+  ys = all_extended i us
 
-    headers : AreParts d hs (list_of xs)
-    headers = subst (AreParts d hs) (sym (list_extended o ts)) sh
+  headers : AreParts d hs (list_of xs)
+  unfolding xs
+  headers = subst (AreParts d hs) (sym (list_extended o ts)) sh
 
-    entries : AreParts d es (list_of ys)
-    entries = subst (AreParts d es) (sym (list_extended i us)) se
+  entries : AreParts d es (list_of ys)
+  unfolding ys
+  entries = subst (AreParts d es) (sym (list_extended i us)) se
 
-    by : (b : Bool) → ArePaired hs es b stack later → IsMet d h e b stack later ms ms
-    by false p =
-        ap₂ (meets d) (ih ∙ set_extended o ts) (ie ∙ set_extended i us)
-        ∙ sets_differ d xs ys (λ l. p (sym (AllZip-long (IsPart d) hs (list_of xs) headers) ∙ l ∙ AllZip-long (IsPart d) es (list_of ys) entries))
-    by true p =
-        let lengths : length (list_of xs) ≡ length (list_of ys) = AllZip-long (IsPart d) hs (list_of xs) headers ∙ p.0 ∙ sym (AllZip-long (IsPart d) es (list_of ys) entries) in
-        record {
-          more = paired hs es;
-          terms = zip (list_of xs) (list_of ys);
-          pushed = p.1;
-          stand = paired_stand d hs es (list_of xs) (list_of ys) headers entries;
-          opened = record {
-            passes = ap₂ (meets d) (ih ∙ set_extended o ts) (ie ∙ set_extended i us) ∙ sets_meet d xs ys lengths;
-            gives = λ _. ap (λ zs. zs ++ seen ms) (ap₂ (marks_of d) (ih ∙ set_extended o ts) (ie ∙ set_extended i us) ∙ sets_marks d xs ys);
-          };
-          fewer = omega (arith, zipped_parts d (list_of xs) (list_of ys), ap (sum_by term_parts) (list_extended o ts), set_fewer h o ts ih);
-        }
+  pub sets_unmet : (length hs ≡ length es → ⊥) → IsMet d h e false stack later ms ms
+  unfolding xs ys
+  sets_unmet p =
+      ap₂ (meets d) (ih ∙ set_extended o ts) (ie ∙ set_extended i us)
+      ∙ sets_differ d xs ys (λ l. p (sym (AllZip-long (IsPart d) hs (list_of xs) headers) ∙ l ∙ AllZip-long (IsPart d) es (list_of ys) entries))
+
+  pub sets_met : length hs ≡ length es → later ≡ stack ++ paired hs es → IsMet d h e true stack later ms ms
+  unfolding xs ys
+  sets_met p q =
+      let lengths : length (list_of xs) ≡ length (list_of ys) = AllZip-long (IsPart d) hs (list_of xs) headers ∙ p ∙ sym (AllZip-long (IsPart d) es (list_of ys) entries) in
+      record {
+        more = paired hs es;
+        terms = zip (list_of xs) (list_of ys);
+        pushed = q;
+        stand = paired_stand d hs es (list_of xs) (list_of ys) headers entries;
+        opened = record {
+          passes = ap₂ (meets d) (ih ∙ set_extended o ts) (ie ∙ set_extended i us) ∙ sets_meet d xs ys lengths;
+          gives = λ _. ap (λ zs. zs ++ seen ms) (ap₂ (marks_of d) (ih ∙ set_extended o ts) (ie ∙ set_extended i us) ∙ sets_marks d xs ys);
+        };
+        fewer = omega (arith, zipped_parts d (list_of xs) (list_of ys), ap (sum_by term_parts) (list_extended o ts), set_fewer h o ts ih);
+      }
 
 -- ---- steps
 

@@ -1,7 +1,6 @@
--- Numbers, operators and specials, and what was checked of a part, as the value of its term.
-use Rattle.std.proofs.Common.{◌≡◌, ℕ, Bool, true, false, Option, None, Some, List, [], ◌∷◌, if◌then◌else◌, bytes_eq, map, get_or, refl, sym, ap, ◌∙◌, subst}
-use Rattle.std.specs.Prelude.{codes}
-use Rattle.truth_tables.proofs.Common.{Expr, Names, Extension, entries_of, view_declared, Tree, view, Context, Value, member_width, part_width, Term, Terms, Set, term_of, extended_if, extended, special_term, constant_of, SectionFault, Shape, expression_found, HasShapeIf, Found, HasShape, IsOver, IsNumeral, IsOperator, IsSet, is_operand, Binary}
+-- Numbers, operators and specials, what was checked of a part as the value of its term, and how many parts terms have.
+use Rattle.std.proofs.Common.{◌≡◌, ℕ, Bool, true, false, Option, None, Some, List, [], ◌∷◌, if◌then◌else◌, bytes_eq, map, get_or, refl, sym, ap, ◌∙◌, subst, suc, ◌+◌, ◌<◌, ap₂, arith, codes}
+use Rattle.truth_tables.proofs.Common.{Expr, Names, Extension, entries_of, view_declared, Tree, view, Context, Value, member_width, part_width, Term, Terms, Set, term_of, extended_if, extended, special_term, constant_of, SectionFault, Shape, expression_found, HasShapeIf, Found, HasShape, IsOver, IsNumeral, IsOperator, IsSet, is_operand, Binary, sum_by, sum_by-cons, members_of, view_member, extended_each, terms_of, Part, list_of, each_extended, term_parts, terms_parts, part_parts, IsPart, all_extended, set_extended, list_extended}
 use Rattle.std.proofs.Math.ListN.{get_or-map}
 use Rattle.abel_tree.specs.declared.names.Declared.{Declared}
 use Rattle.set_expr.specs.declared.shaped.Shape.TheVariants as shape
@@ -9,6 +8,7 @@ use Rattle.expr_bits.proofs.Linked.{HasKind, IsLinkedIf, expression_linked}
 use Rattle.expr_bits.proofs.Links.{SameKind, same_kind, extended_alike}
 use Rattle.abel_tree.specs.declared.words.Unary.{Unary}
 use Rattle.abel_meaning.specs.Terms as term
+use Rattle.truth_tables.specs.declared.part.Part.TheVariants as part
 
 -- what holds of numbers and operators holds of operands
 pub operand_case : (P : Term → Type 0) → ((n : ℕ) → P (term.Number n)) → ((sign : Unary) (t : Term) → P (term.UnaryOf sign t)) → ((sign : Binary) (t u : Term) → P (term.BinaryOf sign t u)) → (t : Term) → is_operand t ≡ true → P t
@@ -100,3 +100,58 @@ over_shape n d is t s e h = value_shape s (expression_found (entries_of n) t).va
 
 pub entry_at : (ds : List Declared) (k : ℕ) (x : Declared) → x ≡ get_or ds k x → get_or (map view_declared ds) k (view_declared x) ≡ view_declared x
 entry_at ds k x e = get_or-map view_declared ds k x ∙ ap view_declared (sym e)
+
+-- ---- each step of a walk over parts leaves fewer of them
+
+-- an extension changes none
+mutual
+  extended_parts : (e : Extension) (t : Term) → term_parts (extended e t) ≡ term_parts t
+  extended_parts e (term.Number n) = refl
+  extended_parts e term.X = refl
+  extended_parts e term.Pulse = refl
+  extended_parts e term.Release = refl
+  extended_parts e (term.Read s None) = refl
+  extended_parts e (term.Read s (Some f)) = refl
+  extended_parts e (term.Set ts) = ap suc (each_parts e ts)
+  extended_parts e (term.UnaryOf sign t) = refl
+  extended_parts e (term.BinaryOf sign t u) = refl
+
+  each_parts : (e : Extension) (ts : Terms) → terms_parts (extended_each e ts) ≡ terms_parts ts
+  each_parts e term.NoTerm = refl
+  each_parts e (term.Before t ts) = ap₂ (λ m n. m + n) (extended_parts e t) (each_parts e ts)
+
+parts_if : (e : Option Extension) (t : Term) → term_parts (extended_if e t) ≡ term_parts t
+parts_if None t = refl
+parts_if (Some e) t = extended_parts e t
+
+pub some_parts : (t : Term) → 0 < term_parts t
+some_parts (term.Number n) = omega arith
+some_parts term.X = omega arith
+some_parts term.Pulse = omega arith
+some_parts term.Release = omega arith
+some_parts (term.Read s e) = omega arith
+some_parts (term.Set ts) = omega arith
+some_parts (term.UnaryOf sign t) = omega arith
+some_parts (term.BinaryOf sign t u) = omega arith
+
+operand_parts : (t : Term) → is_operand t ≡ true → term_parts t ≡ 1
+operand_parts t k = operand_case (λ u. term_parts u ≡ 1) (λ n. refl) (λ sign u. refl) (λ sign u v. refl) t k
+
+-- a part on a stack has those of its term
+pub part_counted : (d : Context) (x : Part) (t : Term) → IsPart d x t → part_parts d.known x ≡ term_parts t
+part_counted d (part.Set x ms e) t i = sym (ap term_parts i.is ∙ parts_if e (term.Set (terms_of d.known (members_of (map view_member ms.now)))))
+part_counted d (part.Signal s e) t i = sym (ap term_parts i)
+part_counted d (part.Number n) t i = sym (operand_parts t i.operand)
+part_counted d (part.Special letter) t i = sym (ap term_parts i ∙ special_case (λ u. term_parts u ≡ 1) refl refl refl letter)
+part_counted d (part.Operator x) t i = sym (operand_parts t (operator_operand d x.now t i))
+
+listed_parts : (ts : Terms) → sum_by term_parts (list_of ts) ≡ terms_parts ts
+listed_parts term.NoTerm = refl
+listed_parts (term.Before t ts) = sum_by-cons term_parts t (list_of ts) ∙ ap (λ n. term_parts t + n) (listed_parts ts)
+
+-- the members of a set have fewer than the set
+pub set_fewer : (t : Term) (e : Option Extension) (ts : Terms) → t ≡ extended_if e (term.Set ts) → sum_by term_parts (each_extended e (list_of ts)) < term_parts t
+set_fewer t e ts h =
+    let members : sum_by term_parts (each_extended e (list_of ts)) ≡ terms_parts (all_extended e ts) = ap (sum_by term_parts) (sym (list_extended e ts)) ∙ listed_parts (all_extended e ts) in
+    let whole : term_parts t ≡ suc (terms_parts (all_extended e ts)) = ap term_parts (h ∙ set_extended e ts) in
+    omega arith

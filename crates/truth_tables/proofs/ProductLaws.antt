@@ -1,7 +1,6 @@
 -- The literals of a row, position by position.
-use Rattle.std.proofs.Common.{◌≡◌, ℕ, zero, suc, ◌+◌, ◌<◌, ◌≤◌, min, Bool, true, Option, None, Some, List, [], ◌∷◌, Result, Ok, Err, length, drop, get_or, refl, sym, ap, ap₂, ◌∙◌, subst, subst₂, arith, add-one}
+use Rattle.std.proofs.Common.{◌≡◌, ℕ, zero, suc, ◌+◌, ◌<◌, ◌≤◌, min, Bool, true, Option, None, Some, List, [], ◌∷◌, Result, Ok, Err, length, drop, get_or, refl, sym, ap, ap₂, ◌∙◌, subst, subst₂, arith, add-one, IfOk}
 use Rattle.truth_tables.proofs.Common.{drop-cons, Place, ExprId, Node, arena, formula_at, Made, Formula, Const, make_literal, SectionFault, AreIn, Keeps, StopsWith, IsBuilt, Builds, BuildsNodes, IsBit, part, builds_none, kept_formula, two_parts, high_bit, stops_longer, position_literal, literals, IsJoined}
-use Rattle.std.specs.Prelude.{IfOk}
 
 -- ---- positions in an arena
 

@@ -1,7 +1,6 @@
 -- What is refused of the entries of a row, by computation; the columns are counted by hand. a, b and e are signals, c is
 -- the constant [a,b], x is .X., k is .C., z is .Z., m is the constant [0,.X.].
-use Rattle.std.specs.Prelude.{◌≡◌, true, false, List, [], ◌∷◌}
-use Rattle.std.proofs.Common.{refl}
+use Rattle.std.proofs.Common.{◌≡◌, true, false, List, [], ◌∷◌, refl}
 use Rattle.truth_tables.proofs.Common.{sample, Binary, APin, Entry, Tree, AParen, AUnary, ABinary, Context, context_of, term_of, SectionFault, MisplacedSpecial, NotConstant, ZeroDivisor, BadRow, entry_refused}
 use Rattle.abel_tree.specs.declared.words.Binary.TheVariants as binary
 use Rattle.abel_tree.specs.declared.words.Unary.TheVariants as unary

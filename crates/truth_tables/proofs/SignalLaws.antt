@@ -1,11 +1,9 @@
 -- The signals of headers, part by part.
-use Rattle.std.proofs.Common.{◌≡◌, ℕ, Bool, true, false, ◌&&◌, Option, None, Some, List, [], ◌∷◌, ◌++◌, if◌then◌else◌, bytes_eq, reverse, refl, sym, ap, ◌∙◌, append-nil}
-use Rattle.std.specs.Prelude.{codes}
+use Rattle.std.proofs.Common.{◌≡◌, ℕ, Bool, true, false, ◌&&◌, Option, None, Some, List, [], ◌∷◌, ◌++◌, if◌then◌else◌, bytes_eq, reverse, refl, sym, ap, ◌∙◌, append-nil, codes}
 use Rattle.truth_tables.proofs.Common.{is_some, flat_map, list_all, reverse-append, Extension, Context, targets_of, all_targets, Term, Terms, extended_if, special_term, Part, list_of, each_extended, names_positions, all_name_positions, AreParts, is_operand, IsListed, all_extended, set_extended, list_extended}
 use Rattle.std.proofs.lemmas.Slice.Eq.{bytes_eq-Decides}
 use Rattle.abel_meaning.specs.Terms as term
-use Rattle.truth_tables.proofs.PartLaws.{operand_case}
-use Rattle.truth_tables.proofs.PartSums.{set_fewer, some_parts}
+use Rattle.truth_tables.proofs.PartLaws.{operand_case, set_fewer, some_parts}
 
 -- ---- what one part is
 
@@ -34,7 +32,7 @@ put_set d t e ts ps stack later ss h k p =
     }
 
 -- one position
-put_one : (d : Context) (t : Term) (s : Option ℕ) (stack : List Part) (old new : List (Option ℕ)) → names_positions t ≡ true → targets_of t ≡ s ∷ [] → new ≡ old ++ s ∷ [] → IsListed d t true stack stack old new
+pub put_one : (d : Context) (t : Term) (s : Option ℕ) (stack : List Part) (old new : List (Option ℕ)) → names_positions t ≡ true → targets_of t ≡ s ∷ [] → new ≡ old ++ s ∷ [] → IsListed d t true stack stack old new
 put_one d t s stack old new n k p =
     record {
       more = [];
@@ -47,12 +45,6 @@ put_one d t s stack old new n k p =
       };
       fewer = some_parts t;
     }
-
-pub put_unknown : (d : Context) (t : Term) (stack : List Part) (old new : List (Option ℕ)) → t ≡ term.X → new ≡ old ++ None ∷ [] → IsListed d t true stack stack old new
-put_unknown d t stack old new h p = put_one d t None stack old new (ap names_positions h) (ap targets_of h) p
-
-pub put_read : (d : Context) (t : Term) (s : ℕ) (stack : List Part) (old new : List (Option ℕ)) → t ≡ term.Read s None → new ≡ old ++ Some s ∷ [] → IsListed d t true stack stack old new
-put_read d t s stack old new h p = put_one d t (Some s) stack old new (ap names_positions h) (ap targets_of h) p
 
 pub operand_unnamed : (t : Term) → is_operand t ≡ true → names_positions t ≡ false
 operand_unnamed t k = operand_case (λ u. names_positions u ≡ false) (λ n. refl) (λ sign u. refl) (λ sign u v. refl) t k

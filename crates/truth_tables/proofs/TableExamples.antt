@@ -1,7 +1,6 @@
 -- What is refused of truth tables, by computation. a and b are pins, Y and Z outputs, c is the
 -- constant [Y,Z], x is .X., k is .C.; the header stands on line 2, its outputs in its columns.
-use Rattle.std.specs.Prelude.{◌≡◌, ℕ, true, false, None, Some, List, [], ◌∷◌, codes}
-use Rattle.std.proofs.Common.{refl}
+use Rattle.std.proofs.Common.{◌≡◌, ℕ, true, false, None, Some, List, [], ◌∷◌, codes, refl}
 use Rattle.truth_tables.proofs.Common.{Place, sample, APin, Entry, Tree, AName, RowTree, Context, context_of, SectionFault, MisplacedSpecial, NotAnOutput, MixedAssignment, BadRow, Manner, units_refused, units_of_table}
 use Rattle.abel_tree.specs.declared.words.Extension.TheVariants as extension
 use Rattle.truth_tables.proofs.ExampleTrees.{at, constant, declared, name, number, pulse, set, unknown}

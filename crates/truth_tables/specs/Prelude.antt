@@ -1,6 +1,6 @@
 -- The words of the crates below that the clauses of this crate are said in, passed on from one place. Declares nothing.
 pub use Rattle.std.specs.Global.{Vec}
-pub use Rattle.std.specs.List.{AllZip, filter_map, flat_map, list_all, list_any, sum_by}
+pub use Rattle.std.specs.List.{AllZip, filter_map, flat_map, list_all, list_any, sum_by, zip}
 pub use Rattle.std.specs.Option.{is_some, option_map}
 pub use Rattle.abel_meaning.specs.CountedBlocks.{make_literal, row_literals, row_nodes, table_units}
 pub use Rattle.abel_meaning.specs.CountedNodes.{term_nodes}
@@ -21,7 +21,6 @@ pub use Rattle.abel_tree.specs.declared.names.Names.{Names}
 pub use Rattle.abel_tree.specs.declared.tables.Table.{Table}
 pub use Rattle.bit_expr.specs.Arena.{formula_at}
 unfoldable pub use Rattle.bit_expr.specs.Arena.{arena}
-pub use Rattle.bit_expr.specs.Folding.{Made, free}
 pub use Rattle.bit_expr.specs.Formulas.{Const, Formula, differ}
 pub use Rattle.bit_expr.specs.declared.node.ExprId.{ExprId}
 pub use Rattle.bit_expr.specs.declared.node.Node.{Node}

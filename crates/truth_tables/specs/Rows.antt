@@ -1,11 +1,59 @@
--- Private: the rows of a table with what they give (ABEL-HDL Reference Manual, truth tables).
-use Rattle.std.specs.Prelude.{◌≡◌, ℕ, ◌+◌, Bool, Option, List, [], ◌∷◌, Result}
-use Rattle.truth_tables.specs.Prelude.{Node, Made, Formula, Table, RowTree, view, row_nodes, Context, formulas, entry_levels, outputs_given, row_matches, targets_of, term_of, Contribution, SectionFault, Aim, Builds, part}
+-- Private: the product of a row, position by position; the rows of a table with what they give, and what making them and
+-- walks over them leave (ABEL-HDL Reference Manual, truth tables).
+use Rattle.std.specs.Prelude.{◌≡◌, ◌+◌, ℕ, Bool, true, length, Option, None, Some, List, [], ◌∷◌, reverse, Result, false, map}
+use Rattle.truth_tables.specs.Prelude.{Place, ExprId, Node, arena, formula_at, Formula, Const, make_literal, row_literals, Context, bits_of, formulas, width_of, Term, constant_of, Contribution, AreIn, IsShaped, bits_at, unknown_at, IsBit, IsBuilt, part, Table, RowTree, view, row_nodes, entry_levels, outputs_given, row_matches, targets_of, term_of, SectionFault, Aim, Builds, Vec, entries_of, view_row, term_nodes, no_matches, refusal_of, context_for, view_guard, Manner, Walked, AreNamed, AreFirsts, Walks}
+use Rattle.bit_expr.specs.Folding.{Made, free}
+use Rattle.set_expr.specs.declared.shaped.Shaped.{Shaped}
 use Rattle.abel_meaning.specs.Contributions as meant
-use Rattle.truth_tables.specs.TableUnits.{row_places, row_refused}
+use Rattle.truth_tables.specs.TableUnits.{row_places, row_refused, places_of, some_aims}
 use Rattle.truth_tables.specs.declared.checked_rows.RowFound.{RowFound}
 use Rattle.truth_tables.specs.Gives.{signals_of}
-use Rattle.truth_tables.specs.Works.{Work, before, nothing}
+use Rattle.truth_tables.specs.Works.{Work, before, nothing, given_freely}
+use Rattle.pld_device.specs.Table as device
+use Rattle.abel_tree.specs.declared.tables.Row.{Row}
+use Rattle.truth_tables.specs.declared.rows.Headed.{Headed}
+
+-- ---- products
+
+-- a position beside its level
+abbrev pub position_literal : List Formula → (found : Formula) → Option ExprId → Option Bool → Made Formula
+position_literal fs found None l = free found
+position_literal fs found (Some id) None = free found
+position_literal fs found (Some id) (Some level) = make_literal found level (formula_at fs id)
+
+-- the literals of positions, behind what was found
+abbrev pub literals : List Formula → (found : Formula) → List (Option ExprId) → List (Option Bool) → Made Formula
+literals fs found ps ls = row_literals found (unknown_at ps) (bits_at fs ps) ls
+
+-- all literals but those of these positions and levels are joined
+pub record IsJoined (old now : List Node) (unit : Place) (found : ExprId) (all : Made Formula)
+    (ps : List (Option ExprId)) (ls : List (Option Bool)) : Type 0 where
+  pub made : Formula
+  pub nodes : ℕ
+  pub bit : IsBit (arena now) found made
+  pub built : (list : List Contribution)
+      → IsBuilt (part unit nodes ∷ []) [] [] (record { exprs = old; list = list }) (record { exprs = now; list = list })
+  pub what : all.what ≡ (literals (arena old) made ps ls).what
+  pub total : all.nodes ≡ nodes + (literals (arena old) made ps ls).nodes
+
+-- the literals of a header's positions
+abbrev pub header_literals : Context → (header : Term) → List (Option Bool) → Made Formula
+header_literals d h ls =
+    row_literals (Const true) (reverse (constant_of d h).unknown)
+    ((formulas d).word (width_of (constant_of d h).shape) h) ls
+
+-- positions that stand for those of a header
+pub record StandForInputs (d : Context) (h : Term) (fs : List Formula) (ps : List (Option ExprId)) : Type 0 where
+  pub inside : AreIn (length fs) ps
+  pub same : (ls : List (Option Bool)) → header_literals d h ls ≡ literals fs (Const true) ps ls
+
+-- ---- headers
+
+-- the bits of a term in an arena
+abbrev pub IsShapedTerm : Context → List Formula → Term → Shaped → Type 0
+IsShapedTerm d fs t s = IsShaped fs s (constant_of d t) (bits_of d t).what
+
+-- ---- rows
 
 -- what is left by building a work
 abbrev pub Does : {R : Type 0} → Work → (old new : List Node) → (list more : List Contribution) → Result R SectionFault → Type 0
@@ -54,3 +102,69 @@ found_work d g k product xs f =
       gives = outputs_given d (record { holds = product.what; dontcare = g.dontcare; block = g.block }) k (signals_of xs) f.outputs;
       places = row_places xs f.outputs;
     }
+
+-- ---- walks
+
+-- the design of a table on a device, and the input header
+abbrev pub design_of : {D : Type 0} → device.Table → Headed D → Context
+design_of v h = context_for v h.scope.now
+
+abbrev pub inputs_term : {D : Type 0} → device.Table → Headed D → Term
+inputs_term v h = term_of (design_of v h).known (view h.table.now.inputs)
+
+abbrev pub inputs_nodes : {D : Type 0} → device.Table → Headed D → ℕ
+inputs_nodes v h = term_nodes (design_of v h) (view h.table.now.inputs)
+
+-- neither side of the header is refused, and these are its outputs
+pub record IsAccepted {D : Type 0} (v : device.Table) (h : Headed D) : Type 0 where
+  pub inputs : refusal_of h.scope.now (view h.table.now.inputs) ≡ None
+  pub signals : AreNamed (length (entries_of h.scope.now)) (some_aims h.outputs.now)
+  pub named : NamesOutputs (design_of v h) h.table.now h.outputs.now
+
+-- bits that were made are those of the input header
+abbrev pub HasInputs : {D : Type 0} → device.Table → Headed D → Option (Vec (Option ExprId)) → List Node → Type 0
+HasInputs v h None ns = Unit {0}
+HasInputs v h (Some ps) ns = StandForInputs (design_of v h) (inputs_term v h) (arena ns) ps.items
+
+-- those that weren't are left to make
+abbrev pub nodes_left : {D : Type 0} → device.Table → Headed D → Option (Vec (Option ExprId)) → ℕ
+nodes_left v h None = inputs_nodes v h
+nodes_left v h (Some ps) = 0
+
+-- ---- what is left by making rows
+
+-- with so many nodes of the input header before its own
+abbrev pub GivesRow : {D : Type 0} → device.Table → Headed D → (nodes : ℕ) → RowFound → (old new : Walked)
+    → Result Unit SectionFault → Type 0
+GivesRow v h n f old new r =
+    Does
+    (found_work (design_of v h) (view_guard (arena old.exprs) h.guard) h.table.now.clocked
+    (behind n (header_literals (design_of v h) (inputs_term v h) f.inputs)) h.outputs.now f)
+    old.exprs new.exprs old.list.items new.list.items r
+
+-- ---- what is left by walks
+
+-- a work that assigns no more signals
+abbrev pub WalksWork : Work → (old new : Walked) → Type 0
+WalksWork w old new = (all : List Manner) → AreFirsts old.before all → Walks all w.units w.gives w.places [] old new
+
+-- no match for each output
+abbrev pub no_matches_work : {D : Type 0} → device.Table → Headed D → Walked → Work
+no_matches_work v h out =
+    given_freely
+    (no_matches (formulas (design_of v h)) (design_of v h) (view_guard (arena out.exprs) h.guard) false h.table.now.clocked (signals_of h.outputs.now))
+    (places_of (some_aims h.outputs.now))
+
+-- a row with so many nodes of the input header before its own
+abbrev pub WalksRow : {D : Type 0} → device.Table → Headed D → (nodes : ℕ) → Row → (old new : Walked) → Type 0
+WalksRow v h n row old new =
+    WalksWork (row_work (design_of v h) (view_guard (arena old.exprs) h.guard) h.table.now h.outputs.now n (view_row row)) old new
+
+-- a table behind its header, as far as these rows
+abbrev pub headed_work : {D : Type 0} → device.Table → Headed D → Walked → List RowTree → Work
+headed_work v h out rows =
+    before (no_matches_work v h out)
+    (rows_work (design_of v h) (view_guard (arena out.exprs) h.guard) h.table.now h.outputs.now (inputs_nodes v h) rows)
+
+abbrev pub WalksHeaded : {D : Type 0} → device.Table → Headed D → (old new : Walked) → Type 0
+WalksHeaded v h old new = WalksWork (headed_work v h old (map view_row h.table.now.rows)) old new

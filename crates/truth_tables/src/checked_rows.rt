@@ -6,8 +6,8 @@ ghost use Rattle.abel_meaning.specs.Rows as meant;
 ghost use Rattle.truth_tables.specs.{view_mark, IsOver, IsLevels, levels_of, IsRow, arrow_refused};
 
 use crate::entries::{Entry, read_entry};
+use crate::inside::holds_pulse;
 use crate::mark::Mark;
-use crate::pulses::holds_pulse;
 use abel_tree::{Expr, Row, Table, earlier};
 use pld_base::{ListOf, OutOfMemory, Place};
 use set_expr::{Scope, SectionFault};

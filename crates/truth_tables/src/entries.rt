@@ -1,8 +1,8 @@
 //! Entries of rows under their headers: parts of both, met one by one from the last on.
 
-ghost use Rattle.std.specs.Prelude.{IfOk};
+ghost use Rattle.std.specs.Prelude.{◌≡◌, IfOk};
 ghost use Rattle.truth_tables.specs.Prelude.{Context, Term, term_of, view};
-ghost use Rattle.truth_tables.specs.{IsOver, ArePaired, IsMet, IsPart, IsRead};
+ghost use Rattle.truth_tables.specs.{IsOver, paired, IsMet, IsPart, IsRead};
 
 use crate::inside::refuse_inside;
 use crate::mark::Mark;
@@ -12,26 +12,24 @@ use crate::wholes::put_whole;
 use abel_tree::Expr;
 use pld_base::OutOfMemory;
 use set_expr::{Scope, SectionFault};
-use std::alloc::Global;
+use std::alloc::{AllocError, Global};
 
-/// Puts each part of a header with what stands for it onto the stack; false where they aren't as many.
-fn push_pairs<'a>(
+/// Each part of a header with what stands for it.
+fn list_pairs<'a>(
+    alloc: Global,
     headers: &[Part<'a>],
     entries: &[Part<'a>],
-    stack: &mut Vec<Pair<'a>>,
-) -> Result<bool, OutOfMemory>
-    ensures { IfOk result (λ b. ArePaired headers.now entries.now b stack.old.items stack.new.items) }
+) -> Result<Vec<Pair<'a>>, AllocError>
+    ensures { IfOk result (λ ps. ps.items ≡ paired headers.now entries.now) }
 {
-    if headers.len() != entries.len() {
-        return Ok(false);
-    }
-    for index in 0..headers.len() {
-        stack.push(Pair {
-            header: headers[index],
-            given: entries[index],
-        })?;
-    }
-    Ok(true)
+    headers
+        .iter()
+        .zip(entries)
+        .map(|(header, given)| Pair {
+            header: *header,
+            given: *given,
+        })
+        .collect(alloc)
 }
 
 /// Meets one pair: puts its marks, or its members onto the stack; false where it doesn't meet.
@@ -47,9 +45,14 @@ fn step<'a>(
     match pair.header {
         Part::Set(_, headers, outer) => match pair.given {
             Part::Set(_, entries, inner) => {
-                let header_parts = parts_of(alloc, scope, headers, outer)?;
-                let entry_parts = parts_of(alloc, scope, entries, inner)?;
-                push_pairs(header_parts.as_slice(), entry_parts.as_slice(), stack)
+                let headers = parts_of(alloc, scope, headers, outer)?;
+                let entries = parts_of(alloc, scope, entries, inner)?;
+                if headers.len() != entries.len() {
+                    return Ok(false);
+                }
+                let pairs = list_pairs(alloc, headers.as_slice(), entries.as_slice())?;
+                stack.extend_from_slice(pairs.as_slice())?;
+                Ok(true)
             }
             _ => put_whole(alloc, scope, pair, marks),
         },

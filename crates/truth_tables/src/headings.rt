@@ -1,30 +1,59 @@
 //! The walk of an output header: its outputs position by position from the left, None at X, and its first refusal.
 
-ghost use Rattle.std.specs.Prelude.{IfOk, map};
-ghost use Rattle.truth_tables.specs.Prelude.{members_of, view, view_member, Context};
-ghost use Rattle.truth_tables.specs.{IsOver, header_set, header_special, output_header, output_member, output_members, IsAdded};
+ghost use Rattle.std.specs.Prelude.{◌≡◌, IfOk, map};
+ghost use Rattle.truth_tables.specs.Prelude.{members_of, option_map, view, view_member, Context};
+ghost use Rattle.truth_tables.specs.{IsOver, header_name, header_set, outputs_at, output_header, output_member, output_members, IsAdded};
 
-use crate::header_names::push_name;
+use crate::part::named_part;
+use crate::parts::part_signals;
 use abel_tree::{Expr, Member, earlier};
 use name_uses::range_list;
 use pld_base::{OutOfMemory, Place};
 use section_targets::{Aim, number_of, refuse_operator};
 use set_expr::{Scope, SectionFault};
-use std::alloc::Global;
+use std::alloc::{AllocError, Global};
 
-/// `.X.` is a position, `.C.` and `.Z.` are none.
-fn push_special(
-    letter: u8,
+/// Signals and X, all at one place.
+fn list_outputs(
+    alloc: Global,
+    signals: &[Option<u32>],
+    place: Place,
+) -> Result<Vec<Option<Aim>>, AllocError>
+    ensures { IfOk result (λ outputs. outputs.items ≡ outputs_at place signals.now) }
+{
+    signals
+        .iter()
+        .map(|signal| signal.map(|signal| Aim { signal, place }))
+        .collect(alloc)
+}
+
+/// Appends the outputs of the name with this text, used at a place; a name that is refused has none.
+pub(crate) fn push_name(
+    alloc: Global,
+    scope: &Scope<'_>,
+    text: &[u8],
     place: Place,
     outputs: &mut Vec<Option<Aim>>,
 ) -> Result<Option<SectionFault>, OutOfMemory>
-    ensures { IfOk result (λ f. IsAdded (header_special letter place) f outputs.old.items outputs.new.items) }
+    ensures { IfOk result (λ f. (d : Context) → IsOver scope.now d → IsAdded (header_name d place text.now) f outputs.old.items outputs.new.items) }
 {
-    if letter == b'X' {
-        outputs.push(None)?;
-        Ok(None)
-    } else {
-        Ok(Some(SectionFault::MisplacedSpecial(place)))
+    let found = scope.check_name(text, place);
+    match found.fault {
+        Some(fault) => Ok(Some(fault)),
+        None => {
+            let signals = part_signals(alloc, scope, named_part(scope, text, None))?;
+            match signals {
+                None => {
+                    let number = number_of(scope, text);
+                    Ok(Some(SectionFault::NotAnOutput(place, number)))
+                }
+                Some(signals) => {
+                    let more = list_outputs(alloc, signals.as_slice(), place)?;
+                    outputs.extend_from_slice(&more)?;
+                    Ok(None)
+                }
+            }
+        }
     }
 }
 
@@ -74,7 +103,8 @@ fn push_set(
     Ok(earlier(fault, wide))
 }
 
-/// Appends the outputs of a header or of a member of one, and finds its first refusal.
+/// Appends the outputs of a header or of a member of one, and finds its first refusal. `.X.` is a position, `.C.` and `.Z.`
+/// are not.
 #[cycle(headings)]
 pub(crate) fn push_outputs(
     alloc: Global,
@@ -86,7 +116,13 @@ pub(crate) fn push_outputs(
 {
     match expr {
         Expr::Number(number) => Ok(Some(SectionFault::NotAnOutput(number.place, None))),
-        Expr::Special { letter, place } => push_special(*letter, *place, outputs),
+        Expr::Special { letter, place } => {
+            if *letter != b'X' {
+                return Ok(Some(SectionFault::MisplacedSpecial(*place)));
+            }
+            outputs.push(None)?;
+            Ok(None)
+        }
         Expr::Name { word, extension } => match extension {
             Some(_) => {
                 let number = number_of(scope, word.text.bytes());

@@ -1,16 +1,16 @@
-//! The bits of an input header.
+//! The bits of an input header, and the product of a row: the literals of its inputs.
 
-ghost use Rattle.std.specs.Prelude.{◌≡◌, None, Some, List, [], ◌∷◌, map, IfOk};
-ghost use Rattle.truth_tables.specs.Prelude.{Node, arena, view, term_nodes, Context, term_of, Keeps, refusal_of, context_for, BuildsNodes, part};
-ghost use Rattle.truth_tables.specs.{IsOver, is_computed, StandForInputs, IsShapedTerm};
+ghost use Rattle.std.specs.Prelude.{◌≡◌, ◌<◌, true, None, Some, List, [], ◌∷◌, length, map, IfOk};
+ghost use Rattle.truth_tables.specs.Prelude.{Node, arena, formula_at, Const, row_literals, view, term_nodes, Context, term_of, Keeps, AreIn, bits_at, unknown_at, refusal_of, context_for, BuildsNodes, IsBit, part};
+ghost use Rattle.truth_tables.specs.{IsOver, is_computed, position_literal, StandForInputs, IsShapedTerm};
 
 use crate::part::{Stand, stand_of};
 use abel_tree::Expr;
-use bit_expr::{ExprId, Exprs};
+use bit_expr::{ExprId, Exprs, Node};
 use equations::unit_bits;
 use pld_base::{OutOfMemory, Place};
 use pld_device::Device;
-use section_targets::{SectionScope, meet};
+use section_targets::{SectionScope, add_node, guard_else, meet};
 use set_expr::{Scope, SectionFault, Shape, Shaped};
 use std::alloc::{AllocError, Global};
 
@@ -88,4 +88,50 @@ pub(crate) fn header_bits<D: Device>(
     let shaped = unit_bits::<D>(alloc, scope, header, unit, exprs)?;
     let positions = shaped_positions(alloc, scope.scope(), header, shaped)?;
     Ok(positions)
+}
+
+/// What was found before, and a position of the header at a level; one that is X counts for nothing, and X matches both
+/// levels.
+fn with_position(
+    exprs: &mut Exprs,
+    found: ExprId,
+    position: Option<ExprId>,
+    level: Option<bool>,
+    unit: Place,
+) -> Result<ExprId, SectionFault>
+    requires found { found.0 < length (arena exprs.old) }
+    requires position { AreIn (length (arena exprs.old)) (position ∷ []) }
+    ensures builds { BuildsNodes (part unit (position_literal (arena exprs.old) (formula_at (arena exprs.old) found) position level).nodes ∷ []) exprs.old exprs.new result }
+    ensures bit { IfOk result (λ id. IsBit (arena exprs.new) id (position_literal (arena exprs.old) (formula_at (arena exprs.old) found) position level).what) }
+{
+    match (position, level) {
+        (Some(bit), Some(on)) => {
+            if on {
+                add_node(exprs, Node::And(found, bit), unit)
+            } else {
+                guard_else(exprs, found, bit, unit)
+            }
+        }
+        (Some(_), None) => Ok(found),
+        (None, _) => Ok(found),
+    }
+}
+
+/// The product of the literals of a row's levels at the positions of the input header, both from the left.
+pub(crate) fn row_product(
+    exprs: &mut Exprs,
+    header: &[Option<ExprId>],
+    levels: &[Option<bool>],
+    unit: Place,
+) -> Result<ExprId, SectionFault>
+    requires { AreIn (length (arena exprs.old)) header.now }
+    ensures builds { BuildsNodes (part unit (row_literals (Const true) (unknown_at header.now) (bits_at (arena exprs.old) header.now) levels.now).nodes ∷ []) exprs.old exprs.new result }
+    ensures bit { IfOk result (λ id. IsBit (arena exprs.new) id (row_literals (Const true) (unknown_at header.now) (bits_at (arena exprs.old) header.now) levels.now).what) }
+{
+    let mut found = ExprId(1);
+    let count = header.len().min(levels.len());
+    for index in 0..count {
+        found = with_position(exprs, found, header[index], levels[index], unit)?;
+    }
+    Ok(found)
 }

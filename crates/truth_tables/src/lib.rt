@@ -1,26 +1,21 @@
 //! Truth tables: entries of rows, what is refused, and what the rows contribute.
 #![tactic(auto)]
 
-mod checked_headers;
 mod checked_rows;
 mod entries;
 mod giving;
-mod header_names;
 mod headings;
 mod inputs;
 mod inside;
 mod mark;
 mod part;
 mod parts;
-mod products;
-mod pulses;
 mod rows;
-mod signals;
 mod tables;
 mod wholes;
 
 pub use entries::{Entry, read_entry};
 pub use giving::{Assigning, Matching, give_no_matches, give_output};
 pub use mark::Mark;
-pub use signals::header_signals;
+pub use parts::header_signals;
 pub use tables::walk_table;

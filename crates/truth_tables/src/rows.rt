@@ -6,8 +6,7 @@ ghost use Rattle.truth_tables.specs.{GivesRow, HasInputs, IsAccepted, WalksRow, 
 
 use crate::checked_rows::{RowFound, read_row};
 use crate::giving::{Assigning, Matching, give_positions};
-use crate::inputs::header_bits;
-use crate::products::row_product;
+use crate::inputs::{header_bits, row_product};
 use abel_tree::{Row, Table};
 use bit_expr::{ExprId, Exprs};
 use pld_base::{OutOfMemory, Place};

@@ -1,39 +1,64 @@
-//! The walk over truth tables.
+//! The walk over truth tables, and what is refused of their headers.
 
-ghost use Rattle.std.specs.Prelude.{OnOk};
-ghost use Rattle.truth_tables.specs.{IsAccepted, WalksHeaded, WalksNoMatches, WalksTable};
+ghost use Rattle.std.specs.Prelude.{◌≡◌, List, ◌++◌, IfOk, OnOk};
+ghost use Rattle.truth_tables.specs.Prelude.{view, Context, IsContextOf, Manner, AreFirsts};
+ghost use Rattle.truth_tables.specs.{output_header, assigned_by, some_aims, IsAccepted, IsWholeHeader, WalksHeaded, WalksTable};
 
-use crate::checked_headers::read_header;
 use crate::giving::{Assigning, give_no_matches};
+use crate::headings::push_outputs;
 use crate::rows::{Headed, walk_row};
-use abel_tree::Table;
-use pld_base::OutOfMemory;
+use abel_tree::{Table, earlier};
+use pld_base::{ListOf, OutOfMemory};
 use pld_device::Device;
-use section_targets::{SectionScope, Walked};
-use set_expr::Guard;
-use std::alloc::Global;
+use section_targets::{Aim, Assigned, SectionScope, Walked, Way, check_aims};
+use set_expr::{Guard, Scope, SectionFault};
+use std::alloc::{AllocError, Global};
 
-/// No match for each output.
-fn walk_outputs<D: Device>(headed: &Headed<'_, D>, out: &mut Walked) -> Result<(), OutOfMemory>
-    requires accepted { IsAccepted D.table headed.now }
-    ensures { OnOk result (WalksNoMatches D.table headed.now out.old out.new) }
+/// What is found of a header: its first refusal, and its outputs position by position from the left, None at X.
+#[derive(Drop)]
+pub(crate) struct Header {
+    pub outputs: ListOf<Option<Aim>>,
+    pub fault: Option<SectionFault>,
+}
+
+/// The outputs alone.
+fn list_aims(alloc: Global, outputs: &[Option<Aim>]) -> Result<Vec<Aim>, AllocError>
+    ensures { IfOk result (λ aims. aims.items ≡ some_aims outputs.now) }
 {
-    if out.fault.is_some() {
-        return Ok(());
+    outputs.iter().filter_map(|output| *output).collect(alloc)
+}
+
+/// Both sides of a table's header, whose outputs are assigned behind what was assigned before: the first refusal, and
+/// the outputs. How they are assigned is noted. Calls go as deep as the nestings of sets and parentheses.
+pub(crate) fn read_header<D: Device>(
+    alloc: Global,
+    scope: &Scope<'_>,
+    table: &Table,
+    before: &mut Assigned,
+) -> Result<Header, OutOfMemory>
+    ensures header { IfOk result (λ h. (d : Context) (all : List Manner) → IsContextOf D.table scope.now d → AreFirsts before.old all → IsWholeHeader d all table.now h) }
+    ensures before { OnOk result ((d : Context) (all : List Manner) → IsContextOf D.table scope.now d → AreFirsts before.old all → AreFirsts before.new (all ++ assigned_by table.now.clocked (output_header d (view table.now.outputs)))) }
+{
+    let inputs = scope.check(alloc, &table.inputs)?;
+    let mut outputs = Vec::new(alloc);
+    let refused = push_outputs(alloc, scope, &table.outputs, &mut outputs)?;
+    if refused.is_some() {
+        return Ok(Header {
+            outputs: ListOf::from_vec(outputs),
+            fault: earlier(inputs.fault, refused),
+        });
     }
-    let assigning = Assigning {
-        unit: headed.table.place,
-        guard: headed.guard,
-        clocked: headed.table.clocked,
+    let aims = list_aims(alloc, outputs.as_slice())?;
+    let way = Way {
+        extension: None,
+        complement: false,
+        clocked: table.clocked,
     };
-    let made = give_no_matches(
-        headed.scope.scope(),
-        assigning,
-        headed.outputs,
-        &mut out.exprs,
-        &mut out.list,
-    );
-    out.keep_limit(made)
+    let mixed = check_aims::<D>(scope, way, aims.as_slice(), before)?;
+    Ok(Header {
+        outputs: ListOf::from_vec(outputs),
+        fault: earlier(inputs.fault, mixed),
+    })
 }
 
 /// A table whose header isn't refused: no match for each output, so that each has some contribution of the block, and
@@ -46,7 +71,22 @@ fn walk_headed<D: Device>(
     requires accepted { IsAccepted D.table headed.now }
     ensures { OnOk result (WalksHeaded D.table headed.now out.old out.new) }
 {
-    walk_outputs::<D>(headed, out)?;
+    if out.fault.is_none() {
+        let assigning = Assigning {
+            unit: headed.table.place,
+            guard: headed.guard,
+            clocked: headed.table.clocked,
+        };
+        let names = headed.scope.scope();
+        let made = give_no_matches(
+            names,
+            assigning,
+            headed.outputs,
+            &mut out.exprs,
+            &mut out.list,
+        );
+        out.keep_limit(made)?;
+    }
     let rows = headed.table.rows.as_slice();
     let mut inputs = None;
     for row in rows {

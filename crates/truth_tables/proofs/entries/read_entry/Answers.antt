@@ -1,7 +1,7 @@
 -- Refused inside, no pair left, a pair that doesn't meet, and one that does.
 use Rattle.std.proofs.Common.{◌≡◌, Option, None, Some, [], ◌∷◌, ◌++◌, map, refl, sym, ap, ◌∙◌, subst₂, arith}
 use Rattle.truth_tables.proofs.Common.{common_steps, sample, view, Term, term_of, map_reverse, SectionFault, context_for, Pair, view_mark, IsPair, meeting, seen, part_parts, Walked}
-use Rattle.truth_tables.proofs.PartSums.{part_counted}
+use Rattle.truth_tables.proofs.PartLaws.{part_counted}
 use Rattle.truth_tables.proofs.ReadLaws.{read_met, read_refused, read_unmet}
 use Rattle.truth_tables.proofs.RowsWalked.{is_over}
 use Rattle.truth_tables.proofs.StackLaws.{walk_begun, walk_done, walk_fewer, walk_on, walk_stops}

@@ -1,21 +1,23 @@
 -- A set beside a set, and what is met as a whole.
-use Rattle.std.proofs.Common.{map, subst, subst₂}
-use Rattle.truth_tables.proofs.Common.{IfOk-weaker, members_of, view_member, terms_of, ArePaired, IsPart}
-use Rattle.truth_tables.proofs.PairLaws.{given_not, header_not, sets_met, step_whole}
+use Rattle.std.proofs.Common.{arith, subst}
+use Rattle.truth_tables.proofs.Common.{common_steps, IfOk-weaker, IsPart}
+use Rattle.truth_tables.proofs.PairLaws.{given_not, header_not, sets_met, sets_unmet, step_whole}
 use Rattle.truth_tables.proofs.entries.step.Goals as goal
 
-pub returns-in_ok-entry_parts-in-Set-given : goal.returns-in_ok-entry_parts-in-Set-given
-returns-in_ok-entry_parts-in-Set-given c =
-    IfOk-weaker c.push_pairs.result _ _
-    (λ b p d h e is x y.
-    let stack = c.args.stack.now.items in
-    let later = c.push_pairs.new.stack.items in
+pub returns-then-len : goal.returns-then-len
+returns-then-len c d h e is x y =
     let hs = subst (λ z. IsPart d z h) c.in-Set.is x in
     let es = subst (λ z. IsPart d z e) c.in-Set-given.is y in
-    sets_met d h e c.in-Set.outer c.in-Set-given.inner (terms_of d.known (members_of (map view_member c.in-Set.headers.now))) (terms_of d.known (members_of (map view_member c.in-Set-given.entries.now)))
-    c.in_ok-header_parts-in-Set-given.header_parts.items c.in_ok-entry_parts-in-Set-given.entry_parts.items b stack later c.args.marks.now.items hs.is es.is (c.in_ok-header_parts-in-Set-given.ensures d is) (c.in_ok-entry_parts-in-Set-given.ensures d is)
-    (subst₂ (λ u v. ArePaired u v b stack later) c.as_slice.ensures.value c.as_slice-in-Set-given.ensures.value p))
-    c.push_pairs.ensures
+    sets_unmet d h e _ _ _ _ c.in_ok-headers-in-Set-given.headers.items c.in_ok-entries-in-Set-given.entries.items c.args.stack.now.items c.args.stack.now.items c.args.marks.now.items hs.is es.is (c.in_ok-headers-in-Set-given.ensures d is) (c.in_ok-entries-in-Set-given.ensures d is)
+    (λ l. c.if-len.true (grind (arith, common_steps)))
+
+pub returns-in_ok-extend_from_slice-in-Set-given : goal.returns-in_ok-extend_from_slice-in-Set-given
+returns-in_ok-extend_from_slice-in-Set-given c d h e is x y =
+    let hs = subst (λ z. IsPart d z h) c.in-Set.is x in
+    let es = subst (λ z. IsPart d z e) c.in-Set-given.is y in
+    sets_met d h e _ _ _ _ c.in_ok-headers-in-Set-given.headers.items c.in_ok-entries-in-Set-given.entries.items _ _ c.args.marks.now.items hs.is es.is (c.in_ok-headers-in-Set-given.ensures d is) (c.in_ok-entries-in-Set-given.ensures d is)
+    (grind (arith, common_steps))
+    (grind (arith, common_steps))
 
 pub returns-in_default-given : goal.returns-in_default-given
 returns-in_default-given c =

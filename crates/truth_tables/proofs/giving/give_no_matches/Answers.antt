@@ -31,9 +31,6 @@ returns-in_err-give_position-clause-gives c = λ d e.
     (no_step_at d c.args.assigning.guard c.args.assigning.clocked (record { 0 = 0 }) c.loop-index.index c.args.outputs.now (arena c.args.exprs.now) (at c.args.exprs.now c.args.list.now.items) (at c.loop-index.exprs c.loop-index.list.items) (at c.give_position.new.exprs c.give_position.new.list.items) (Err c.in_err-give_position.field-0.0)
     c.loop-index-test.true refl (c.loop-index.invariant.1 d e) (c.in_err-give_position.ensures.gives d e))
 
-pub returns-clause-keeps : goal.returns-clause-keeps
-returns-clause-keeps c = c.loop-index.invariant.0
-
 pub returns-clause-gives : goal.returns-clause-gives
 returns-clause-gives c = λ d e.
     left_done _ _ (at c.args.exprs.now c.args.list.now.items) (at c.loop-index.exprs c.loop-index.list.items)

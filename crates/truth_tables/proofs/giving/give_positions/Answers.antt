@@ -37,9 +37,6 @@ returns-in_err-give_position-clause-gives c = λ d e.
     (positions_step_at d m.assigning.guard m.assigning.clocked m.bit c.loop-index.index c.args.outputs.now c.args.levels.now fs (at c.args.exprs.now c.args.list.now.items) (at c.loop-index.exprs c.loop-index.list.items) (at c.give_position.new.exprs c.give_position.new.list.items) (Err c.in_err-give_position.field-0.0)
     lt (kept_formula fs (arena c.loop-index.exprs) m.bit c.loop-index.invariant.0 c.requires.bit) (c.loop-index.invariant.1 d e) (c.in_err-give_position.ensures.gives d e))
 
-pub returns-clause-keeps : goal.returns-clause-keeps
-returns-clause-keeps c = c.loop-index.invariant.0
-
 pub returns-clause-gives : goal.returns-clause-gives
 returns-clause-gives c = λ d e.
     let m = c.args.matching.now in

@@ -1,13 +1,10 @@
 -- What each variant is refused as, and one member or name more.
 use Rattle.std.proofs.Common.{◌≡◌, ◌+◌, ◌-◌, ◌++◌, Some, [], ◌∷◌, length, refl, ap, ap₂, sym, ◌∙◌, subst, take, map, arith}
-use Rattle.truth_tables.proofs.Common.{length-append, IfOk-weaker, sample, AName, ASet, members_of, view, view_member, NotAnOutput, first_place, context_for, front_more, whole_front, find, range_names, name_items, found_in, view_name, view_number, view_set, view_span, view_unary, view_binary, header_of, header_name, header_range, header_set, output_header, output_member, output_members, IsAdded}
+use Rattle.truth_tables.proofs.Common.{length-append, IfOk-weaker, sample, AName, ASet, members_of, view, view_member, NotAnOutput, first_place, context_for, front_more, whole_front, find, range_names, name_items, found_in, view_name, view_set, view_span, view_binary, header_name, header_range, header_set, output_header, output_member, output_members, IsAdded}
 use Rattle.section_targets.specs.TargetSignals.{first_name}
-use Rattle.truth_tables.proofs.HeaderLaws.{added_more, added_none, added_refused, added_whole, members_more, range_more}
+use Rattle.truth_tables.proofs.HeaderLaws.{added_more, added_refused, added_whole, members_more, range_more}
 use Rattle.truth_tables.proofs.RowsWalked.{is_over}
 use Rattle.truth_tables.proofs.headings.+headings.Goals as goal
-
-pub push_outputs-returns-in-Number : goal.push_outputs-returns-in-Number
-push_outputs-returns-in-Number t c d is = added_refused d _ _ _ _ c.args.outputs.now.items (ap view c.in-Number.is ∙ view_number c.in-Number.number) refl refl
 
 pub push_outputs-returns-in-Some : goal.push_outputs-returns-in-Some
 push_outputs-returns-in-Some t c d is =
@@ -44,17 +41,11 @@ push_outputs-returns-in-None-extension t c =
     (subst (λ ms. IsAdded (header_set c.in-Set.place (output_members d (members_of (map view_member ms)))) f old now) c.as_slice.ensures (k d is)))
     c.push_set.ensures
 
-pub push_outputs-returns-in-Unary : goal.push_outputs-returns-in-Unary
-push_outputs-returns-in-Unary t c d is = added_refused d _ _ _ _ c.args.outputs.now.items (ap view c.in-Unary.is ∙ view_unary c.in-Unary.sign c.in-Unary.place c.in-Unary.inner) refl refl
-
 pub push_outputs-returns-in-Binary : goal.push_outputs-returns-in-Binary
 push_outputs-returns-in-Binary t c d is =
     let v = ap view c.in-Binary.is ∙ view_binary c.in-Binary.sign c.in-Binary.place c.in-Binary.left c.in-Binary.right in
     added_refused d _ _ _ _ c.args.outputs.now.items v refl
     (c.refuse_operator.ensures ∙ ap (λ es. NotAnOutput (first_place (view c.args.expr.now)) (first_name es (view c.args.expr.now))) (sym is.names) ∙ ap (λ e. NotAnOutput (first_place e) (first_name d.names e)) v)
-
-pub push_member-loop-text-init : goal.push_member-loop-text-init
-push_member-loop-text-init t c d is = added_none (header_of []) _ c.args.outputs.now.items refl refl
 
 pub push_member-loop-text-preserved : goal.push_member-loop-text-preserved
 push_member-loop-text-preserved t c d is =
@@ -78,9 +69,6 @@ push_member-returns-after-loop-text t c d is =
     ∙ (ap (map name_items) c.deref-text-items.ensures.value ∙ (c.in_ok-texts-in-Span.ensures ∙ ap₂ range_names c.bytes.ensures c.bytes-in-Span.ensures)) in
     subst (λ m. IsAdded (output_member d m) c.loop-text.fault old now) (sym (ap view_member c.in-Span.is ∙ view_span c.in-Span.first c.in-Span.last))
     (subst (λ names. IsAdded (header_range d c.in-Span.first.place names) c.loop-text.fault old now) all (c.loop-text.invariant d is))
-
-pub push_set-loop-member-init : goal.push_set-loop-member-init
-push_set-loop-member-init t c d is = added_none (header_of []) _ c.args.outputs.now.items refl refl
 
 pub push_set-loop-member-preserved : goal.push_set-loop-member-preserved
 push_set-loop-member-preserved t c d is =

@@ -1,7 +1,7 @@
 -- One member or name more, and all of them.
 use Rattle.std.proofs.Common.{◌≡◌, ◌+◌, [], ◌∷◌, ◌++◌, map, take, sym, ap, ap₂, ◌∙◌}
 use Rattle.truth_tables.proofs.Common.{entries_of, earlier, first_refusal, first_append, range_names, members_of, view, view_member, name_found, names_found, name_items, section_order, front_more, whole_front, refused_inside, all_refused_inside, member_refused_inside, names_refused, view_span}
-use Rattle.truth_tables.proofs.EntryParts.{inside_more, inside_set, names_more}
+use Rattle.truth_tables.proofs.ReadLaws.{inside_more, inside_set, names_more}
 use Rattle.truth_tables.proofs.inside.+inside.Goals as goal
 
 pub refuse_inside-loop-member-preserved : goal.refuse_inside-loop-member-preserved

@@ -62,9 +62,6 @@ pub give_positions-requires-clause-signals : goal.give_positions-requires-clause
 give_positions-requires-clause-signals g c =
     subst (λ (n : Names). AreNamed (length (entries_of n)) (some_aims c.args.headed.now.outputs.now)) (sym c.scope.ensures) c.requires.accepted.signals
 
-pub give_positions-requires-clause-bit : goal.give_positions-requires-clause-bit
-give_positions-requires-clause-bit g c = c.in_ok-bit.ensures.bit.0
-
 pub returns-clause-gives : goal.returns-clause-gives
 returns-clause-gives g c =
     let v = g.D.Device.table in

@@ -4,9 +4,6 @@ use Rattle.truth_tables.proofs.Common.{BuildsNodes, part, HasInputs, nodes_left}
 use Rattle.truth_tables.proofs.ProductLaws.{free_nodes}
 use Rattle.truth_tables.proofs.rows.inputs_of.Goals as goal
 
-pub header_bits-requires : goal.header_bits-requires
-header_bits-requires g c = record { accepted = c.requires.accepted.inputs }
-
 pub returns-in-Some-clause-builds : goal.returns-in-Some-clause-builds
 returns-in-Some-clause-builds g c =
     subst (λ m. BuildsNodes (part c.args.unit (nodes_left g.D.Device.table c.args.headed.now m) ∷ []) c.args.exprs.now c.args.exprs.now (Ok c.in-Some.bits)) (sym c.in-Some.is) (free_nodes c.args.unit c.in-Some.bits c.args.exprs.now)

@@ -1,22 +1,34 @@
 -- No match for each output, one row more, and all rows.
-use Rattle.std.proofs.Common.{◌≡◌, ◌+◌, ◌++◌, [], ◌∷◌, map, take, refl, sym, ap, ◌∙◌, subst}
-use Rattle.truth_tables.proofs.Common.{arena, view_row, view_guard, front_more, whole_front, nodes_behind, row_work, rows_work, WalksWork, design_of, headed_work, inputs_nodes, no_matches_work, Work, before}
+use Rattle.std.proofs.Common.{◌≡◌, ◌+◌, ◌++◌, not, [], ◌∷◌, length, map, take, refl, sym, ap, ◌∙◌, subst}
+use Rattle.truth_tables.proofs.Common.{arena, Names, entries_of, AreNamed, some_aims, view_row, view_guard, front_more, whole_front, nodes_behind, row_work, rows_work, WalksWork, design_of, headed_work, inputs_nodes, no_matches_work, Work, before}
 use Rattle.truth_tables.proofs.RowWorks.{none_behind, rows_more}
-use Rattle.truth_tables.proofs.RowsWalked.{none_left, work_then}
+use Rattle.truth_tables.proofs.RowsWalked.{free_refused, no_fault, none_left, work_made, work_then}
 use Rattle.truth_tables.proofs.WorkLaws.{before_assoc, before_none}
+use Rattle.truth_tables.proofs.tables.walk_headed.Goals.{then-is_none+in_ok-keep_limit, else-is_none}
 use Rattle.truth_tables.proofs.tables.walk_headed.Goals as goal
+
+pub give_no_matches-made-requires : goal.give_no_matches-made-requires
+give_no_matches-made-requires g c =
+    subst (λ (n : Names). AreNamed (length (entries_of n)) (some_aims c.args.headed.now.outputs.now)) (sym c.scope-names.ensures) c.requires.accepted.signals
 
 pub loop-row-init : goal.loop-row-init
 loop-row-init g c =
+    let v = g.D.Device.table in
+    let h = c.args.headed.now in
     let old = c.args.out.now in
+    let w = no_matches_work v h old in
+    let free : WalksWork w old c.if-is_none.out = elim c.if-is_none.branch [
+      | then-is_none+in_ok-keep_limit b ↦ subst (WalksWork w old) (sym b.out-is)
+          (work_made w old (record old { exprs = b.give_no_matches-made.new.exprs; list = b.give_no_matches-made.new.list }) b.keep_limit.new.self b.give_no_matches-made.result
+          (no_fault old.fault (c.is_none.ensures ∙ ap not b.if-is_none.true)) (no_fault old.fault (c.is_none.ensures ∙ ap not b.if-is_none.true)) refl refl
+          (b.give_no_matches-made.ensures.gives (design_of v h) (ap entries_of (sym b.scope-names.ensures))) b.in_ok-keep_limit.ensures)
+      | else-is_none b ↦ subst (WalksWork w old) (sym b.out-is) (free_refused w.gives w.places old (c.is_none.ensures ∙ ap not b.if-is_none.false))
+    ] in
     record {
-      walks = subst (λ (w : Work). WalksWork w old c.walk_outputs.new.out) (sym (before_none (no_matches_work g.D.Device.table c.args.headed.now old))) c.in_ok-walk_outputs.ensures;
+      walks = subst (λ (w : Work). WalksWork w old c.if-is_none.out) (sym (before_none w)) free;
       inputs = tt;
       left = λ e. refl;
     }
-
-pub walk_row-requires-clause-inputs : goal.walk_row-requires-clause-inputs
-walk_row-requires-clause-inputs g c = c.loop-row.invariant.inputs
 
 pub loop-row-preserved : goal.loop-row-preserved
 loop-row-preserved g c =

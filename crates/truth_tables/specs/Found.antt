@@ -1,11 +1,27 @@
--- What is found of the rows of a table (ABEL-HDL Reference Manual, truth tables).
-use Rattle.std.specs.Prelude.{◌≡◌, Bool, Option, None, List, map}
-use Rattle.truth_tables.specs.Prelude.{first_refusal, Tree, RowTree, Context, entry_levels, level_of_mark, Term, term_of, SectionFault, section_order}
+-- What is found of headers and rows (ABEL-HDL Reference Manual, truth tables).
+use Rattle.std.specs.Prelude.{◌≡◌, Option, List, ◌++◌, Bool, None, map}
+use Rattle.truth_tables.specs.Prelude.{Table, first_refusal, view, Context, section_order, SectionFault, Aim, Manner, Tree, RowTree, entry_levels, level_of_mark, Term, term_of}
+use Rattle.truth_tables.specs.OutputHeaders.{HeaderFound, output_header}
+use Rattle.truth_tables.specs.TableUnits.{header_refused, level_refused, row_refused}
+use Rattle.truth_tables.specs.declared.tables.Header.{Header}
 use Rattle.truth_tables.specs.declared.mark.Mark.{Mark}
 use Rattle.truth_tables.specs.EntryMarks.{view_mark}
-use Rattle.truth_tables.specs.TableUnits.{level_refused, row_refused}
 use Rattle.truth_tables.specs.declared.checked_rows.Levels.{Levels}
 use Rattle.truth_tables.specs.declared.checked_rows.RowFound.{RowFound}
+
+-- ---- headers
+
+-- what is refused of a part of a header, whose outputs are appended
+pub record IsAdded (x : HeaderFound) (f : Option SectionFault) (old new : List (Option Aim)) : Type 0 where
+  pub fault : f ≡ first_refusal section_order x.refusals
+  pub outputs : new ≡ old ++ x.outputs
+
+-- what is found of both sides of a table's header behind what was assigned before
+pub record IsWholeHeader (d : Context) (before : List Manner) (t : Table) (h : Header) : Type 0 where
+  pub fault : h.fault ≡ first_refusal section_order (header_refused d before t.clocked (view t.inputs) (view t.outputs))
+  pub outputs : h.outputs ≡ (output_header d (view t.outputs)).outputs
+
+-- ---- rows
 
 -- the levels of marks, none at X
 abbrev pub levels_of : List Mark → List (Option Bool)

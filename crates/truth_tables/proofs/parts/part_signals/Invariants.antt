@@ -1,7 +1,7 @@
 -- The parts on the stack have their signals before those that were listed; each step leaves fewer parts.
 use Rattle.std.proofs.Common.{reverse}
 use Rattle.truth_tables.proofs.Common.{sum_by, entries_of, Context, Term, known_of, IsOver, part_parts, IsPart, listing, Walked}
-use Rattle.truth_tables.proofs.signals.part_signals.Given as goal
+use Rattle.truth_tables.proofs.parts.part_signals.Given as goal
 
 abbrev pub invariant-loop-top : goal.invariant-loop-top
 invariant-loop-top l =

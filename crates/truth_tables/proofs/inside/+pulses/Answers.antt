@@ -1,8 +1,8 @@
 -- The names of a range, one member more, and all members.
 use Rattle.std.proofs.Common.{◌≡◌, ◌+◌, ◌||◌, [], ◌∷◌, ◌++◌, map, take, sym, ap, ap₂, ◌∙◌}
 use Rattle.truth_tables.proofs.Common.{list_any, entries_of, range_names, members_of, view, view_member, name_items, names_found, view_span, front_more, whole_front, is_pulse_named, holds_pulse, any_holds_pulse, member_holds_pulse}
-use Rattle.truth_tables.proofs.EntryParts.{any_named, holds_more, holds_set}
-use Rattle.truth_tables.proofs.pulses.+pulses.Goals as goal
+use Rattle.truth_tables.proofs.ReadLaws.{any_named, holds_more, holds_set}
+use Rattle.truth_tables.proofs.inside.+pulses.Goals as goal
 
 pub member_holds-returns-in_ok-names-in-Span : goal.member_holds-returns-in_ok-names-in-Span
 member_holds-returns-in_ok-names-in-Span t c =

@@ -3,7 +3,7 @@ use Rattle.std.proofs.Common.{◌≡◌, None, List, ◌++◌, map, refl, sym, a
 use Rattle.truth_tables.proofs.Common.{entries_of, earlier, first_append, view, Context, context_of, expression_found, SumsUp, section_order, Aim, AreNamed, AreFirsts, aims_refused, manner_of, output_header, if_none, outputs_refused, some_aims, unless_refused}
 use Rattle.truth_tables.proofs.HeaderLaws.{added_clear, added_outputs, first, refused_alone, refused_nothing}
 use Rattle.truth_tables.proofs.OutputPositions.{outputs_inside, header_signals}
-use Rattle.truth_tables.proofs.checked_headers.read_header.Goals as goal
+use Rattle.truth_tables.proofs.tables.read_header.Goals as goal
 
 pub returns-then-is_some-clause-header : goal.returns-then-is_some-clause-header
 returns-then-is_some-clause-header g c d all is a =

@@ -1,7 +1,7 @@
 -- What holds one of them on the way down, and among a set's members.
 use Rattle.std.proofs.Common.{◌≡◌, ◌||◌, ◌+◌, ◌*◌, ◌≤◌, map, take}
 use Rattle.truth_tables.proofs.Common.{size-Expr, size-Member, entries_of, members_of, view, view_member, names_found, holds_pulse, any_holds_pulse}
-use Rattle.truth_tables.proofs.pulses.+pulses.Given as goal
+use Rattle.truth_tables.proofs.inside.+pulses.Given as goal
 
 abbrev pub decreases-holds_pulse : goal.decreases-holds_pulse
 decreases-holds_pulse l = 2 * size-Expr l.expr.now + 1

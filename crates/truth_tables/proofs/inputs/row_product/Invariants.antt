@@ -1,7 +1,7 @@
 -- The literals of so many positions are joined.
 use Rattle.std.proofs.Common.{true, drop}
 use Rattle.truth_tables.proofs.Common.{arena, Const, IsJoined, literals}
-use Rattle.truth_tables.proofs.products.row_product.Given as goal
+use Rattle.truth_tables.proofs.inputs.row_product.Given as goal
 
 abbrev pub invariant-loop-index : goal.invariant-loop-index
 invariant-loop-index l =

@@ -2,7 +2,7 @@
 use Rattle.std.proofs.Common.{◌<◌, ◌≤◌, [], ◌∷◌, Ok, Err, get_or, min, length, None, refl, arith}
 use Rattle.truth_tables.proofs.Common.{err_from_is_err_and, arena, keeps_longer}
 use Rattle.truth_tables.proofs.ProductLaws.{in_at, in_longer, joined_at, joined_done, joined_start}
-use Rattle.truth_tables.proofs.products.row_product.Goals as goal
+use Rattle.truth_tables.proofs.inputs.row_product.Goals as goal
 
 pub loop-index-init : goal.loop-index-init
 loop-index-init c = joined_start c.args.exprs.now c.args.unit _ c.args.header.now c.args.levels.now refl

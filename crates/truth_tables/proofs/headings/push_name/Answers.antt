@@ -3,7 +3,7 @@ use Rattle.std.proofs.Common.{◌≡◌, ℕ, ◌++◌, Option, None, Some, List
 use Rattle.truth_tables.proofs.Common.{find, none_refused, Context, term_named, Place, SectionFault, NotAnOutput, found_use, name_found, names_found, SumsUp, section_order, Names, entries_of, Aim, IsOver, AreSignals, header_name, named_outputs, outputs_at, refused_header, IsAdded, found_in}
 use Rattle.set_expr.specs.declared.checked.Checked.{Checked}
 use Rattle.truth_tables.proofs.HeaderLaws.{added_none, named_listed, named_other, named_refused}
-use Rattle.truth_tables.proofs.header_names.push_name.Goals as goal
+use Rattle.truth_tables.proofs.headings.push_name.Goals as goal
 
 over : (n : Names) (d : Context) (k : Checked) (p : Place) (w : List ℕ) → IsOver n d → SumsUp k (found_use p (name_found (names_found (entries_of n)) w)) → SumsUp k (found_use p (name_found (names_found d.names) w))
 over n d k p w is s = subst (λ es. SumsUp k (found_use p (name_found (names_found es) w))) (sym is.names) s

@@ -1,10 +1,10 @@
 -- No part is left, a part that is something else, and one that isn't.
 use Rattle.std.proofs.Common.{◌≡◌, [], ◌∷◌, ◌++◌, reverse, sym, ap, ◌∙◌, subst₂, arith}
 use Rattle.truth_tables.proofs.Common.{common_steps, sample, context_for, part_parts, IsPart, listing, Walked}
-use Rattle.truth_tables.proofs.PartSums.{part_counted}
+use Rattle.truth_tables.proofs.PartLaws.{part_counted}
 use Rattle.truth_tables.proofs.RowsWalked.{is_over}
 use Rattle.truth_tables.proofs.StackLaws.{walk_begun, walk_done, walk_fewer, walk_on, walk_stops}
-use Rattle.truth_tables.proofs.signals.part_signals.Goals as goal
+use Rattle.truth_tables.proofs.parts.part_signals.Goals as goal
 
 pub loop-top-init : goal.loop-top-init
 loop-top-init c d t is p =
