@@ -1,6 +1,5 @@
 -- Transitions of the code at each kind.
-use Rattle.std.proofs.Common.{◌≡◌, rules}
-use Rattle.std.specs.Prelude.{option_map}
+use Rattle.std.proofs.Common.{◌≡◌, rules, option_map}
 use Rattle.state_diagrams.proofs.Common.{the_lemmas, CaseArm, Goal, If, AnIf, ACase, other_of, view, view_arm, view_choice, case_choices, case_place, view_goal, view_if}
 use Rattle.abel_tree.specs.declared.diagrams.Arm.TheVariants as arm
 use Rattle.abel_tree.specs.declared.diagrams.Case.{Case}

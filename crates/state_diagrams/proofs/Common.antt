@@ -1,6 +1,6 @@
 -- The words that the proofs of this crate are said in, passed on from one place. Declares nothing.
 pub use Rattle.std.proofs.Math.Seq.{drop-append_seam, drop-cons, take-length}
-pub use Rattle.std.proofs.lemmas.List.{at_drop_more, drop_all, get_or-map, length-map, length-reverse, map-append}
+pub use Rattle.std.proofs.lemmas.List.{at_drop_more, drop_all, get_or-map, length-map, length-reverse, map-append, reverse-append}
 pub use Rattle.std.proofs.lemmas.List.Elements.{All-append, All-map}
 pub use Rattle.std.proofs.lemmas.Result.{err_from_is_err_and, on_ok_weaker}
 pub use Rattle.std.specs.List.{list_any}
@@ -12,7 +12,7 @@ pub use Rattle.abel_meaning.specs.CountedNodes.{choice_nodes, condition_of, guar
 pub use Rattle.abel_meaning.specs.Designs.{Context, context_of}
 pub use Rattle.abel_meaning.specs.Diagrams.{branch_gives, branches_give, choices_give, first_of_each, goal_gives, in_state, is_other, is_state, once, other_gives, other_matches, registers_equal, registers_given, state_gives, state_matches, states_give, with_statements}
 pub use Rattle.abel_meaning.specs.FormulaBits.{bits_of, formulas}
-pub use Rattle.abel_meaning.specs.Numbers.{Number, Set, Single, Value, digits, digits_low_first, number_with, one_bit, width_of}
+pub use Rattle.abel_meaning.specs.Numbers.{Number, Set, Single, Value, digits, digits_low_first, number_with, width_of}
 pub use Rattle.abel_meaning.specs.Statements.{else_gives, given_each, sign_gives, statement_gives, statements_give}
 pub use Rattle.abel_meaning.specs.Tables.{match_of, no_matches}
 pub use Rattle.abel_meaning.specs.Targets.{some_signals, targets_of}
@@ -66,7 +66,6 @@ pub use Rattle.set_expr.specs.Answer.{IsShaped, Keeps, bits_at, positions, refus
 pub use Rattle.set_expr.specs.Contexts.{context_for}
 pub use Rattle.set_expr.specs.FoundNames.{expression_found}
 pub use Rattle.set_expr.specs.Given.{view_contribution, view_guard}
-pub use Rattle.set_expr.specs.KnownNames.{SumsUp}
 pub use Rattle.set_expr.specs.Refusals.{Found}
 pub use Rattle.set_expr.specs.SectionOrder.{section_order}
 pub use Rattle.set_expr.specs.declared.contributions.Contribution.{Contribution}
@@ -77,5 +76,5 @@ pub use Rattle.set_expr.specs.declared.fault.SectionFault.TheVariants.{BadState,
 pub use Rattle.truth_tables.proofs.RowsWalked.{no_fault, not_clear, some_refused}
 pub use Rattle.truth_tables.proofs.WorkLaws.{AfterStep, DoesWork, IsLeft, left_done, left_step}
 pub use Rattle.truth_tables.specs.Works.{IsDone, Work, before}
-pub use Rattle.state_diagrams.specs.{AreRegisters, BuildsConditions, IsState, MakesBit, StandsFor, WalksBranch, WalksBranches, WalksChoices, WalksConditions, WalksStates, WalksUnder, WalksUnit, WalksValue, WalksWithin, WalksWork, aims_places, all_zero, arm_guards, bare_read, branch_manners, branch_work, branches_manners, branches_work, case_arms, case_choices, case_place, case_unit, choices_manners, choices_refused, choices_work, context_of_machine, diagram_manners, given_by, goal_parts, goal_places, goal_unit, goal_work, header_work, if_none, is_among, is_empty, is_state_of, level_of, listed_after, listed_if, listed_with, literals, manners_behind, match_beside, matches_beside, no_block, number_guard, other_branch_places, other_firsts, other_manners, other_places, others_work, places_by, pushed_beside, pushed_for, pushed_if, regarded, register_literal, register_manners, registers_refused, registers_work, seen_if, signals_of, state_bit, state_bits, state_guard, state_manners, state_number, state_places, state_refused, state_unit, state_value_refused, state_work, states_manners, states_places, states_work, times, units_behind, units_of, units_of_diagram, units_of_other, units_of_states, units_within, view_arms, view_choices, view_goal, view_if, where_holds, within_work}
+pub use Rattle.state_diagrams.specs.{AreRegisters, BuildsConditions, IsState, MakesBit, StandsFor, WalksBranch, WalksBranches, WalksChoices, WalksConditions, WalksStates, WalksUnder, WalksUnit, WalksValue, WalksWithin, WalksWork, aims_places, all_zero, arm_guards, bare_read, branch_manners, branch_work, branches_manners, branches_work, case_arms, case_choices, case_place, case_unit, choices_manners, choices_refused, choices_work, context_of_machine, diagram_manners, given_by, goal_parts, goal_places, goal_unit, goal_work, header_work, if_none, is_among, is_empty, is_state_of, listed_after, listed_if, listed_with, manners_behind, match_beside, matches_beside, no_block, number_guard, other_branch_places, other_firsts, other_manners, other_places, others_work, places_by, pushed_beside, pushed_for, pushed_if, regarded, register_literal, register_manners, registers_refused, registers_work, seen_if, signals_of, state_bit, state_bits, state_guard, state_manners, state_number, state_places, state_refused, state_unit, state_value_refused, state_work, states_manners, states_places, states_work, times, units_behind, units_of, units_of_diagram, units_of_other, units_of_states, units_within, view_arms, view_choices, view_goal, view_if, where_holds, within_work}
 pub use Rattle.state_diagrams.specs.declared.machine.Machine.{Machine}

@@ -2,8 +2,7 @@
 -- output, s is the constant 2; each line has one token that counts.
 use Rattle.state_diagrams.proofs.Common.{Place, Kind, APin, AConstant, Words, Entry, Tree, ANumber, ASpecial, AName, ASet, ABinary, SetMember, OneMember, members_of, AnAssign, Branch, AGoal, AnIf, ACase, NoBranch, ABranch, NoChoice, MoreChoices, StateTree, Context, context_of, SectionFault, MisplacedSpecial, BadWidth, NotAnOutput, MixedAssignment, BadState, units_refused, units_of_diagram}
 use Prim.Native.String.{String}
-use Rattle.std.specs.Prelude.{◌≡◌, ℕ, Bool, true, false, None, Some, List, [], ◌∷◌, codes}
-use Rattle.std.proofs.Common.{refl}
+use Rattle.std.proofs.Common.{◌≡◌, ℕ, Bool, true, false, None, Some, List, [], ◌∷◌, codes, refl}
 use Rattle.pld_device.specs.SampleTable.{sample}
 use Rattle.abel_tree.specs.declared.words.Binary.TheVariants as binary
 use Rattle.abel_tree.specs.declared.words.Sign.TheVariants as sign

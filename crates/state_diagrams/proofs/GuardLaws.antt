@@ -1,6 +1,5 @@
 -- The unit of the conditions of CASE with their first refusal, and the guards of its arms.
-use Rattle.std.proofs.Common.{◌≡◌, ℕ, zero, suc, ◌<◌, false, true, Bool, Option, None, Some, List, [], ◌∷◌, ◌++◌, if◌then◌else◌, Result, Ok, length, map, get_or, refl, sym, ap, ◌∙◌, subst, arith}
-use Rattle.std.specs.Prelude.{◌==◌}
+use Rattle.std.proofs.Common.{◌≡◌, ℕ, zero, suc, ◌<◌, false, true, Bool, Option, None, Some, List, [], ◌∷◌, ◌++◌, if◌then◌else◌, Result, Ok, length, map, get_or, refl, sym, ap, ◌∙◌, subst, arith, ◌==◌}
 use Rattle.state_diagrams.proofs.Common.{get_or-map, length-map, Place, ExprId, formula_at, Formula, Const, Names, entries_of, first_refusal, earlier, CaseArm, view, view_choice, choices_of, Tree, Branch, guarded, choices_nodes, choice_nodes, condition_of, guard_then, Context, formulas, Number, Single, Set, Value, Contributions, SectionFault, BadWidth, Guard, refusal_of, view_guard, section_order, expression_found, Found, AreBits, IsBuilt, StopsWith, Builds, part, value_refused, value_width, wrong_width, builds_none, both_empty, left_empty, right_empty, one_unit, two_parts, condition_refused, bits_length, stops_longer, choices_refused, BuildsConditions, arm_guards, case_unit, is_some, Choices, arena, Node, Manner, Walked, AreFirsts, AfterMaking, Walks, earlier_assoc, first_append}
 use Rattle.state_diagrams.proofs.ArmViews.{choice_parts}
 use Rattle.abel_meaning.specs.Numbers.{Shape}

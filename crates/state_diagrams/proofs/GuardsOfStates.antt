@@ -1,6 +1,5 @@
 -- What states give depends on the guard of their diagram only by its block and by whether that is don't-care.
-use Rattle.std.proofs.Common.{◌≡◌, ℕ, Bool, true, false, not, ◌&&◌, cond, List, [], ◌∷◌, ◌++◌, map, Option, None, Some, length, refl, sym, ap, ap₂, ◌∙◌, subst}
-use Rattle.std.specs.Prelude.{filter, ◌==◌, if◌then◌else◌}
+use Rattle.std.proofs.Common.{◌≡◌, ℕ, Bool, true, false, not, ◌&&◌, cond, List, [], ◌∷◌, ◌++◌, map, Option, None, Some, length, refl, sym, ap, ap₂, ◌∙◌, subst, filter, ◌==◌, if◌then◌else◌}
 use Rattle.state_diagrams.proofs.Common.{list_any, map-append, Place, Statement, AnAssign, AWhen, AGroup, ADontCare, Otherwise, NoElse, AnElse, Statements, NoStatement, MoreStatements, statements_of, Branch, AGoal, AnIf, ACase, OtherBranch, NoBranch, ABranch, Choices, NoChoice, MoreChoices, StateTree, Evaluator, condition, Gives, One, contribution, Context, goal_gives, with_statements, branch_gives, other_gives, choices_give, branches_give, is_state, in_state, state_gives, states_give, is_other, once, first_of_each, state_matches, other_matches, sign_gives, given_each, statement_gives, else_gives, statements_give, match_of, targets_of, term_of, match_beside, matches_beside, other_firsts, other_places, times, regarded}
 use Rattle.abel_tree.specs.declared.words.Extension.{Extension}
 use Rattle.abel_tree.specs.Assigned.{target_extension, is_clocked}

@@ -1,6 +1,6 @@
 -- A bit that is made in parts, and the literals of registers, one after another.
-use Rattle.std.proofs.Common.{◌≡◌, ℕ, ◌+◌, ◌<◌, ◌≤◌, Bool, true, List, [], ◌∷◌, Result, Ok, Err, length, drop, get_or, refl, sym, ap, ap₂, ◌∙◌, subst, subst₂, arith}
-use Rattle.state_diagrams.proofs.Common.{at_drop_more, drop_all, length-reverse, Place, ExprId, Node, arena, formula_at, Made, free, ◌>>=◌, Formula, Const, Context, digits, digits_low_first, length_digits, SectionFault, Keeps, Aim, high_bit, two_parts, NoMemory, built_nodes, leaves_nodes, limit_here, stops_longer, MakesBit, bare_read, register_literal, literals, make_literal, kept_formula}
+use Rattle.std.proofs.Common.{◌≡◌, ℕ, ◌/◌, ◌%◌, ◌<◌, Bool, true, List, [], ◌∷◌, ◌++◌, Result, Ok, Err, length, refl, sym, ap, ◌∙◌, subst, subst₂, suc, arith, add-one, length-append, ◌==◌}
+use Rattle.state_diagrams.proofs.Common.{length-reverse, map-append, Place, ExprId, Node, arena, formula_at, Made, free, ◌>>=◌, Formula, Const, Context, digits, digits_low_first, length_digits, SectionFault, Keeps, Aim, high_bit, two_parts, NoMemory, built_nodes, leaves_nodes, limit_here, stops_longer, MakesBit, bare_read, number_guard, register_literal, register_literals, signals_of, make_literal, kept_formula, reverse-append}
 use Rattle.set_expr.specs.declared.fault.SectionFault.TheVariants as fault
 use Rattle.expr_bits.specs.Making.{ShowsOne, IsMade, IsPast}
 use Rattle.expr_bits.proofs.Making.{made_is, grew_none}
@@ -40,49 +40,31 @@ literal_then d p old mid new found bit s b r lt a m =
     let same = kept_formula (arena old) (arena mid) found (bit_keeps p old mid (Ok bit) (bare_read d s) a) lt in
     bit_then p old mid new bit r (bare_read d s) (λ f. make_literal (formula_at (arena old) found) b f) a (subst₂ (λ f h. MakesBit p (make_literal f b h) mid new r) same a.1.1 m)
 
--- one register before others
-literals_first : (d : Context) (f : Formula) (x : Aim) (xs : List Aim) (b : Bool) (bs : List Bool) → literals d f (x ∷ xs) (b ∷ bs) ≡ (register_literal d f x.signal b >>= λ g. literals d g xs bs)
-literals_first d f x xs b bs = made_is (literals d f (x ∷ xs) (b ∷ bs)) (register_literal d f x.signal b >>= λ g. literals d g xs bs) refl (omega arith)
+-- registers with one more on the right
+literals_last : (d : Context) (f : Formula) (ss : List ℕ) (s : ℕ) (bs : List Bool) (b : Bool) → length ss ≡ length bs → register_literals d f (ss ++ s ∷ []) (bs ++ b ∷ []) ≡ (register_literals d f ss bs >>= λ g. register_literal d g s b)
+literals_last d f [] s [] b e = made_is (register_literals d f (s ∷ []) (b ∷ [])) (register_literals d f [] [] >>= λ g. register_literal d g s b) refl (omega arith)
+literals_last d f [] s (c ∷ bs) b e = absurd (omega (arith, e))
+literals_last d f (t ∷ ss) s [] b e = absurd (omega (arith, e))
+literals_last d f (t ∷ ss) s (c ∷ bs) b e =
+    let next = (register_literal d f t c).what in
+    let same = literals_last d next ss s bs b (omega (arith, e)) in
+    made_is (register_literals d f (t ∷ ss ++ s ∷ []) (c ∷ bs ++ b ∷ [])) (register_literals d f (t ∷ ss) (c ∷ bs) >>= λ g. register_literal d g s b)
+    (ap (λ (m : Made Formula). m.what) same) (omega (arith, ap (λ (m : Made Formula). m.nodes) same))
 
--- the bit of what is left, behind a bit that is found
-pub literals_start : (d : Context) (ns later : List Node) (unit : Place) (found : ExprId) (xs : List Aim) (bs : List Bool) (r : Result ExprId SectionFault) → found.0 ≡ 1
-    → MakesBit unit (literals d (formula_at (arena ns) found) xs bs) ns later r → MakesBit unit (literals d (Const true) xs bs) ns later r
-literals_start d ns later unit found xs bs r e m = subst (λ (f : Formula). MakesBit unit (literals d f xs bs) ns later r) (high_bit ns found e).1 m
+more_digits : (w n : ℕ) → digits (suc w) n ≡ digits w (n / 2) ++ (n % 2 == 1) ∷ []
+more_digits w n = reverse-append ((n % 2 == 1) ∷ []) (digits_low_first w (n / 2))
 
-at_index : (d : Context) (f : Formula) (xs : List Aim) (x : Aim) (bs : List Bool) (b : Bool) (i : ℕ) → i < length xs → i < length bs
-    → literals d f (drop i xs) (drop i bs) ≡ (register_literal d f (get_or xs i x).signal (get_or bs i b) >>= λ g. literals d g (drop (i + 1) xs) (drop (i + 1) bs))
-at_index d f xs x bs b i lt le =
-    ap₂ (literals d f) (at_drop_more (λ (ys : List Aim). ys) xs i x lt) (at_drop_more (λ (cs : List Bool). cs) bs i b le)
-    ∙ literals_first d f (get_or xs i x) (drop (i + 1) xs) (get_or bs i b) (drop (i + 1) bs)
+-- so the guard of a number reads its last digit last
+pub guard_last : (d : Context) (xs : List Aim) (x : Aim) (n : ℕ) → number_guard d (signals_of (xs ++ x ∷ [])) n ≡ (number_guard d (signals_of xs) (n / 2) >>= λ f. register_literal d f x.signal (n % 2 == 1))
+guard_last d xs x n =
+    let ss = signals_of xs in
+    let w = length ss in
+    subst (λ (ts : List ℕ). number_guard d ts n ≡ (number_guard d ss (n / 2) >>= λ f. register_literal d f x.signal (n % 2 == 1))) (sym (map-append (λ (a : Aim). a.signal) xs (x ∷ [])))
+    (ap (λ (k : ℕ). register_literals d (Const true) (ss ++ x.signal ∷ []) (digits k n)) (length-append ss (x.signal ∷ []) ∙ add-one w)
+    ∙ ap (λ (bs : List Bool). register_literals d (Const true) (ss ++ x.signal ∷ []) bs) (more_digits w n)
+    ∙ literals_last d (Const true) ss x.signal (digits w (n / 2)) (n % 2 == 1) (sym (length-reverse (digits_low_first w (n / 2)) ∙ length_digits w (n / 2))))
 
--- one register more
-pub literals_next : (d : Context) (mid new later : List Node) (unit : Place) (found id : ExprId) (xs : List Aim) (x : Aim) (bs : List Bool) (b : Bool) (i : ℕ) (r : Result ExprId SectionFault) → i < length xs → i < length bs
-    → MakesBit unit (register_literal d (formula_at (arena mid) found) (get_or xs i x).signal (get_or bs i b)) mid new (Ok id)
-    → MakesBit unit (literals d (formula_at (arena new) id) (drop (i + 1) xs) (drop (i + 1) bs)) new later r
-    → MakesBit unit (literals d (formula_at (arena mid) found) (drop i xs) (drop i bs)) mid later r
-literals_next d mid new later unit found id xs x bs b i r lt le m k =
-    let f = formula_at (arena mid) found in
-    let one = register_literal d f (get_or xs i x).signal (get_or bs i b) in
-    let rest = λ (g : Formula). literals d g (drop (i + 1) xs) (drop (i + 1) bs) in
-    subst (λ (w : Made Formula). MakesBit unit w mid later r) (sym (at_index d f xs x bs b i lt le))
-    (bit_then unit mid new later id r one rest m (subst (λ (g : Formula). MakesBit unit (rest g) new later r) m.1.1 k))
-
-pub literals_stop : (d : Context) (mid new : List Node) (unit : Place) (found : ExprId) (xs : List Aim) (x : Aim) (bs : List Bool) (b : Bool) (i : ℕ) (f : SectionFault) → i < length xs → i < length bs
-    → MakesBit unit (register_literal d (formula_at (arena mid) found) (get_or xs i x).signal (get_or bs i b)) mid new (Err f)
-    → MakesBit unit (literals d (formula_at (arena mid) found) (drop i xs) (drop i bs)) mid new (Err f)
-literals_stop d mid new unit found xs x bs b i f lt le m =
-    let g = formula_at (arena mid) found in
-    subst (λ (w : Made Formula). MakesBit unit w mid new (Err f)) (sym (at_index d g xs x bs b i lt le))
-    (bit_stops unit mid new f (register_literal d g (get_or xs i x).signal (get_or bs i b)) (λ (h : Formula). literals d h (drop (i + 1) xs) (drop (i + 1) bs)) m)
-
--- there is a digit for each register
-pub digits_each : (xs : List Aim) (n : ℕ) (bs : List Bool) → bs ≡ digits (length xs) n → length bs ≡ length xs
-digits_each xs n bs e = ap length e ∙ length-reverse (digits_low_first (length xs) n) ∙ length_digits (length xs) n
-
--- no register is left
-pub literals_done : (d : Context) (ns : List Node) (unit : Place) (found : ExprId) (xs : List Aim) (bs : List Bool) (i : ℕ) → length xs ≤ i → found.0 < length (arena ns)
-    → MakesBit unit (literals d (formula_at (arena ns) found) (drop i xs) (drop i bs)) ns ns (Ok found)
-literals_done d ns unit found xs bs i h lt =
-    let f = formula_at (arena ns) found in
-    subst (λ ys. MakesBit unit (literals d f ys (drop i bs)) ns ns (Ok found)) (sym (drop_all i xs h))
-    (bit_made unit ns ns found (free f) (record { shows = (lt, refl); grew = grew_none (arena ns); within = λ p. omega (arith, p.0) }))
+-- no register makes no node
+pub no_literal : (d : Context) (ns : List Node) (p : Place) (xs : List Aim) (n : ℕ) → length xs ≡ 0 → MakesBit p (number_guard d (signals_of xs) n) ns ns (Ok (record { 0 = 1 }))
+no_literal d ns p [] n e = bit_made p ns ns (record { 0 = 1 }) (free (Const true)) (record { shows = high_bit ns (record { 0 = 1 }) refl; grew = grew_none (arena ns); within = λ p. omega (arith, p.0) })
+no_literal d ns p (x ∷ xs) n e = absurd (omega (arith, e))

@@ -1,6 +1,5 @@
 -- What is pushed is what is meant.
-use Rattle.std.proofs.Common.{◌≡◌, ℕ, ◌<◌, ◌==◌, Bool, true, false, not, ◌&&◌, ◌||◌, cond, List, [], ◌∷◌, ◌++◌, All, map, length, refl, sym, ap, ap₂, ◌∙◌, subst, arith}
-use Rattle.std.specs.Prelude.{filter, if◌then◌else◌}
+use Rattle.std.proofs.Common.{◌≡◌, ℕ, ◌<◌, ◌==◌, Bool, true, false, not, ◌&&◌, ◌||◌, cond, List, [], ◌∷◌, ◌++◌, All, map, length, refl, sym, ap, ap₂, ◌∙◌, subst, arith, filter, if◌then◌else◌}
 use Rattle.state_diagrams.proofs.Common.{map-append, All-append, All-map, Place, ExprId, formula_at, Formula, first_of_each, is_other, Contribution, view_contribution, AreIn, match_beside, matches_beside, other_places, times, is_among, pushed_beside, pushed_if, seen_if, pushed_for}
 use Rattle.std.proofs.lemmas.Bool.{eqb-true}
 use Rattle.std.proofs.lemmas.List.Folds.{list_any-append}

@@ -1,6 +1,6 @@
 -- The number of a value that reads no signal, by its bits where all signals are 0.
-use Rattle.std.proofs.Common.{◌≡◌, ℕ, zero, suc, ◌+◌, ◌*◌, ◌<◌, ◌≤◌, Bool, true, false, ◌||◌, Option, None, Some, List, [], ◌∷◌, length, map, get_or, drop, refl, sym, ap, ap₂, ◌∙◌, subst, arith, length-drop, drop-cons, add-one}
-use Rattle.state_diagrams.proofs.Common.{ExprId, formula_at, Formula, formula_value, Names, entries_of, Tree, none_refused, Context, bits_of, Value, width_of, number_with, Term, Terms, known_of, term_of, term_value, set_value, constant_of, nowhere, binary_value, unary_value, joined_value, number_small, number_of_digits, SectionFault, IsShaped, bits_at, positions, refusal_of, expression_found, section_order, reads_signal, any_reads_signal, all_zero, level_of}
+use Rattle.std.proofs.Common.{◌≡◌, ℕ, suc, ◌<◌, ◌≤◌, Bool, true, false, ◌||◌, Option, None, Some, List, [], ◌∷◌, length, map, refl, sym, ap, ap₂, ◌∙◌, subst, arith}
+use Rattle.state_diagrams.proofs.Common.{ExprId, Formula, formula_value, Names, entries_of, Tree, none_refused, Context, bits_of, Value, width_of, number_with, Term, Terms, known_of, term_of, term_value, set_value, constant_of, nowhere, binary_value, unary_value, joined_value, number_small, number_of_digits, SectionFault, IsShaped, bits_at, positions, refusal_of, expression_found, section_order, reads_signal, any_reads_signal, all_zero}
 use Rattle.std.proofs.Math.Pow.{pow_mono}
 use Rattle.pld_base.specs.Points.{Levels}
 use Rattle.abel_meaning.specs.Numbers as number
@@ -10,7 +10,6 @@ use Rattle.abel_meaning.proofs.TermValues.{HasBits}
 use Rattle.set_expr.specs.declared.shaped.Shape.{Shape}
 use Rattle.set_expr.specs.declared.shaped.Shape.TheVariants as shape
 use Rattle.set_expr.specs.declared.shaped.Shaped.{Shaped}
-use Rattle.set_expr.specs.Answer.{AreIn}
 use Rattle.set_expr.specs.Shapes.{HasShape}
 use Rattle.expr_bits.proofs.Linked.{IsLinkedIf, expression_linked}
 
@@ -41,16 +40,11 @@ mutual
 
 -- ---- the number of positions
 
-levels_at : (fs : List Formula) (ps : List (Option ExprId)) → map (level_of fs) ps ≡ map (formula_value all_zero) (bits_at fs ps)
-levels_at fs [] = refl
-levels_at fs (None ∷ ps) = ap (λ bs. false ∷ bs) (levels_at fs ps)
-levels_at fs (Some id ∷ ps) = ap (λ bs. formula_value all_zero (formula_at fs id) ∷ bs) (levels_at fs ps)
-
 -- the positions of a value that reads no signal, where it is no number of its own
 pub places_say : (d : Context) (fs : List Formula) (s : Shaped) (t : Term) → reads_signal t ≡ false → IsShaped fs s (constant_of d t) (bits_of d t).what
-    → ((n : ℕ) → s.shape ≡ shape.Number n → ⊥) → number_with (map (level_of fs) s.places) ≡ (constant_of d t).number
+    → ((n : ℕ) → s.shape ≡ shape.Number n → ⊥) → number_with (map (formula_value all_zero) (bits_at fs s.places)) ≡ (constant_of d t).number
 places_say d fs s t still h other =
-    ap number_with (levels_at fs s.places ∙ ap (map (formula_value all_zero)) h.bits) ∙ by_shape v.shape refl has
+    ap (λ w. number_with (map (formula_value all_zero) w)) h.bits ∙ by_shape v.shape refl has
   where
     v : Value
     v = constant_of d t
@@ -71,14 +65,6 @@ places_say d fs s t still h other =
     by_shape number.Single e k = ap number_with k.1 ∙ number_of_digits 1 v.number k.0
     by_shape (number.Set w) e k = ap number_with k.1 ∙ number_of_digits w v.number k.0
 
--- each position lies in the arena
-pub in_at : (count : ℕ) (ps : List (Option ExprId)) (i : ℕ) (o : Option ExprId) → AreIn count ps → i < length ps → AreIn count (get_or ps i o ∷ [])
-in_at count [] i o h lt = absurd (omega (arith, lt))
-in_at count (None ∷ ps) zero o h lt = tt
-in_at count (Some id ∷ ps) zero o h lt = (h.0, tt)
-in_at count (None ∷ ps) (suc i) o h lt = in_at count ps i o h (omega (arith, lt))
-in_at count (Some id ∷ ps) (suc i) o h lt = in_at count ps i o h.1 (omega (arith, lt))
-
 -- ---- few positions
 
 narrow_if : (d : Context) (o : Option Value) (xs : List SectionFault) (t : Term) → (o ≡ None → ⊥) → IsLinkedIf d o xs t → width_of (constant_of d t).shape ≤ 32
@@ -97,17 +83,16 @@ few_positions (shape.Number n) v h w = omega arith
 few_positions shape.Single v h w = omega arith
 few_positions (shape.Set k) v h w = subst (λ x. width_of x ≤ 32) h w
 
--- ---- one digit more from the top
+-- all but one of 32 positions make a number that can be doubled
+counted : (fs : List Formula) (ps : List (Option ExprId)) → length (map (formula_value all_zero) (bits_at fs ps)) ≡ length ps
+counted fs [] = refl
+counted fs (None ∷ ps) = ap suc (counted fs ps)
+counted fs (Some id ∷ ps) = ap suc (counted fs ps)
 
-pub digit_more : (bs : List Bool) (k : ℕ) (b : Bool) → k < length bs → b ≡ get_or bs k b → number_with (drop k bs) ≡ number.one_bit b + 2 * number_with (drop (k + 1) bs)
-digit_more bs k b lt e =
-    ap number_with (drop-cons bs k b lt ∙ ap (λ x. x ∷ drop (suc k) bs) (sym e))
-    ∙ ap (λ n. number.one_bit b + 2 * number_with (drop n bs)) (sym (add-one k))
-
--- so far it is small
-pub still_small : (bs : List Bool) (k : ℕ) → length bs ≤ 32 → 0 < k → k ≤ length bs → number_with (drop k bs) < 2147483648
-still_small bs k few pos le =
-    let small = number_small (drop k bs) in
-    let size : length (drop k bs) ≤ 31 = omega (arith, length-drop k bs) in
+pub rest_small : (fs : List Formula) (ps : List (Option ExprId)) → length ps ≤ 31 → number_with (map (formula_value all_zero) (bits_at fs ps)) < 2147483648
+rest_small fs ps few =
+    let bs = map (formula_value all_zero) (bits_at fs ps) in
+    let small = number_small bs in
+    let size : length bs ≤ 31 = omega (arith, counted fs ps, few) in
     let power = pow_mono size in
     omega (arith, small, power)

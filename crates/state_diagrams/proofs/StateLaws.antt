@@ -1,6 +1,5 @@
 -- What is refused of registers and of the values of states.
-use Rattle.std.proofs.Common.{◌≡◌, ℕ, ◌^◌, Bool, true, false, not, ◌&&◌, nat_lt, Option, None, Some, List, [], ◌∷◌, ◌++◌, if◌then◌else◌, refl, ap, ◌≤◌, length, map, sym, ◌∙◌, subst, append-nil}
-use Rattle.std.specs.Prelude.{◌==◌}
+use Rattle.std.proofs.Common.{◌≡◌, ℕ, ◌^◌, Bool, true, false, not, ◌&&◌, nat_lt, Option, None, Some, List, [], ◌∷◌, ◌++◌, if◌then◌else◌, refl, ap, ◌≤◌, length, map, sym, ◌∙◌, subst, append-nil, ◌==◌}
 use Rattle.state_diagrams.proofs.Common.{list_any, Place, Tree, StateTree, none_refused, Context, term_of, known_of, SectionFault, BadState, Found, section_order, reads_signal, Manner, manners_behind, register_manners, if_none, is_empty, is_state_of, listed_after, listed_with, state_number, state_refused, state_value_refused, listed_if, Aim, AreNamed, aims_refused, manner_of, TargetFound, target_member, unless_any, AreRegisters}
 use Rattle.state_diagrams.proofs.GuardLaws.{first}
 use Rattle.section_targets.specs.declared.sides.Side.{Side}

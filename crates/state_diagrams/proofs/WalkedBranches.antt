@@ -1,12 +1,11 @@
 -- Walks over transitions, part by part.
-use Rattle.std.proofs.Common.{◌≡◌, ℕ, ◌+◌, ◌<◌, Bool, true, Option, None, Some, List, [], ◌∷◌, ◌++◌, length, map, drop, get_or, refl, sym, ap, ◌∙◌, subst}
+use Rattle.std.proofs.Common.{◌≡◌, ℕ, ◌+◌, ◌<◌, Bool, true, Option, None, Some, List, [], ◌∷◌, ◌++◌, length, map, drop, get_or, refl, sym, ap, ◌∙◌, subst, option_map}
 use Rattle.state_diagrams.proofs.Common.{at_drop_more, Place, Table, arena, Formula, Goal, Tree, Branch, AnIf, ACase, OtherBranch, NoBranch, ABranch, Choices, choices_of, view, guarded, has_other, choice_nodes, condition_of, Context, other_gives, formulas, Guard, Keeps, view_guard, expression_found, Aim, Manner, Walked, AreFirsts, value_refused, Walks, walks_then, walks_none, AreBothGuards, WalksCondition, WalksStatements, case_unit, branch_manners, branches_manners, choices_manners, other_manners, signals_of, units_of_other, Machine, StandsFor, WalksBranch, WalksBranches, WalksChoices, WalksConditions, WalksValue, context_of_machine, branch_work, branches_work, choices_work, goal_unit, other_branch_places, Work, before, CountedUnit, Stmt, view_stmt, Statements, with_statements, statements_manners, view_goal, view_if, is_some, Arm, If, other_of, view_arm}
 use Rattle.abel_meaning.specs.Contributions as meant
 use Rattle.equations.specs.declared.choices.BothGuards.{BothGuards}
 use Rattle.equations.specs.Builds.{condition_unit}
 use Rattle.state_diagrams.proofs.AnyGuards.{chosen_guard, kept_guard, statements_under, statements_work, still_firsts, under_any, under_then, unit_then, unit_under, walked_clear}
 use Rattle.state_diagrams.proofs.GuardLaws.{Choice}
-use Rattle.std.specs.Prelude.{option_map}
 use Rattle.state_diagrams.proofs.ArmViews.{if_parts}
 
 -- ---- goals

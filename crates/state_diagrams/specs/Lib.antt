@@ -11,7 +11,6 @@ pub mod Prelude
 pub mod Registers
 pub mod StateGuards
 pub mod StateValues
-pub mod Still
 unfoldable pub use ArmGuards.*
 unfoldable pub use Arms.*
 unfoldable pub use DiagramPlaces.*
@@ -24,4 +23,3 @@ unfoldable pub use Places.*
 unfoldable pub use Registers.*
 unfoldable pub use StateGuards.*
 unfoldable pub use StateValues.*
-unfoldable pub use Still.*

@@ -5,7 +5,7 @@ pub use Rattle.abel_meaning.specs.CountedNodes.{choice_nodes, condition_of, guar
 pub use Rattle.abel_meaning.specs.Designs.{Context, name_at}
 pub use Rattle.abel_meaning.specs.Diagrams.{branch_gives, branches_give, choices_give, diagram_gives, first_of_each, goal_gives, in_state, is_other, is_state, registers_given, state_gives, states_give, with_others, with_statements}
 pub use Rattle.abel_meaning.specs.FormulaBits.{formulas, make_source}
-pub use Rattle.abel_meaning.specs.Numbers.{digits, number_with, one_bit}
+pub use Rattle.abel_meaning.specs.Numbers.{digits, number_with}
 pub use Rattle.abel_meaning.specs.Terms.{known_of, term_of}
 pub use Rattle.abel_tree.specs.Entries.{entries_of}
 pub use Rattle.abel_tree.specs.FirstRefusal.{first_refusal}
@@ -34,7 +34,7 @@ pub use Rattle.section_targets.specs.ValueWidths.{value_refused}
 pub use Rattle.section_targets.specs.declared.aim.Aim.{Aim}
 pub use Rattle.section_targets.specs.declared.manner.Manner.{Manner}
 pub use Rattle.section_targets.specs.declared.walked.Walked.{Walked}
-pub use Rattle.set_expr.specs.Answer.{Keeps, refusal_of}
+pub use Rattle.set_expr.specs.Answer.{Keeps, bits_at, refusal_of}
 pub use Rattle.set_expr.specs.Contexts.{context_for}
 pub use Rattle.set_expr.specs.FoundNames.{expression_found}
 pub use Rattle.set_expr.specs.Given.{view_guard}

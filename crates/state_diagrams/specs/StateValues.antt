@@ -6,6 +6,7 @@ use Rattle.abel_meaning.specs.Values.{constant_of}
 use Rattle.set_expr.specs.declared.fault.SectionFault.TheVariants.{BadState}
 use Rattle.set_expr.specs.Refusals.{Found}
 use Rattle.abel_tree.specs.declared.diagrams.State.{State}
+use Rattle.pld_base.specs.Points.{Levels, levels_of}
 use Rattle.state_diagrams.specs.declared.values.StateFound.{StateFound}
 
 -- the second refusals where there are none of the first
@@ -49,13 +50,11 @@ pub record IsState (d : Context) (n : ℕ) (listed : List ℕ) (s : StateTree) (
   pub fault : f.fault ≡ first_refusal section_order (state_refused d n listed s)
   pub number : f.fault ≡ None → f.number ≡ state_number d s.value
 
--- nothing is refused inside a state's value, it has no X, and it reads no signal
-pub record IsStill (n : Names) (s : State) : Type 0 where
-  pub refusals : (expression_found (entries_of n) (view s.value)).refusals ≡ []
-  pub specials : (expression_found (entries_of n) (view s.value)).specials ≡ []
-  pub still : reads_signal (term_of (known_of (entries_of n)) (view s.value)) ≡ false
-
 -- a state is listed where it isn't refused
 abbrev pub listed_if : Option SectionFault → (listed : List ℕ) → ℕ → List ℕ
 listed_if None listed m = listed ++ m ∷ []
 listed_if (Some f) listed m = listed
+
+-- the levels where all signals are 0, which a value that reads none may be taken at
+abbrev pub all_zero : Levels
+all_zero = levels_of (record { pins = 0; q = 0; nodes = 0 })

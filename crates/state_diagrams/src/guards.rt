@@ -1,17 +1,15 @@
 //! The bit of a state: a literal for each register, its bare name plain or complemented.
 
 ghost use Rattle.std.specs.Prelude.{◌≡◌, ◌<◌, length, IfOk};
-ghost use Rattle.state_diagrams.specs.Prelude.{arena, formula_at, digits, context_for};
+ghost use Rattle.state_diagrams.specs.Prelude.{arena, formula_at, context_for};
 ghost use Rattle.state_diagrams.specs.{MakesBit, MakesGuard, bare_read, register_literal};
 
-use crate::machine::Machine;
 use bit_expr::{ExprFault, ExprId, Exprs, Node};
 use expr_bits::read_signal;
-use pld_base::{OutOfMemory, Place};
+use pld_base::Place;
 use pld_device::Device;
-use section_targets::{SectionScope, add_node, guard_else};
+use section_targets::{Aim, SectionScope, add_node, guard_else};
 use set_expr::SectionFault;
-use std::alloc::Global;
 
 /// A register that is to read a digit.
 #[derive(Clone, Copy, PartialEq, Eq)]
@@ -55,42 +53,29 @@ fn with_register<D: Device>(
     }
 }
 
-/// The digits of a number in so many positions, from the left.
-fn state_digits(alloc: Global, number: u32, width: usize) -> Result<Vec<bool>, OutOfMemory>
-    ensures { IfOk result (λ bs. bs.items ≡ digits width number) }
-{
-    let mut found = Vec::new(alloc);
-    let mut rest = number;
-    for index in 0..width {
-        found.push(rest % 2 == 1)?;
-        rest /= 2;
-    }
-    found.reverse();
-    Ok(found)
-}
-
 /// The bit that is 1 where the bare name of each register reads its digit of a number, from the left, as a part of the unit
-/// at a place.
+/// at a place. Calls go as deep as there are registers.
 ///
 /// The digits left of the number are 0, and those that no register holds don't count. `NodeLimit` stands at the unit's place.
 /// ABEL-HDL Reference Manual, state diagrams.
 pub(crate) fn state_guard<D: Device>(
-    alloc: Global,
-    machine: &Machine<'_, D>,
+    scope: &SectionScope<'_, D>,
+    registers: &[Aim],
     number: u32,
     unit: Place,
     exprs: &mut Exprs,
 ) -> Result<ExprId, SectionFault>
-    ensures { MakesGuard D.table machine.now number unit exprs.old exprs.new result }
+    ensures { MakesGuard D.table scope.now registers.now number unit exprs.old exprs.new result }
 {
-    let digits = state_digits(alloc, number, machine.registers.len())?;
-    let mut found = ExprId(1);
-    for index in 0..machine.registers.len() {
-        let literal = Literal {
-            signal: machine.registers[index].signal,
-            digit: digits[index],
-        };
-        found = with_register::<D>(machine.scope, found, literal, unit, exprs)?;
+    match registers.split_last() {
+        None => Ok(ExprId(1)),
+        Some((last, others)) => {
+            let found = state_guard::<D>(scope, others, number / 2, unit, exprs)?;
+            let literal = Literal {
+                signal: last.signal,
+                digit: number % 2 == 1,
+            };
+            with_register::<D>(scope, found, literal, unit, exprs)
+        }
     }
-    Ok(found)
 }

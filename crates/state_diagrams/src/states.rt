@@ -2,7 +2,7 @@
 
 ghost use Rattle.std.specs.Prelude.{◌≡◌, ◌<◌, ◌≤◌, List, [], ℕ, None, length, map, IfOk, OnOk};
 ghost use Rattle.state_diagrams.specs.Prelude.{arena, entries_of, view_state, AreBits, IsBit, context_for, AreNamed};
-ghost use Rattle.state_diagrams.specs.{signals_of, WalksStates, WalksUnit, state_bit, state_bits, IsState, listed_if, listed_after};
+ghost use Rattle.state_diagrams.specs.{signals_of, WalksStates, WalksUnit, state_bit, state_bits, IsState};
 
 use crate::arms::walk_arms;
 use crate::guards::state_guard;
@@ -16,36 +16,6 @@ use pld_device::Device;
 use section_targets::Walked;
 use set_expr::Guard;
 use std::alloc::Global;
-
-/// A state that isn't refused is listed.
-fn list_state(listed: &mut Vec<u32>, found: StateFound) -> Result<(), OutOfMemory>
-    ensures { OnOk result (listed.new.items ≡ listed_if found.fault listed.old.items found.number) }
-{
-    match found.fault {
-        Some(_) => Ok(()),
-        None => {
-            listed.push(found.number)?;
-            Ok(())
-        }
-    }
-}
-
-/// The value of a state behind those that are listed; it is listed where it isn't refused.
-fn read_state<D: Device>(
-    alloc: Global,
-    machine: &Machine<'_, D>,
-    listed: &mut Vec<u32>,
-    state: &State,
-) -> Result<StateFound, OutOfMemory>
-    requires few { length machine.now.registers.now ≤ 32 }
-    ensures state { IfOk result (λ f. IsState (context_for D.table machine.now.scope.now) (length (signals_of machine.now.registers.now)) listed.old.items (view_state state.now) f) }
-    ensures listed { OnOk result (listed.new.items ≡ listed_after (context_for D.table machine.now.scope.now) (length (signals_of machine.now.registers.now)) listed.old.items (view_state state.now)) }
-{
-    let width = machine.registers.len();
-    let found = check_value::<D>(alloc, machine.scope, width, listed, state)?;
-    list_state(listed, found)?;
-    Ok(found)
-}
 
 /// The unit of a state: its bit; where something is refused any bit serves.
 fn walk_unit<D: Device>(
@@ -62,7 +32,13 @@ fn walk_unit<D: Device>(
     if out.refuse(found.fault) {
         return Ok(ExprId(1));
     }
-    match state_guard::<D>(alloc, machine, found.number, state.place, &mut out.exprs) {
+    match state_guard::<D>(
+        machine.scope,
+        machine.registers,
+        found.number,
+        state.place,
+        &mut out.exprs,
+    ) {
         Ok(bit) => Ok(bit),
         Err(fault) => {
             out.keep_limit(Err(fault))?;
@@ -87,7 +63,7 @@ pub(crate) fn walk_states<D: Device>(
     let mut listed = Vec::new(alloc);
     let mut bits = Vec::new(alloc);
     for state in states {
-        let found = read_state::<D>(alloc, machine, &mut listed, state)?;
+        let found = check_value::<D>(alloc, machine, &mut listed, state)?;
         let when = walk_unit::<D>(alloc, machine, state, found, out)?;
         let inside = Guard { when, ..guard };
         let stmts = state.statements.as_slice();

@@ -1,14 +1,14 @@
 //! The values of states.
 
-ghost use Rattle.std.specs.Prelude.{◌≡◌, ◌==◌, ◌≤◌, ◌^◌, ℕ, nat_lt, Some, IfOk};
+ghost use Rattle.std.specs.Prelude.{◌≡◌, ◌==◌, ◌≤◌, ◌^◌, ℕ, nat_lt, length, IfOk};
 ghost use Rattle.state_diagrams.specs.Prelude.{list_any, view_state, context_for};
-ghost use Rattle.state_diagrams.specs.{IsState, IsStill};
+ghost use Rattle.state_diagrams.specs.{IsState, listed_if, signals_of};
 
+use crate::machine::Machine;
 use crate::numbers::state_number;
 use abel_tree::State;
 use pld_base::OutOfMemory;
 use pld_device::Device;
-use section_targets::SectionScope;
 use set_expr::SectionFault;
 use std::alloc::Global;
 
@@ -34,66 +34,41 @@ fn is_listed(listed: &[u32], number: u32) -> bool
     listed.iter().any(|other| *other == number)
 }
 
-/// What is found of a refused value.
-fn refused(fault: SectionFault) -> StateFound
-    ensures number { result.number ≡ 0 }
-    ensures fault { result.fault ≡ Some fault }
-{
-    StateFound {
-        number: 0,
-        fault: Some(fault),
-    }
-}
-
-/// A value of which nothing is refused and that reads no signal, at its word.
-fn still_value<D: Device>(
-    alloc: Global,
-    scope: &SectionScope<'_, D>,
-    width: usize,
-    listed: &[u32],
-    state: &State,
-) -> Result<StateFound, OutOfMemory>
-    requires few { width ≤ 32 }
-    requires still { IsStill scope.now state.now }
-    ensures { IfOk result (λ f. IsState (context_for D.table scope.now) width listed.now (view_state state.now) f) }
-{
-    let number = state_number::<D>(alloc, scope, &state.value)?;
-    if fits(number, width) && !is_listed(listed, number) {
-        Ok(StateFound {
-            number,
-            fault: None,
-        })
-    } else {
-        Ok(refused(SectionFault::BadState(state.place)))
-    }
-}
-
-/// The value of a state of so many registers, behind those that are listed: its refusal, or its number.
+/// The value of a state behind those that are listed: its refusal, or its number, which then is listed.
 pub(crate) fn check_value<D: Device>(
     alloc: Global,
-    scope: &SectionScope<'_, D>,
-    width: usize,
-    listed: &[u32],
+    machine: &Machine<'_, D>,
+    listed: &mut Vec<u32>,
     state: &State,
 ) -> Result<StateFound, OutOfMemory>
-    requires few { width ≤ 32 }
-    ensures { IfOk result (λ f. IsState (context_for D.table scope.now) width listed.now (view_state state.now) f) }
+    requires few { length machine.now.registers.now ≤ 32 }
+    ensures state { IfOk result (λ f. IsState (context_for D.table machine.now.scope.now) (length (signals_of machine.now.registers.now)) listed.old.items (view_state state.now) f) }
+    ensures listed { IfOk result (λ f. listed.new.items ≡ listed_if f.fault listed.old.items f.number) }
 {
-    let found = scope.scope().check(alloc, &state.value)?;
-    match found.fault {
-        Some(fault) => Ok(refused(fault)),
-        None => {
-            let bad = SectionFault::BadState(state.place);
-            match found.special {
-                Some(_) => Ok(refused(bad)),
-                None => {
-                    if scope.reads_signal(alloc, &state.value)? {
-                        Ok(refused(bad))
-                    } else {
-                        still_value::<D>(alloc, scope, width, listed, state)
-                    }
-                }
-            }
-        }
+    let found = machine.scope.scope().check(alloc, &state.value)?;
+    if found.fault.is_some() {
+        return Ok(StateFound {
+            number: 0,
+            fault: found.fault,
+        });
     }
+    let bad = StateFound {
+        number: 0,
+        fault: Some(SectionFault::BadState(state.place)),
+    };
+    if found.special.is_some() {
+        return Ok(bad);
+    }
+    if machine.scope.reads_signal(alloc, &state.value)? {
+        return Ok(bad);
+    }
+    let number = state_number::<D>(alloc, machine.scope, &state.value)?;
+    if !fits(number, machine.registers.len()) || is_listed(listed, number) {
+        return Ok(bad);
+    }
+    listed.push(number)?;
+    Ok(StateFound {
+        number,
+        fault: None,
+    })
 }

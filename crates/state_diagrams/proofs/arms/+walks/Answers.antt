@@ -1,6 +1,5 @@
 -- Transitions by their kinds, IF, and one arm of CASE more.
-use Rattle.std.proofs.Common.{◌≡◌, ◌+◌, ◌<◌, Option, ◌∷◌, List, map, drop, get_or, length, refl, ap, sym, ◌∙◌, subst, subst₂, arith, rules}
-use Rattle.std.specs.Prelude.{OnOk, option_map}
+use Rattle.std.proofs.Common.{◌≡◌, ◌+◌, ◌<◌, Option, ◌∷◌, List, map, drop, get_or, length, refl, ap, sym, ◌∙◌, subst, subst₂, arith, rules, OnOk, option_map}
 use Rattle.state_diagrams.proofs.Common.{drop_all, on_ok_weaker, ExprId, arena, formula_at, Formula, Arm, the_lemmas, CaseArm, Branch, choices_of, other_of, view, view_arm, view_choice, condition_of, formulas, Guard, context_for, AreBits, AreIn, kept_formula, kept_inside, walks_none, arm_guards, case_choices, case_place, view_choices, WalksBranch, WalksChoices}
 use Rattle.abel_meaning.specs.Contributions as meant
 use Rattle.state_diagrams.proofs.StateBits.{bits_kept}

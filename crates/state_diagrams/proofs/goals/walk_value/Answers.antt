@@ -1,6 +1,7 @@
 -- A value that is refused or stands behind what is, and one that is made.
 use Rattle.std.proofs.Common.{[], ◌++◌, length, sym, ◌∙◌, subst}
-use Rattle.state_diagrams.proofs.Common.{on_ok_weaker, arena, Names, entries_of, view, value_nodes, expression_found, SumsUp, view_guard, Walked, Builds, context_for, value_refused, value_width, standing, left_empty, value_accepted, whole, unit_clear, unit_made, unit_refused, goal_unit}
+use Rattle.state_diagrams.proofs.Common.{on_ok_weaker, arena, Names, entries_of, view, value_nodes, expression_found, view_guard, Walked, Builds, context_for, value_refused, value_width, standing, left_empty, value_accepted, whole, unit_clear, unit_made, unit_refused, goal_unit}
+use Rattle.set_expr.specs.KnownNames.{SumsUp}
 use Rattle.state_diagrams.proofs.goals.walk_value.Goals as goal
 
 pub returns-then-refuse : goal.returns-then-refuse

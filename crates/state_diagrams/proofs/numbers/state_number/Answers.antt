@@ -1,6 +1,6 @@
 -- A number of its own, and the number of positions.
 use Rattle.std.proofs.Common.{◌≤◌, Option, List, length, map, refl, sym, ap, ◌∙◌, subst}
-use Rattle.state_diagrams.proofs.Common.{ExprId, arena, view, number_with, term_of, constant_of, context_for, level_of}
+use Rattle.state_diagrams.proofs.Common.{ExprId, arena, view, number_with, term_of, constant_of, context_for, formula_value, bits_at, all_zero}
 use Rattle.set_expr.specs.Answer.{AreIn}
 use Rattle.state_diagrams.proofs.NumberLaws.{few_positions, narrow, places_say}
 use Rattle.state_diagrams.proofs.numbers.state_number.Goals as goal
@@ -23,5 +23,5 @@ returns-in-Ok g c =
     let d = context_for g.D.Device.table c.args.scope.now in
     let t = term_of d.known (view c.args.value.now) in
     let fs = arena c.bits.new.exprs in
-    c.places_number.ensures ∙ ap (λ ps. number_with (map (level_of fs) ps)) c.as_slice.ensures
+    c.places_number.ensures ∙ ap (λ ps. number_with (map (formula_value all_zero) (bits_at fs ps))) c.as_slice.ensures
     ∙ places_say d fs c.in-Ok.shaped t c.requires.still c.in-Ok.ensures.shows c.in_default.not-Number

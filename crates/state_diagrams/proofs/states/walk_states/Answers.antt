@@ -1,7 +1,8 @@
 -- One state more, and all of them.
-use Rattle.std.proofs.Common.{◌≡◌, ℕ, ◌+◌, None, List, [], drop, map, take, refl, sym, ap, ◌∙◌, subst, arith}
-use Rattle.state_diagrams.proofs.Common.{drop_all, take-length, ExprId, arena, State, StateTree, view_state, context_for, Guard, front_more, AreBits, walks_none, kept_bit, WalksBranches, WalksStates, Arm, Stmt, kept_inside, view_list, WalksStatements, view_arms, state_bit, state_bits}
+use Rattle.std.proofs.Common.{◌≡◌, ℕ, ◌+◌, None, List, [], drop, length, map, take, refl, sym, ap, ◌∙◌, subst, arith}
+use Rattle.state_diagrams.proofs.Common.{drop_all, take-length, ExprId, arena, State, StateTree, view_state, context_for, Guard, front_more, AreBits, walks_none, kept_bit, WalksBranches, WalksStates, Arm, Stmt, kept_inside, view_list, WalksStatements, view_arms, signals_of, state_bit, state_bits}
 use Rattle.state_diagrams.proofs.AnyGuards.{walked_clear}
+use Rattle.state_diagrams.proofs.StateLaws.{listed_as}
 use Rattle.state_diagrams.proofs.StateBits.{bits_kept, states_more}
 use Rattle.state_diagrams.proofs.WalkedBranches.{rest_at}
 use Rattle.state_diagrams.proofs.WalkedStates.{states_walk, within_plain, within_walk}
@@ -51,7 +52,7 @@ loop-state-preserved g c =
           v.walks later
           (subst (λ (zs : List StateTree). WalksStates t m c.args.guard listed zs mid later) (sym (rest_at view_state states i x c.loop-state-test.true c.state-item.is))
           (states_walk t m c.args.guard listed s (map view_state (drop (i + 1) states)) id mid far new later unit bit within
-          (subst (λ (ls : List ℕ). WalksStates t m c.args.guard ls (map view_state (drop (i + 1) states)) new later) c.in_ok-found.ensures.listed k)));
+          (subst (λ (ls : List ℕ). WalksStates t m c.args.guard ls (map view_state (drop (i + 1) states)) new later) (c.in_ok-found.ensures.listed ∙ listed_as d (length (signals_of xs)) listed s c.in_ok-found.found.number c.in_ok-found.found.fault value.fault value.number) k)));
       bits = λ e.
           let w = within_plain t m inside s far new within in
           let there : far.fault ≡ None = walked_clear far new w e in
