@@ -1,6 +1,5 @@
 -- Where nothing is refused, a register follows Q, or may, only where the device complements behind it.
-use Rattle.std.proofs.Common.{◌≡◌, ◌≢◌, ℕ, zero, suc, ◌+◌, ◌==◌, Bool, true, false, not, ◌&&◌, ◌||◌, if◌then◌else◌, Option, Some, None, List, [], ◌∷◌, ◌++◌, get_or, option_map, refl, sym, ap, ap₂, subst, ◌∙◌, arith, add-zero, suc-add, add-suc, zero-add}
-use Rattle.std.specs.Prelude.{slice_get, unwrap_or}
+use Rattle.std.proofs.Common.{◌≡◌, ◌≢◌, ℕ, zero, suc, ◌+◌, ◌==◌, Bool, true, false, not, ◌&&◌, ◌||◌, if◌then◌else◌, Option, Some, None, List, [], ◌∷◌, ◌++◌, get_or, option_map, refl, sym, ap, ap₂, subst, ◌∙◌, arith, add-zero, suc-add, add-suc, zero-add, slice_get, unwrap_or}
 use Rattle.declared_names.proofs.Common.{All, list_all, and_parts, true≢false, nat_tests, get_or_from_slice_get, slice_get_within, unwrap_or-slice_get, Flip, Table, Assigned, named_of, sections_assign, is_assigned, is_clocked_target, Entry, find, is_signal, is_stored, follows_q, SectionTree, ModuleTree, GivenName, declared_names, no_name, Holds, holds_of, is_held, is_buffer_by_default, is_registered, words_with_kind, with_kind, with_kinds, names_of, none_left, none_right, Targets, is_marked, all_marks, all_declarations, always_inverts, all_buffered, is_register_at, buffers_refused, module_buffers_refused, names_once, read_refusals, name_refusals, BuffersAreAllowed, module_accepted, AreSound}
 use Rattle.std.proofs.lemmas.List.Elements.{All-get_or}
 use Rattle.pld_device.specs.declared.flip.Flip.TheVariants.{Always, AfterRegister, BeforeRegister}

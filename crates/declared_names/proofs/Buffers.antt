@@ -1,7 +1,6 @@
 -- The registers of the names as the table keeps them are those of the names as they are declared.
-use Rattle.std.proofs.Common.{◌≡◌, ℕ, zero, suc, ◌+◌, Bool, false, ◌&&◌, if◌then◌else◌, Option, Some, None, List, [], ◌∷◌, ◌++◌, ◌<◌, map, take, length, get_or, refl, sym, ap, ap₂, ◌∙◌, append_assoc, add-zero, suc-add, add-suc, zero-add}
-use Rattle.std.specs.Prelude.{slice_get}
-use Rattle.declared_names.proofs.Common.{append-nil, get_or_default, take_more, Flip, Table, Assigned, Named, meant, named_after, named_of, sections_assign, is_clocked_target, Kind, APin, ANode, AConstant, ADeviceName, Words, Entry, find, is_signal, ModuleTree, GivenName, Holds, holds_of, is_registered, is_buffer, settled_words, stays_free, with_kinds, with_assigned, NameFault, Buffered, all_declarations, always_inverts, all_buffered, is_register_at, buffers_refused, names_once, module_buffers_refused, buffered_names, number_if, numbered, kept, kept_kind, is_register, register_refused, registers_refused, refused_for}
+use Rattle.std.proofs.Common.{◌≡◌, ℕ, zero, suc, ◌+◌, Bool, false, ◌&&◌, if◌then◌else◌, Option, Some, None, List, [], ◌∷◌, ◌++◌, ◌<◌, map, take, length, get_or, refl, sym, ap, ap₂, ◌∙◌, append_assoc, add-zero, suc-add, add-suc, zero-add, slice_get}
+use Rattle.declared_names.proofs.Common.{append-nil, flat_map-append, get_or_default, take_more, Flip, Table, Assigned, Named, meant, named_after, named_of, sections_assign, is_clocked_target, Kind, APin, ANode, AConstant, ADeviceName, Words, Entry, find, is_signal, ModuleTree, GivenName, Holds, holds_of, is_registered, is_buffer, settled_words, stays_free, with_kinds, with_assigned, NameFault, Buffered, all_declarations, always_inverts, all_buffered, is_register_at, buffers_refused, names_once, module_buffers_refused, buffered_names, number_if, numbered, kept, kept_kind, is_register, register_refused, registers_refused, refused_for}
 use Rattle.pld_base.specs.declared.place.Place.{Place}
 use Rattle.decls.specs.declared.fault.NameFault.TheVariants as fault
 
@@ -50,12 +49,6 @@ declared_at found es n = by (slice_get es n) refl
 
 -- ---- all names
 
-registers_append : (es : List Entry) (bs cs : List Buffered) → registers_refused es (bs ++ cs) ≡ registers_refused es bs ++ registers_refused es cs
-registers_append es [] cs = refl
-registers_append es (b ∷ bs) cs =
-    ap (λ l. register_refused es b ++ l) (registers_append es bs cs)
-    ∙ sym (append_assoc (register_refused es b) (registers_refused es bs) (registers_refused es cs))
-
 -- what a read behind a list's end gives
 abbrev pub no_name : Buffered
 no_name = record { place = record { line = 0; column = 0 }; number = 0 }
@@ -66,7 +59,7 @@ one_more es fs bs k d h =
     let b = get_or bs k d in
     let front = registers_refused es (take k bs) in
     ap (λ l. fs ++ registers_refused es l) (take_more bs k b h ∙ ap (λ x. take k bs ++ x ∷ []) (sym (get_or_default bs k d b h)))
-    ∙ (ap (λ l. fs ++ l) (registers_append es (take k bs) (b ∷ []) ∙ ap (λ l. front ++ l) (append-nil (register_refused es b)))
+    ∙ (ap (λ l. fs ++ l) (flat_map-append (register_refused es) (take k bs) (b ∷ []) ∙ ap (λ l. front ++ l) (append-nil (register_refused es b)))
     ∙ sym (append_assoc fs front (register_refused es b)))
 
 module _ (t : Table) (flip : Flip) (held : Holds) (found : List Assigned) (es : List Entry) where
@@ -82,7 +75,7 @@ module _ (t : Table) (flip : Flip) (held : Holds) (found : List Assigned) (es : 
   buffers_same : (xs : List GivenName) → registers_refused settled (numbered es xs) ≡ buffers_refused found es xs
   buffers_same [] = refl
   buffers_same (x ∷ xs) =
-      registers_append settled (number_if x.place (find es x.name)) (numbered es xs)
+      flat_map-append (register_refused settled) (number_if x.place (find es x.name)) (numbered es xs)
       ∙ ap₂ (λ a b. a ++ b) (one_same x.place (find es x.name)) (buffers_same xs)
 
 -- what is refused of the names of a table is what is refused of the module

@@ -1,24 +1,21 @@
 -- The words that the proofs of this crate are said in, passed on from one place. Declares nothing.
 pub use Rattle.std.proofs.Math.Bool.{and-false, and-true, or-false, or-true, or_assoc, or_self}
-pub use Rattle.std.proofs.Math.Path.{fun_ext}
-pub use Rattle.std.proofs.lemmas.Bool.{and_parts, cases_Bool, cases_lt, eq-eqb, eqb-true, le-ltb, lt-ltb, ne_eqb, or_parts, true≢false}
+pub use Rattle.std.proofs.lemmas.Bool.{and_parts, cases_Bool, cases_lt, eq-eqb, eqb-true, le-ltb, lt-ltb, or_parts, true≢false}
 pub use Rattle.std.proofs.lemmas.Bool.Decides.{nat_tests}
-pub use Rattle.std.proofs.lemmas.Iterator.Adapters.{YieldsList-from_vec, position_from-zero}
-pub use Rattle.std.proofs.lemmas.List.{append-nil, at_drop_all, get_or-take, get_or_default, get_or_past, length-append, length-map, length-replicate, length-set, length-take, map-append, map-id, take_all, take_more}
+pub use Rattle.std.proofs.lemmas.List.{append-nil, at_drop_all, get_or-replicate, get_or-set_other, get_or-take, get_or_default, get_or_past, length-append, length-map, length-replicate, length-set, length-take, map-append, map-id, take_all, take_more}
 pub use Rattle.std.proofs.lemmas.List.Concat.{flat_map-append}
-pub use Rattle.std.proofs.lemmas.List.Folds.{list_any-append, list_any_at}
-pub use Rattle.std.proofs.lemmas.List.Sums.{fold-append}
-pub use Rattle.std.proofs.lemmas.Option.{get_or_from_slice_get, slice_get-get_or, slice_get_within, unwrap_or-slice_get}
+pub use Rattle.std.proofs.lemmas.List.Folds.{find-append, list_any-append, list_any_at}
+pub use Rattle.std.proofs.lemmas.List.Sums.{fails_before_first, fold-append, passes_at_first}
+pub use Rattle.std.proofs.lemmas.Option.{get_or_from_slice_get, slice_get-get_or, slice_get-map, slice_get_read, slice_get_within, unwrap_or-slice_get}
 pub use Rattle.std.proofs.lemmas.Result.{IfOk-weaker, on_ok_weaker}
-pub use Rattle.std.specs.List.{All, flat_map, list_all, list_any, position_from}
+pub use Rattle.std.specs.List.{All, find as first_that, flat_map, list_all, list_any, position_or_len}
 pub use Rattle.std.specs.Str.{bytes_eq}
-pub use Rattle.abel_meaning.specs.Controls.{is_pin}
 pub use Rattle.abel_meaning.specs.Declarations.{GivenName, all_said, are_numbered, declared_names, is_unnumbered}
 pub use Rattle.abel_meaning.specs.Designs.{no_name}
 pub use Rattle.abel_meaning.specs.Held.{Holds, Part, asks_q, held_after, held_by, held_meant, held_of, holds_of, is_held, part_reads, part_shares, parts_read, read_in, read_in_member, read_in_members, read_names, sections_parts}
 pub use Rattle.abel_meaning.specs.Kinds.{is_buffer, is_buffer_by_default, is_registered, names_of, settled_words, stays_free, with_assigned, with_kind, with_kinds, words_with_kind}
 pub use Rattle.abel_tree.proofs.FirstRefusals.{first_push, none_refused}
-pub use Rattle.abel_tree.specs.Assigned.{Assigned, Named, assigned_by, assigned_each, is_assigned, is_clocked, is_clocked_target, meant, named_after, named_of, sections_assign, signals_of, signals_of_name, signals_of_names, target_extension, without_extension}
+pub use Rattle.abel_tree.specs.Assigned.{Assigned, Named, assigned_by, assigned_each, is_assigned, is_clocked as is_clocked_sign, is_clocked_target, meant, named_after, named_of, sections_assign, signals_of, signals_of_name, signals_of_names, target_extension, without_extension}
 pub use Rattle.abel_tree.specs.Entries.{AConstant, ADeviceName, ANode, APin, Entry, Kind, Words, entries_of, find, follows_q, is_signal, is_stored, view_declared}
 pub use Rattle.abel_tree.specs.Extensions.{innermost, is_data, is_raw}
 pub use Rattle.abel_tree.specs.FirstRefusal.{earlier, first_refusal}
@@ -31,9 +28,7 @@ pub use Rattle.abel_tree.specs.declared.names.Names.{Names}
 pub use Rattle.abel_tree.specs.declared.words.Extension.{Extension}
 pub use Rattle.decls.proofs.Accepted.{Accepted, module_accepted}
 pub use Rattle.decls.proofs.NoRefusals.{none_left, none_right}
-pub use Rattle.decls.proofs.Rows.{mapped_more}
 pub use Rattle.decls.proofs.SoundEntries.{AreSound, IsNewPin, sound_alike, sound_at}
-pub use Rattle.decls.proofs.Told.{is_name}
 pub use Rattle.decls.specs.AllDeclarations.{all_declarations}
 pub use Rattle.decls.specs.FaultOrder.{name_order}
 pub use Rattle.decls.specs.NameRefusals.{all_buffered, always_inverts, buffered, buffers_refused, first_name_refusal, is_register_at, module_buffers_refused, name_refusals, names_once, read_refusals}
@@ -43,8 +38,8 @@ pub use Rattle.decls.specs.Shown.{kept, kept_kind}
 pub use Rattle.decls.specs.declared.fault.NameFault.{NameFault}
 pub use Rattle.decls.specs.declared.reading.Buffered.{Buffered}
 pub use Rattle.name_uses.specs.NamesUsed.{UsedName, member_used, members_used, names_used}
+pub use Rattle.name_uses.specs.Parts.{PartTree, parts_in_section}
 pub use Rattle.name_uses.specs.RangeParts.{name_items}
-pub use Rattle.name_uses.specs.Targets.{targets_in}
 pub use Rattle.name_uses.specs.Viewed.{PartedSection, view_part, view_section_parts, view_use, with_parts, word_at}
 pub use Rattle.pld_device.specs.Table.{Table}
 pub use Rattle.pld_device.specs.declared.flip.Flip.{Flip}

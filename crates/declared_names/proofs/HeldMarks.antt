@@ -1,36 +1,117 @@
--- Marks find which registers are held.
-use Rattle.std.proofs.Common.{◌≡◌, ℕ, suc, ◌==◌, Bool, true, false, ◌||◌, ◌&&◌, if◌then◌else◌, Some, None, List, [], ◌∷◌, ◌++◌, refl, sym, ap, ◌∙◌}
-use Rattle.std.specs.Prelude.{slice_get, bytes_eq}
-use Rattle.declared_names.proofs.Common.{and-false, and-true, fun_ext, Kind, APin, ANode, AConstant, ADeviceName, Entry, is_signal, SectionTree, held_after, held_by, held_meant, held_of, holds_of, Reads, value_of, all_marks, sections_give, uses_read, value_uses, names_used}
+-- What sections hold is what their parts give, and marks find which registers are held.
+use Rattle.std.proofs.Common.{◌≡◌, ℕ, Bool, Option, Some, None, List, ◌++◌, refl, sym, ap, ap₂, ◌∙◌, true, false, ◌||◌, if◌then◌else◌, [], ◌∷◌, map, ◌==◌, ◌&&◌, slice_get}
+use Rattle.declared_names.proofs.Common.{append-nil, flat_map-append, asks_q, read_in, read_in_member, read_in_members, read_names, range_names, Tree, ANumber, ASpecial, AName, ASet, AParen, AUnary, ABinary, SetMember, OneMember, SpanMember, Members, NoMember, MoreMembers, Extension, use_reads, uses_read, innermost, UsedName, member_used, members_used, names_used, flat_map, list_any, list_any-append, Part, part_reads, part_shares, parts_read, sections_parts, target_extension, without_extension, is_raw, SectionTree, Reads, part_gives, sections_give, section_shares, shares_all, PartedSection, with_parts, and-false, and-true, Kind, APin, ANode, AConstant, ADeviceName, Entry, is_signal, held_after, held_by, held_meant, held_of, holds_of, value_of, all_marks, value_uses, PartTree}
+use Rattle.abel_tree.specs.declared.words.Extension.TheVariants as ext
+use Rattle.abel_tree.specs.declared.words.Extension.TheVariants.{Q}
+use Rattle.name_uses.proofs.HoldingParts.{sections_followed}
 use Rattle.abel_meaning.specs.Held.{Held}
 use Rattle.declared_names.proofs.AmongNumbers.{among}
-use Rattle.declared_names.proofs.HeldParts.{sections_read}
-use Rattle.declared_names.proofs.Looked.{after, look, marked_in_the_end, signal_at}
-use Rattle.declared_names.proofs.Passing.{at, strong_alone, weighs}
-use Rattle.declared_names.proofs.UsedNames.{read_used}
+use Rattle.declared_names.proofs.Looked.{Standing, marked_in_the_end}
+use Rattle.declared_names.proofs.Passing.{at, strong_alone}
 
-abbrev name_of : Held → List ℕ
-name_of k = k.name
+-- ---- the names of an expression
 
-abbrev gives : Held → Bool → List ℕ
-gives k as_q = k.signals as_q
+-- an extension counts before that around it
+nearest : (as_q : Bool) (own outer : Option Extension) → asks_q (asks_q as_q outer) own ≡ asks_q as_q (innermost own outer)
+nearest as_q None outer = refl
+nearest as_q (Some ext.Q) outer = refl
+nearest as_q (Some ext.D) outer = refl
+nearest as_q (Some ext.Clk) outer = refl
+nearest as_q (Some ext.Oe) outer = refl
+nearest as_q (Some ext.Ar) outer = refl
+nearest as_q (Some ext.Sp) outer = refl
+nearest as_q (Some ext.Fb) outer = refl
+nearest as_q (Some ext.Pin) outer = refl
 
-abbrev make : List Held → ℕ → Entry → Held
-make ks s e = record { name = e.name; signals = held_meant ks s e.kind }
+module _ {A : Type 0} (of : List ℕ → Bool → List A) (as_q : Bool) where
+  both : (xs ys : List A) (us vs : List UsedName) → xs ≡ uses_read of as_q us → ys ≡ uses_read of as_q vs → xs ++ ys ≡ uses_read of as_q (us ++ vs)
+  both xs ys us vs e f = ap₂ (λ x y. x ++ y) e f ∙ sym (flat_map-append (use_reads of as_q) us vs)
 
-named : (ks : List Held) (s : ℕ) (e : Entry) → name_of (make ks s e) ≡ e.name
-named ks s e = refl
+  mutual
+    pub read_used : (outer : Option Extension) (t : Tree) → read_in of (asks_q as_q outer) t ≡ uses_read of as_q (names_used outer t)
+    read_used outer (ANumber n) = refl
+    read_used outer (ASpecial letter place) = refl
+    read_used outer (AName word e) = ap (of word.text) (nearest as_q e outer) ∙ sym (append-nil (of word.text (asks_q as_q (innermost e outer))))
+    read_used outer (ASet place ms e) = ap (λ q. read_in_members of q ms) (nearest as_q e outer) ∙ members_read (innermost e outer) ms
+    read_used outer (AParen place t) = read_used outer t
+    read_used outer (AUnary sign place t) = read_used outer t
+    read_used outer (ABinary sign place t u) =
+        both (read_in of (asks_q as_q outer) t) (read_in of (asks_q as_q outer) u) (names_used outer t) (names_used outer u) (read_used outer t) (read_used outer u)
 
-looked : (ks : List Held) (name : List ℕ) (as_q : Bool) → held_by ks name as_q ≡ look name_of gives ks name as_q
-looked [] name as_q = refl
-looked (k ∷ ks) name as_q = ap (λ us. if bytes_eq name k.name then k.signals as_q else us) (looked ks name as_q)
+    members_read : (outer : Option Extension) (ms : Members) → read_in_members of (asks_q as_q outer) ms ≡ uses_read of as_q (members_used outer ms)
+    members_read outer NoMember = refl
+    members_read outer (MoreMembers m ms) =
+        both (read_in_member of (asks_q as_q outer) m) (read_in_members of (asks_q as_q outer) ms) (member_used outer m) (members_used outer ms) (member_read outer m) (members_read outer ms)
 
-same_after : (ks : List Held) (s : ℕ) (es : List Entry) → after name_of gives make named ks s es ≡ held_after ks s es
-same_after ks s [] = refl
-same_after ks s (e ∷ es) = same_after (ks ++ make ks s e ∷ []) (suc s) es
+    member_read : (outer : Option Extension) (m : SetMember) → read_in_member of (asks_q as_q outer) m ≡ uses_read of as_q (member_used outer m)
+    member_read outer (OneMember t) = read_used outer t
+    member_read outer (SpanMember first last) = sym (append-nil (read_names of (asks_q as_q outer) (range_names first.text last.text)))
 
-looked_all : (ks : List Held) → held_by ks ≡ look name_of gives ks
-looked_all ks = fun_ext (λ name. fun_ext (looked ks name))
+-- ---- what is read
+
+module _ {A : Type 0} (of : List ℕ → Bool → List A) where
+  each_read : (ps : List Part) → parts_read of ps ≡ flat_map (part_reads of) ps
+  each_read [] = refl
+  each_read (p ∷ ps) = ap (λ us. part_reads of p ++ us) (each_read ps)
+
+  raw : (t : Tree) (b : Bool) → uses_read of false (if b then names_used (Some Q) (without_extension t) else []) ≡ (if b then read_in of true (without_extension t) else [])
+  raw t true = sym (read_used of false (Some Q) (without_extension t))
+  raw t false = refl
+
+  pub sections_read : (xs : List SectionTree) → sections_give Reads of xs ≡ parts_read of (sections_parts xs)
+  sections_read xs =
+      sections_followed (part_gives Reads of) (part_reads of)
+      (record {
+        target = λ sign t. raw t (is_raw (target_extension t));
+        value = λ target t. sym (read_used of false None t);
+        read = λ t. sym (read_used of false None t);
+        outputs = λ clocked t. refl;
+        entry = λ t. refl;
+      })
+      (λ t. refl) xs
+      ∙ sym (each_read (sections_parts xs))
+
+-- ---- what holds all registers
+
+-- one item where a test holds
+abbrev if_so : Bool → List Bool
+if_so b = if b then true ∷ [] else []
+
+abbrev found : List Bool → Bool
+found bs = list_any (λ b. b) bs
+
+found_one : (b : Bool) → found (if_so b) ≡ b
+found_one true = refl
+found_one false = refl
+
+found_each : {B : Type 0} (give : B → List Bool) (test : B → Bool) → ((x : B) → found (give x) ≡ test x) → (xs : List B) → found (flat_map give xs) ≡ list_any test xs
+found_each give test one [] = refl
+found_each give test one (x ∷ xs) = list_any-append (λ b. b) (give x) (flat_map give xs) ∙ ap₂ (λ b c. b || c) (one x) (found_each give test one xs)
+
+pub sections_share : (xs : List SectionTree) → list_any section_shares (map with_parts xs) ≡ list_any part_shares (sections_parts xs)
+sections_share xs =
+    let give = λ (p : PartTree). if_so (shares_all p) in
+    let in_section = λ (x : PartedSection). found_each give shares_all (λ p. found_one (shares_all p)) x.parts in
+    sym (found_each (λ (x : PartedSection). flat_map give x.parts) section_shares in_section (map with_parts xs))
+    ∙ (ap found (sections_followed give (λ p. if_so (part_shares p))
+    (record { target = λ sign t. refl; value = λ target t. refl; read = λ t. refl; outputs = λ clocked t. refl; entry = λ t. refl }) (λ t. refl) xs)
+    ∙ found_each (λ p. if_so (part_shares p)) part_shares (λ p. found_one (part_shares p)) (sections_parts xs))
+
+-- ---- what is marked
+
+abbrev held : Standing Held ℕ
+held = record {
+  name_of = λ k. k.name;
+  gives = λ k as_q. k.signals as_q;
+  make = λ ks s e. record { name = e.name; signals = held_meant ks s e.kind };
+  named = λ ks s e. refl;
+  look = held_by;
+  look_none = λ name as_q. refl;
+  look_first = λ k ks name as_q. refl;
+  after = held_after;
+  after_none = λ ks s. refl;
+  after_more = λ ks s e es. refl;
+}
 
 module _ (es : List Entry) (xs : List SectionTree) (s : ℕ) (x : Entry) (g : slice_get es s ≡ Some x) where
   at_pin : (k : ℕ) (c : Bool) → among s (if c then k ∷ [] else []) ≡ (((k == s) && c) || false)
@@ -38,17 +119,14 @@ module _ (es : List Entry) (xs : List SectionTree) (s : ℕ) (x : Entry) (g : sl
   at_pin k false = ap (λ b. b || false) (sym (and-false (k == s)))
 
   of_kind : (ks : List Held) (k : ℕ) (c : Bool) (kd : Kind)
-      → among s (held_meant ks k kd c) ≡ ((is_signal kd && ((k == s) && (false || c))) || among s (uses_read (look name_of gives ks) c (value_uses Reads (value_of kd))))
+      → among s (held_meant ks k kd c) ≡ ((is_signal kd && ((k == s) && (false || c))) || among s (uses_read (held_by ks) c (value_uses Reads (value_of kd))))
   of_kind ks k c (APin pin negated) = at_pin k c
   of_kind ks k c (ANode node) = at_pin k c
-  of_kind ks k c (AConstant value) = ap (among s) (read_used (held_by ks) c None value) ∙ ap (λ of. among s (uses_read of c (names_used None value))) (looked_all ks)
+  of_kind ks k c (AConstant value) = ap (among s) (read_used (held_by ks) c None value)
   of_kind ks k c ADeviceName = refl
 
   -- the signal is marked strongly in the end where its Q is read, or its raw input is set
   pub is_read : is_signal x.kind ≡ true → (at (all_marks Reads es xs) s).strong ≡ among s (holds_of es xs).signals
   is_read sig =
       strong_alone (is_signal x.kind) (at (all_marks Reads es xs) s) sig
-      ∙ (ap (λ o. weighs (λ c. signal_at o && (false || c)) (at (all_marks Reads es xs) s)) (sym g)
-      ∙ (marked_in_the_end name_of gives make named Reads es s false (λ j. j == s) (λ ks k e c. of_kind ks k c e.kind) xs
-      ∙ (ap (λ of. among s (sections_give Reads of xs)) (ap (look name_of gives) (same_after [] 0 es) ∙ sym (looked_all (held_of es)))
-      ∙ ap (among s) (sections_read (held_by (held_of es)) xs))))
+      ∙ (marked_in_the_end held Reads es s x g false (λ j. j == s) (λ ks k e c. of_kind ks k c e.kind) xs ∙ ap (among s) (sections_read (held_by (held_of es)) xs))

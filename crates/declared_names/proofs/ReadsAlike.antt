@@ -1,9 +1,31 @@
--- What two readings of names say of what is named, where they say the same of each name.
-use Rattle.std.proofs.Common.{◌≡◌, ℕ, Bool, true, false, ◌||◌, ◌&&◌, if◌then◌else◌, Option, Some, None, List, [], ◌∷◌, ◌++◌, refl, sym, ap₂, ◌∙◌}
-use Rattle.declared_names.proofs.Common.{flat_map, list_any, list_any-append, range_names, SectionTree, asks_q, read_names, Follow, Mark, by_mark, part_gives, part_names, reads_to, sections_give, use_reads, uses_read, UsedName}
+-- What a list of names gives: with one item more, and by two readings that say the same of each name.
+use Rattle.std.proofs.Common.{◌≡◌, ℕ, ◌+◌, ◌<◌, Bool, List, [], ◌∷◌, ◌++◌, fold, map, take, length, get_or, sym, ap, ◌∙◌, append_assoc, true, false, ◌||◌, ◌&&◌, if◌then◌else◌, Option, Some, None, refl, ap₂}
+use Rattle.declared_names.proofs.Common.{flat_map, append-nil, flat_map-append, fold-append, read_names, list_any, list_any-append, range_names, SectionTree, asks_q, Follow, Mark, by_mark, part_gives, part_names, reads_to, sections_give, use_reads, uses_read, UsedName, PartTree, parts_in_section}
+use Rattle.decls.proofs.Rows.{mapped_more}
 use Rattle.abel_tree.specs.declared.words.Word.{Word}
 use Rattle.declared_names.proofs.Passing.{weighs}
-use Rattle.name_uses.specs.Parts.{PartTree, parts_in_section}
+
+-- ---- one item more
+
+-- what the items of a list give is folded in, and one item more
+pub folded_next : {S X A B : Type 0} (step : S → X → S) (f : List B → List X) (g : B → List X) → ((xs : List B) (x : B) → f (xs ++ x ∷ []) ≡ f xs ++ g x) → (v : A → B) (old now new : S) (es : List A) (k : ℕ) (e : A)
+    → k < length es → e ≡ get_or es k e → now ≡ fold step old (f (map v (take k es))) → new ≡ fold step now (g (v e)) → new ≡ fold step old (f (map v (take (k + 1) es)))
+folded_next step f g push v old now new es k e h i before more =
+    more
+    ∙ (ap (λ s. fold step s (g (v e))) before
+    ∙ (sym (fold-append step old (f (map v (take k es))) (g (v e))) ∙ ap (fold step old) (sym (ap f (mapped_more v es k e h i) ∙ push (map v (take k es)) (v e)))))
+
+-- where each item gives a list
+pub flat_next : {S X A B : Type 0} (step : S → X → S) (g : B → List X) (v : A → B) (old now new : S) (es : List A) (k : ℕ) (e : A) → k < length es → e ≡ get_or es k e → now ≡ fold step old (flat_map g (map v (take k es)))
+    → new ≡ fold step now (g (v e)) → new ≡ fold step old (flat_map g (map v (take (k + 1) es)))
+flat_next step g = folded_next step (flat_map g) g (λ xs x. flat_map-append g xs (x ∷ []) ∙ ap (λ ys. flat_map g xs ++ ys) (append-nil (g x)))
+
+-- names of a range, one name more
+pub names_push : {A : Type 0} (of : List ℕ → Bool → List A) (strong : Bool) (xs : List (List ℕ)) (x : List ℕ) → read_names of strong (xs ++ x ∷ []) ≡ read_names of strong xs ++ of x strong
+names_push of strong [] x = append-nil (of x strong)
+names_push of strong (y ∷ xs) x = ap (λ us. of y strong ++ us) (names_push of strong xs x) ∙ sym (append_assoc (of y strong) (read_names of strong xs) (of x strong))
+
+-- ---- two readings
 
 pub joined : {A B : Type 0} (p : A → Bool) (q : B → Bool) (xs xt : List A) (ys yt : List B) → list_any p xs ≡ list_any q ys → list_any p xt ≡ list_any q yt → list_any p (xs ++ xt) ≡ list_any q (ys ++ yt)
 joined p q xs xt ys yt e f = list_any-append p xs xt ∙ (ap₂ (λ a b. a || b) e f ∙ sym (list_any-append q ys yt))

@@ -10,6 +10,5 @@ pub use Rattle.abel_tree.specs.Tree.{SectionTree, Tree}
 pub use Rattle.abel_tree.specs.View.{view, view_module}
 pub use Rattle.decls.specs.NameRefusals.{always_inverts, first_name_refusal, name_refusals}
 pub use Rattle.decls.specs.declared.fault.NameFault.{NameFault}
-pub use Rattle.name_uses.specs.Parts.{PartRole, PartTree}
 pub use Rattle.name_uses.specs.Viewed.{PartedSection, view_part, view_use, with_parts}
 pub use Rattle.pld_device.specs.Table.{Table}

@@ -1,7 +1,8 @@
 -- What sections and constants name, as it is marked: what is read with `.Q` behind it is told as what is assigned on the clock
 -- is, and so marks strongly (ABEL-HDL Reference Manual, equations and dot extensions).
-use Rattle.std.specs.Prelude.{◌≡◌, ℕ, Bool, true, false, ◌||◌, Option, None, Some, List, [], ◌∷◌, ◌++◌, if◌then◌else◌, map, length, replicate, slice_get, take}
-use Rattle.declared_names.specs.Prelude.{flat_map, asks_q, read_names, Assigned, is_clocked, target_extension, without_extension, Entry, find, SectionTree, Tree, PartRole, PartTree, PartedSection, with_parts}
+use Rattle.std.specs.Prelude.{◌≡◌, ℕ, Bool, true, false, ◌||◌, Option, None, Some, List, [], ◌∷◌, ◌++◌, if◌then◌else◌, map, length, replicate, slice_get}
+use Rattle.declared_names.specs.Prelude.{flat_map, list_any, is_shared, asks_q, read_names, Assigned, is_clocked, target_extension, without_extension, Entry, find, SectionTree, Tree, PartedSection, with_parts}
+use Rattle.name_uses.specs.Parts.{PartRole, PartTree}
 use Rattle.abel_tree.specs.Extensions.{is_data, is_raw}
 use Rattle.abel_tree.specs.Ranges.{range_names}
 use Rattle.abel_tree.specs.declared.words.Extension.TheVariants.{Q}
@@ -11,7 +12,7 @@ use Rattle.declared_names.specs.declared.following.Follow.TheVariants as follow
 use Rattle.declared_names.specs.declared.marks.Mark.{Mark}
 use Rattle.declared_names.specs.declared.numbers.FirstNames.{FirstNames}
 use Rattle.declared_names.specs.Marking.{all_marked, clear, passed}
-use Rattle.declared_names.specs.Numbered.{IsNumbering, value_at}
+use Rattle.declared_names.specs.Numbered.{IsNumbering, below, value_at}
 use Rattle.name_uses.specs.NamesUsed.{UsedName, names_used}
 use Rattle.name_uses.specs.Parts as role
 use Rattle.name_uses.specs.Targets.{targets_in}
@@ -25,7 +26,7 @@ number_given (Some k) strong = record { signal = k; clocked = strong } ∷ []
 
 -- a name of the first so many
 abbrev pub numbers_read : (limit : ℕ) → List Entry → List ℕ → (strong : Bool) → List Assigned
-numbers_read limit es name strong = number_given (find (take limit es) name) strong
+numbers_read limit es name strong = number_given (below limit (find es name)) strong
 
 -- what a name or a range gives
 abbrev pub reads_to : {A : Type 0} → (List ℕ → Bool → List A) → (strong : Bool) → (first : Word) → (last : Option Word) → List A
@@ -104,6 +105,17 @@ section_gives way of x = flat_map (part_gives way of) x.parts
 
 abbrev pub sections_give : {A : Type 0} → Follow → (List ℕ → Bool → List A) → List SectionTree → List A
 sections_give way of xs = flat_map (section_gives way of) (map with_parts xs)
+
+-- the target of a reset or a preset holds all registers (this project's rule)
+abbrev pub shares_as : PartRole → Tree → Bool
+shares_as (role.Target sign) t = is_shared (target_extension t)
+shares_as _ t = false
+
+abbrev pub shares_all : PartTree → Bool
+shares_all p = shares_as p.role p.tree
+
+abbrev pub section_shares : PartedSection → Bool
+section_shares x = list_any shares_all x.parts
 
 -- ---- marks
 

@@ -1,10 +1,13 @@
--- Names with their kinds, by the marks of what is assigned and what is held.
-use Rattle.std.specs.Prelude.{ℕ, suc, Bool, not, ◌&&◌, ◌||◌, List, [], ◌∷◌, if◌then◌else◌, get_or}
-use Rattle.declared_names.specs.Prelude.{Words, Entry, is_signal, is_registered, is_buffer, is_open, settled_words}
+-- Names with their kinds, by the marks of what is assigned and what is held; and the registers among them that are declared
+-- `buffer` (this project's rule).
+use Rattle.std.specs.Prelude.{ℕ, suc, Bool, not, ◌&&◌, ◌||◌, List, [], ◌∷◌, if◌then◌else◌, get_or, false, Option, None, Some, slice_get}
+use Rattle.declared_names.specs.Prelude.{Words, Entry, is_signal, is_registered, is_buffer, is_open, settled_words, flat_map, Table, NameFault, always_inverts}
 use Rattle.pld_device.specs.declared.flip.Flip.{Flip}
 use Rattle.declared_names.specs.declared.held.Held.{Held}
 use Rattle.declared_names.specs.declared.marks.Mark.{Mark}
 use Rattle.declared_names.specs.Marking.{clear, is_marked}
+use Rattle.decls.specs.declared.fault.NameFault.TheVariants as fault
+use Rattle.decls.specs.declared.reading.Buffered.{Buffered}
 
 -- one kind, one polarity or none, and perhaps DC
 abbrev pub attribute_words : (registered buffer free dc : Bool) → Words
@@ -33,3 +36,22 @@ abbrev pub kinds_by : Flip → List Mark → Held → ℕ → List Entry → Lis
 kinds_by flip ms held s [] = []
 kinds_by flip ms held s (e ∷ es) =
     kind_by flip (get_or ms s clear) (is_held_at held s) e ∷ kinds_by flip ms held (suc s) es
+
+-- ---- registers that are declared `buffer`
+
+-- a signal that is registered
+abbrev pub is_register : Option Entry → Bool
+is_register None = false
+is_register (Some e) = is_signal e.kind && e.words.registered
+
+-- one name that a string with `buffer` is for
+abbrev pub register_refused : List Entry → Buffered → List NameFault
+register_refused es b = if is_register (slice_get es b.number) then fault.BadAttribute b.place ∷ [] else []
+
+-- several
+abbrev pub registers_refused : List Entry → List Buffered → List NameFault
+registers_refused es bs = flat_map (register_refused es) bs
+
+-- where the device always inverts
+abbrev pub refused_for : Table → List Entry → List Buffered → List NameFault
+refused_for t es bs = if always_inverts t then registers_refused es bs else []

@@ -6,7 +6,6 @@ mod declaring;
 mod following;
 mod held;
 mod kinds;
-mod laws;
 mod marks;
 mod numbered;
 mod numbers;
@@ -16,5 +15,4 @@ mod registers;
 
 pub use declaring::declare;
 pub use kinds::settle;
-pub use laws::numbered_names;
-pub use numbered::{are_numbered, is_unnumbered};
+pub use numbered::{are_numbered, is_unnumbered, numbered_names};

@@ -1,7 +1,8 @@
-//! Pins that have no numbers.
+//! Pins that have no numbers, and a law of names, as the contract of a call that does nothing.
 
 ghost use Rattle.std.specs.Prelude.{◌≡◌};
 ghost use Rattle.declared_names.specs.Prelude.{entries_of, view_meaning, are_numbered, is_unnumbered};
+ghost use Rattle.declared_names.specs.{NumberedNamesAreSound, NumberedPinsAreApart};
 
 use abel_tree::{Meaning, Names};
 
@@ -23,3 +24,9 @@ pub fn are_numbered(names: &Names) -> bool
     }
     true
 }
+
+/// Where each pin has a number, names are sound, and no two are one pin. Does nothing.
+pub fn numbered_names()
+    ensures sound { NumberedNamesAreSound }
+    ensures apart { NumberedPinsAreApart }
+{}

@@ -64,8 +64,7 @@ fn part_uses<'a>(
     match follow {
         Follow::Targets => match part.role {
             Role::Target(_) => assigned_uses(alloc, part.expr),
-            Role::Outputs(_) => targets_in(alloc, part.expr),
-            Role::Registers => targets_in(alloc, part.expr),
+            Role::Outputs(_) | Role::Registers => targets_in(alloc, part.expr),
             _ => Ok(Vec::new(alloc)),
         },
         Follow::Reads => match part.role {

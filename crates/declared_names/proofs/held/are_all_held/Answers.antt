@@ -1,7 +1,7 @@
 -- The sections behind a turn are those that are left; what their parts hold is what the sections do.
 use Rattle.std.proofs.Common.{◌≡◌, ◌||◌, suc, true, ◌∷◌, map, drop, drop-cons, sym, ap, ◌∙◌, arith}
 use Rattle.declared_names.proofs.Common.{list_any, at_drop_all, view_module, section_shares, shares_all, view_part, view_section_parts}
-use Rattle.declared_names.proofs.HeldParts.{sections_share}
+use Rattle.declared_names.proofs.HeldMarks.{sections_share}
 use Rattle.declared_names.proofs.held.are_all_held.Goals as goal
 
 pub returns-then-has_shared : goal.returns-then-has_shared

@@ -1,8 +1,9 @@
 -- One name more.
 use Rattle.std.proofs.Common.{[], ◌∷◌, ◌++◌, map, sym, ap, ap₂, ◌∙◌, arith, rules}
-use Rattle.declared_names.proofs.Common.{map-append, map-id, length-append, YieldsList-from_vec, view_declared, kind_by, kinds_by}
+use Rattle.declared_names.proofs.Common.{map-append, map-id, length-append, view_declared, kind_by, kinds_by}
+use Rattle.std.proofs.lemmas.Iterator.Adapters.{YieldsList-from_vec}
 use Rattle.std.proofs.lemmas.Iterator.Consumers.{YieldsList-end}
-use Rattle.declared_names.proofs.Passes.{kinds_more}
+use Rattle.declared_names.proofs.Settling.{kinds_more}
 use Rattle.declared_names.proofs.kinds.settle_all.Goals as goal
 
 pub loop-declared-preserved : goal.loop-declared-preserved

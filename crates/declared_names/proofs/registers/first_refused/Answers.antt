@@ -1,6 +1,5 @@
 -- The running first, one name more: one refusal more where it is a register.
-use Rattle.std.proofs.Common.{◌≤◌, Bool, [], ◌∷◌, ◌++◌, map, take, length, get_or, if◌then◌else◌, sym, ap, ◌∙◌, arith}
-use Rattle.std.specs.Prelude.{Some}
+use Rattle.std.proofs.Common.{◌≤◌, Bool, [], ◌∷◌, ◌++◌, map, take, length, get_or, if◌then◌else◌, sym, ap, ◌∙◌, arith, Some}
 use Rattle.declared_names.proofs.Common.{append-nil, take_all, view_declared, earlier, first_refusal, first_push, name_order, registers_refused}
 use Rattle.decls.specs.declared.fault.NameFault.TheVariants as fault
 use Rattle.declared_names.proofs.Buffers.{no_name, one_more}

@@ -1,20 +1,24 @@
 -- A name is marked where its number is below the limit.
-use Rattle.std.proofs.Common.{sym, ap, ◌∙◌, arith}
-use Rattle.std.specs.Prelude.{option_copied}
-use Rattle.declared_names.proofs.Numbering.{hit_name, no_hit, none_hit}
+use Rattle.std.proofs.Common.{ℕ, Option, None, Some, if◌then◌else◌, sym, ap, ◌∙◌, arith, option_copied}
+use Rattle.declared_names.proofs.Common.{lt-ltb, le-ltb, all_marked, below, number_given}
 use Rattle.declared_names.proofs.numbers.FirstNames.mark_name.Goals as goal
 
 pub returns-then-number-self : goal.returns-then-number-self
 returns-then-number-self c = λ es num.
+    let marks = λ (o : Option ℕ). all_marked c.args.marks.now.items (number_given o c.args.strong) in
+    let n = c.in-Some.number.now in
     c.mark_number.ensures
-    ∙ hit_name c.args.strong c.args.marks.now.items c.args.self.now.limit c.args.name.now es c.in-Some.number.now
-    (sym (num c.args.name.now) ∙ (sym c.get.ensures.value ∙ ap option_copied c.in-Some.is)) c.if-number-self.true
+    ∙ sym (ap (λ o. marks (below c.args.self.now.limit o)) (sym (num c.args.name.now) ∙ (sym c.get.ensures.value ∙ ap option_copied c.in-Some.is))
+    ∙ ap (λ b. marks (if b then Some n else None)) (lt-ltb n c.args.self.now.limit c.if-number-self.true))
 
 pub returns-else-number-self : goal.returns-else-number-self
 returns-else-number-self c = λ es num.
-    no_hit c.args.strong c.args.marks.now.items c.args.self.now.limit c.args.name.now es c.in-Some.number.now
-    (sym (num c.args.name.now) ∙ (sym c.get.ensures.value ∙ ap option_copied c.in-Some.is)) (omega (arith, c.if-number-self.false))
+    let marks = λ (o : Option ℕ). all_marked c.args.marks.now.items (number_given o c.args.strong) in
+    let n = c.in-Some.number.now in
+    sym (ap (λ o. marks (below c.args.self.now.limit o)) (sym (num c.args.name.now) ∙ (sym c.get.ensures.value ∙ ap option_copied c.in-Some.is))
+    ∙ ap (λ b. marks (if b then Some n else None)) (le-ltb n c.args.self.now.limit (omega (arith, c.if-number-self.false))))
 
 pub returns-in_default : goal.returns-in_default
 returns-in_default c = λ es num.
-    none_hit c.args.strong c.args.marks.now.items c.args.self.now.limit c.args.name.now es (sym (num c.args.name.now) ∙ (sym c.get.ensures.value ∙ ap option_copied c.in_default.is))
+    let marks = λ (o : Option ℕ). all_marked c.args.marks.now.items (number_given (below c.args.self.now.limit o) c.args.strong) in
+    sym (ap marks (sym (num c.args.name.now) ∙ (sym c.get.ensures.value ∙ ap option_copied c.in_default.is)))

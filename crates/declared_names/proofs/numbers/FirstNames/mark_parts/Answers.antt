@@ -1,7 +1,7 @@
 -- One part more.
 use Rattle.std.proofs.Common.{map, ap, ap₂, ◌∙◌}
 use Rattle.declared_names.proofs.Common.{all_marked, marked, numbers_read, part_gives, uses_read, view_part, view_use}
-use Rattle.declared_names.proofs.Hits.{flat_next}
+use Rattle.declared_names.proofs.ReadsAlike.{flat_next}
 use Rattle.declared_names.proofs.numbers.FirstNames.mark_parts.Goals as goal
 
 pub loop-part-preserved : goal.loop-part-preserved

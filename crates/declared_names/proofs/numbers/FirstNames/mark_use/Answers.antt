@@ -1,8 +1,7 @@
 -- A name, or each name of a range.
-use Rattle.std.proofs.Common.{◌≡◌, ◌≤◌, map, length, sym, ap, ap₂, ◌∙◌, arith}
-use Rattle.std.specs.Prelude.{option_map}
+use Rattle.std.proofs.Common.{◌≡◌, ◌≤◌, map, length, sym, ap, ap₂, ◌∙◌, arith, option_map}
 use Rattle.declared_names.proofs.Common.{take_all, asks_q, read_names, range_names, all_marked, marked, numbers_read, reads_to, name_items, word_at}
-use Rattle.declared_names.proofs.Hits.{folded_next, names_push}
+use Rattle.declared_names.proofs.ReadsAlike.{folded_next, names_push}
 use Rattle.declared_names.proofs.numbers.FirstNames.mark_use.Goals as goal
 
 pub returns-in_default : goal.returns-in_default

@@ -1,6 +1,6 @@
 -- One name more.
 use Rattle.declared_names.proofs.Common.{marked, numbers_read, use_reads, view_use}
-use Rattle.declared_names.proofs.Hits.{flat_next}
+use Rattle.declared_names.proofs.ReadsAlike.{flat_next}
 use Rattle.declared_names.proofs.numbers.FirstNames.mark_uses.Goals as goal
 
 pub loop-used-preserved : goal.loop-used-preserved

@@ -1,8 +1,7 @@
 -- A constant gives by its mark what is in its value; other names give nothing.
-use Rattle.std.proofs.Common.{◌≡◌, [], Some, false, true, map, get_or, if◌then◌else◌, sym, ap, ap₂, ◌∙◌}
-use Rattle.std.specs.Prelude.{option_map, slice_get}
+use Rattle.std.proofs.Common.{◌≡◌, [], Some, false, true, map, get_or, if◌then◌else◌, sym, ap, ap₂, ◌∙◌, option_map, slice_get}
 use Rattle.declared_names.proofs.Common.{fold-append, on_ok_weaker, view_declared, view, Mark, all_marked, clear, marked, value_at, numbers_read, uses_read, value_uses, view_use}
-use Rattle.declared_names.proofs.Passes.{nothing_given, uses_asked}
+use Rattle.declared_names.proofs.Settling.{nothing_given, uses_asked}
 use Rattle.declared_names.proofs.numbers.FirstNames.pass_last.Goals as goal
 
 pub returns : goal.returns

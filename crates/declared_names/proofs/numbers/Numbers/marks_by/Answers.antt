@@ -1,8 +1,7 @@
 -- Of all names, none of which was marked: what the sections give, and then what constants pass on, one name less each turn.
-use Rattle.std.proofs.Common.{◌≡◌, ◌≤◌, suc, ◌-◌, map, length, sym, ap, ap₂, ◌∙◌, arith}
-use Rattle.std.specs.Prelude.{replicate}
+use Rattle.std.proofs.Common.{◌≡◌, ◌≤◌, suc, ◌-◌, map, length, sym, ap, ap₂, ◌∙◌, arith, replicate}
 use Rattle.declared_names.proofs.Common.{flat_map, length-map, take_all, view_declared, view_module, view_part, view_section_parts, all_marked, clear, marked, passed, given_by, numbers_read, part_gives, section_gives, sections_give}
-use Rattle.declared_names.proofs.Hits.{flat_next}
+use Rattle.declared_names.proofs.ReadsAlike.{flat_next}
 use Rattle.declared_names.proofs.numbers.Numbers.marks_by.Goals as goal
 
 pub loop-section-init : goal.loop-section-init

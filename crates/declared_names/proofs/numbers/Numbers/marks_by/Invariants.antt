@@ -1,6 +1,5 @@
 -- What the sections so far give; then what is left to be passed on.
-use Rattle.std.proofs.Common.{◌≡◌, ◌≤◌, map, length, take}
-use Rattle.std.specs.Prelude.{replicate}
+use Rattle.std.proofs.Common.{◌≡◌, ◌≤◌, map, length, take, replicate}
 use Rattle.declared_names.proofs.Common.{flat_map, view_declared, view_module, view_section_parts, all_marked, clear, passed, all_marks, given_by, numbers_read, section_gives}
 use Rattle.declared_names.proofs.numbers.Numbers.marks_by.Given as goal
 

@@ -1,5 +1,5 @@
-use Rattle.declared_names.proofs.NumberedNames.{numbered_sound, numbered_apart}
-use Rattle.declared_names.proofs.laws.numbered_names.Goals as goal
+use Rattle.declared_names.proofs.Apart.{numbered_sound, numbered_apart}
+use Rattle.declared_names.proofs.numbered.numbered_names.Goals as goal
 
 pub returns-clause-sound : goal.returns-clause-sound
 returns-clause-sound c = numbered_sound
