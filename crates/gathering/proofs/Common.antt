@@ -1,7 +1,10 @@
 -- The words that the proofs of this crate are said in, passed on from one place. Declares nothing.
+pub use Rattle.std.proofs.Math.Bool.{and-false}
 pub use Rattle.std.proofs.lemmas.Bool.{and_parts, cases_Bool, cases_eq, cases_lt, eq-eqb, eqb-true, le-ltb, lt-ltb, ne_eqb, or_cases, or_left, or_right, true≢false}
 pub use Rattle.std.proofs.lemmas.List.{append-nil, drop_all, get_or_append_left, get_or_push, map-append, take_all, take_more}
 pub use Rattle.std.proofs.lemmas.List.Elements.{All-filter, All-head, All-nil, All-push, All-tail, filter-append}
+pub use Rattle.std.proofs.lemmas.List.Folds.{list_all-map, list_any_at}
+pub use Rattle.std.proofs.lemmas.Option.{get_or_from_slice_get, slice_get-get_or}
 pub use Rattle.std.proofs.lemmas.Result.{IfOk-weaker}
 pub use Rattle.std.specs.List.{AllByRecursion, list_all, list_any}
 unfoldable pub use Rattle.std.specs.List.{IsDistinct}
@@ -11,7 +14,7 @@ pub use Rattle.abel_meaning.specs.FormulaBits.{formulas}
 pub use Rattle.abel_meaning.specs.Functions.{both_function, function_of, is_both, is_complement, is_data_in, is_data_to, is_free_elsewhere, is_raw_signal, single_function}
 pub use Rattle.abel_meaning.specs.SignalReads.{HasNoSignalLoop, HasNoSignalPath, IsSignalLoop, IsSignalPath, function_names, given_formulas, is_one_of, is_stored_signal, leaf_by, leaf_of, names_if_any, reset_equation_reads, settles, settles_by, signal_names, signal_reads}
 pub use Rattle.abel_meaning.specs.SoundIds.{IsCellIn, IsControlIn, IsFunctionIn, no_pair, pair_of_cell, pair_of_pin}
-pub use Rattle.abel_tree.specs.Entries.{AConstant, ADeviceName, ANode, APin, Entry, Kind, is_stored, view_declared}
+pub use Rattle.abel_tree.specs.Entries.{ANode, APin, Entry, Kind, is_stored, view_declared}
 pub use Rattle.abel_tree.specs.declared.words.Extension.{Extension}
 pub use Rattle.bit_expr.proofs.ArenaLists.{arena_count, first_formula}
 pub use Rattle.bit_expr.specs.Arena.{IsLeaf, formula_at}

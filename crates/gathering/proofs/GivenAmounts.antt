@@ -1,8 +1,7 @@
 -- What is made of contributions, step by step, is what the language says of them; and what it says of the signal's own it
 -- says of all.
-use Rattle.std.proofs.Common.{◌≡◌, ℕ, ◌<◌, ◌≤◌, ◌-◌, Bool, true, false, not, ◌&&◌, ◌||◌, List, [], ◌∷◌, ◌++◌, length, get_or, take, drop, Option, Some, None, refl, sym, ap, ap₂, ◌∙◌, arith, inl, inr}
-use Rattle.std.specs.Prelude.{filter, fold, is_some, if◌then◌else◌}
-use Rattle.gathering.proofs.Common.{list_any, list_all, cases_Bool, map-append, take_all, filter-append, Control, ExprId, formula_at, Made, make_not, make_or, Formula, Const, Extension, is_control, is_the_control, control_by, control_of, Context, formulas, is_data_to, is_data_in, is_free_elsewhere, is_both, is_complement, is_raw_signal, both_function, single_function, function_of, view_contribution, Contribution, Totals, contributions_in, first_target, target_place, IsFunctionGiven, IsControlGiven, AreGiven, is_for, is_to, is_data_of, is_data_of_polarity, is_free_one, Stands, part_sum, bit_of, IsFunctionIn}
+use Rattle.std.proofs.Common.{◌≡◌, ℕ, ◌<◌, ◌≤◌, ◌-◌, Bool, true, false, not, ◌&&◌, ◌||◌, List, [], ◌∷◌, ◌++◌, length, get_or, take, drop, Option, Some, None, refl, sym, ap, ap₂, ◌∙◌, arith, inl, inr, filter, fold, is_some, if◌then◌else◌}
+use Rattle.gathering.proofs.Common.{list_any, list_all, cases_Bool, map-append, take_all, filter-append, Control, ExprId, formula_at, Made, make_not, make_or, Formula, Const, Extension, is_control, is_the_control, control_by, control_of, Context, formulas, is_data_to, is_data_in, is_free_elsewhere, is_both, is_complement, is_raw_signal, both_function, single_function, function_of, view_contribution, Contribution, Totals, contributions_in, first_target, target_place, IsFunctionGiven, IsControlGiven, AreGiven, is_for, is_to, is_data_of, is_data_of_polarity, is_free_one, Stands, part_sum, bit_of, IsFunctionIn, list_all-map}
 use Rattle.std.proofs.lemmas.List.Sums.{fold-append}
 use Rattle.bit_expr.proofs.FoldingCases.{or_zero_right}
 use Rattle.abel_tree.specs.declared.words.Extension.TheVariants as extension
@@ -14,7 +13,7 @@ use Rattle.gathering.specs.declared.parts.Part.{Part}
 use Rattle.gathering.specs.declared.parts.Part.TheVariants as part
 use Rattle.gathering.specs.declared.sums.Step.{Step}
 use Rattle.gathering.specs.declared.sums.Step.TheVariants as step
-use Rattle.gathering.proofs.SeenLists.{any_map, all_map, filter_own, any_own, all_own, find_own}
+use Rattle.gathering.proofs.SeenLists.{any_map, filter_own, any_own, all_own, find_own}
 use Rattle.gathering.proofs.Standing.{same_seen}
 
 -- ---- sums
@@ -64,7 +63,7 @@ module _ (fs : List Formula) (s : ℕ) (cs : List Contribution) (steps : List St
   free_seen : is_free_elsewhere (contributions_in fs cs) s ≡ (list_any (is_data_of s) cs && list_all (is_free_one s) cs)
   free_seen =
       ap₂ (λ a b. a && b) (any_map (view_contribution fs) (is_data_to s) cs)
-      (all_map (view_contribution fs) (λ c. not (is_data_to s c) || (is_some c.block && c.dontcare)) cs)
+      (list_all-map (λ c. not (is_data_to s c) || (is_some c.block && c.dontcare)) (view_contribution fs) cs)
 
   abbrev unmatched_by : Bool → Formula
   unmatched_by free = if free then (make_not (part_sum (part.Data gives.Match) s (contributions_in fs cs))).what else bit_of steps s (contributions_in fs cs)

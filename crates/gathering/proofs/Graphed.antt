@@ -1,8 +1,6 @@
 -- The graph of links is that of a design's signals.
-use Rattle.std.proofs.Common.{◌≡◌, ℕ, ◌<◌, ◌==◌, Bool, true, false, not, ◌&&◌, ◌||◌, List, length, get_or, map, Option, Some, None, eqb, refl, sym, ap, ◌∙◌, subst, arith}
-use Rattle.std.specs.Prelude.{All, is_some, IsSome, option_map, position, unwrap_or, if◌then◌else◌}
-use Rattle.gathering.proofs.Common.{and_parts, eq-eqb, eqb-true, has, eqb_same, Table, Leaf, Reads, IsLeaf, AreReads, Kind, APin, ANode, AConstant, ADeviceName, Entry, is_stored, Design, name_at, no_name, given_formulas, leaf_by, leaf_of, settles, settles_by, signal_names, signal_reads, is_one_of, reset_equation_reads, is_stored_signal, IsSignalLoop, HasNoSignalLoop, IsSignalPath, HasNoSignalPath, cell_by, Link, has_leaf, has_if_any, leaf_in, is_read_by, link_reads, is_stored_in, AreLeaves, IsFirstChain, HasNoChain, IsRegisterPath, HasNoRegisterPath, is_node_kind, is_linked, IsLinkOf, AreLinks, AssignedHaveCells, reset_names}
-use Rattle.std.proofs.lemmas.List.Folds.{list_any_at}
+use Rattle.std.proofs.Common.{◌≡◌, ℕ, ◌<◌, ◌==◌, Bool, true, false, not, ◌&&◌, ◌||◌, List, length, get_or, map, Option, Some, None, eqb, refl, sym, ap, ◌∙◌, subst, arith, All, is_some, IsSome, option_map, position, unwrap_or, if◌then◌else◌}
+use Rattle.gathering.proofs.Common.{and_parts, eq-eqb, eqb-true, has, eqb_same, Table, Leaf, Reads, IsLeaf, AreReads, Kind, APin, ANode, Entry, is_stored, Design, name_at, no_name, given_formulas, leaf_by, leaf_of, settles, settles_by, signal_names, signal_reads, is_one_of, reset_equation_reads, is_stored_signal, IsSignalLoop, HasNoSignalLoop, IsSignalPath, HasNoSignalPath, cell_by, Link, has_leaf, has_if_any, leaf_in, is_read_by, link_reads, is_stored_in, AreLeaves, IsFirstChain, HasNoChain, IsRegisterPath, HasNoRegisterPath, is_node_kind, is_linked, IsLinkOf, AreLinks, AssignedHaveCells, reset_names, list_any_at, and-false}
 use Rattle.std.proofs.lemmas.List.Quantifiers.{position-Some}
 use Rattle.bit_expr.specs.declared.node.Leaf.TheVariants as leaf
 use Rattle.pld_device.specs.Pins.{cell_on}
@@ -26,12 +24,8 @@ leaf_named named r (leaf.Pin p) low are = are.pins p low
 leaf_named named r (leaf.Q c) low are = are.q c low
 leaf_named named r (leaf.Node n) low are = are.nodes n low
 
-and_never : (b : Bool) → false ≡ (b && false)
-and_never true = refl
-and_never false = refl
-
 if_named : (b : Bool) (named : Leaf → Bool) (r : Reads) (o : Option Leaf) → ((l : Leaf) → o ≡ Some l → IsLeaf l) → AreReads (λ l. b && named l) r → has_if_any r o ≡ (b && is_one_of named o)
-if_named b named r None low are = and_never b
+if_named b named r None low are = sym (and-false b)
 if_named b named r (Some l) low are = leaf_named (λ k. b && named k) r l (low l refl) are
 
 -- ---- which names are linked
@@ -52,8 +46,7 @@ module _ (d : Design) (cells : AssignedHaveCells d.context) where
   settling_linked : (s : ℕ) (kind : Kind) → (name_at d.context s).kind ≡ kind → settles_by (name_at d.context s) kind ≡ true → is_linked d.context.device (name_at d.context s) ≡ true
   settling_linked s (APin pin negated) is settled = assigned_linked s pin negated is (and_parts (name_at d.context s).assigned (not (name_at d.context s).words.registered) settled).0
   settling_linked s (ANode n) is settled = some_linked d.context.device (name_at d.context s) (ANode n) refl is
-  settling_linked s (AConstant value) is settled = absurd cc
-  settling_linked s ADeviceName is settled = absurd cc
+  settling_linked s _ is settled = absurd cc
 
   read_pin : (s pin : ℕ) (negated stored settled : Bool) (found : Option ℕ) (l : Leaf) → (stored ≡ true → (name_at d.context s).assigned ≡ true) → (settled ≡ true → (name_at d.context s).assigned ≡ true) → (if stored then option_map leaf.Q found else if settled then Some (leaf.Pin pin) else None) ≡ Some l → (name_at d.context s).assigned ≡ true
   read_pin s pin negated true settled found l by_q by_pin is = by_q refl
@@ -68,8 +61,7 @@ module _ (d : Design) (cells : AssignedHaveCells d.context) where
       assigned_linked s pin negated is
       (read_pin s pin negated (is_stored (name_at d.context s)) (settles (name_at d.context s)) (cell_on d.context.device pin) l (λ stored. (and_parts (name_at d.context s).words.registered (name_at d.context s).assigned stored).1) (settled_assigned s pin negated is) read)
   read_linked s (ANode n) l is read = some_linked d.context.device (name_at d.context s) (ANode n) refl is
-  read_linked s (AConstant value) l is read = absurd cc
-  read_linked s ADeviceName l is read = absurd cc
+  read_linked s _ l is read = absurd cc
 
   one_linked : (r : ℕ) (named : Leaf → Bool) (o : Option Leaf) → leaf_of d.context r ≡ o → is_one_of named o ≡ true → is_linked d.context.device (name_at d.context r) ≡ true
   one_linked r named None is one = absurd cc

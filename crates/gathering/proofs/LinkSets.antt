@@ -1,23 +1,15 @@
 -- Sets of signals, filled one after another.
-use Rattle.std.proofs.Common.{◌≡◌, ℕ, zero, suc, ◌+◌, ◌<◌, Bool, true, false, ◌==◌, ◌&&◌, ◌||◌, nat_lt, List, [], ◌∷◌, ◌++◌, length, get_or, refl, sym, ap, ◌∙◌, inl, inr, arith}
-use Rattle.gathering.proofs.Common.{cases_lt, cases_eq, eq-eqb, ne_eqb, lt-ltb, le-ltb, get_or_append_left, get_or_push, is_on, reads_of, Link, leaf_in, is_read_by, reads_in, is_stored_in}
+use Rattle.std.proofs.Common.{◌≡◌, ℕ, ◌+◌, ◌<◌, Bool, true, false, ◌==◌, ◌&&◌, ◌||◌, nat_lt, List, [], ◌∷◌, ◌++◌, length, get_or, refl, sym, ap, ◌∙◌, inl, inr, arith}
+use Rattle.gathering.proofs.Common.{and-false, slice_get-get_or, cases_lt, cases_eq, eq-eqb, ne_eqb, lt-ltb, le-ltb, get_or_append_left, get_or_push, is_on, reads_of, Link, leaf_in, is_read_by, reads_in, is_stored_in}
 
 -- the parts of a signal by its number
 pub leaf_there : (rs : List Link) (v : ℕ) (d : Link) → v < length rs → leaf_in rs v ≡ (get_or rs v d).leaf
-leaf_there [] v d within = absurd (omega (arith, within))
-leaf_there (r ∷ rs) zero d within = refl
-leaf_there (r ∷ rs) (suc v) d within = leaf_there rs v d (omega (arith, within))
+leaf_there rs v d within = rw (slice_get-get_or rs v d within) refl
 
 pub stored_there : (rs : List Link) (v : ℕ) (d : Link) → v < length rs → is_stored_in rs v ≡ (get_or rs v d).stored
-stored_there [] v d within = absurd (omega (arith, within))
-stored_there (r ∷ rs) zero d within = refl
-stored_there (r ∷ rs) (suc v) d within = stored_there rs v d (omega (arith, within))
+stored_there rs v d within = rw (slice_get-get_or rs v d within) refl
 
 module _ (r : ℕ → Bool) (v w : ℕ) where
-  and_false : (b : Bool) → (b && false) ≡ false
-  and_false true = refl
-  and_false false = refl
-
   -- with one more that passes
   pub one_more : r v ≡ true → ((w == v) || (nat_lt w v && r w)) ≡ (nat_lt w (v + 1) && r w)
   one_more hit =
@@ -33,7 +25,7 @@ module _ (r : ℕ → Bool) (v w : ℕ) where
   pub none_more : r v ≡ false → (nat_lt w v && r w) ≡ (nat_lt w (v + 1) && r w)
   none_more miss =
       elim (cases_eq w v) [
-        | inl same ↦ rw (ap r same ∙ miss) (and_false (nat_lt w v) ∙ sym (and_false (nat_lt w (v + 1))))
+        | inl same ↦ rw (ap r same ∙ miss) (and-false (nat_lt w v) ∙ sym (and-false (nat_lt w (v + 1))))
         | inr other ↦ elim (cases_lt w v) [
           | inl less ↦ rw (lt-ltb w v less, lt-ltb w (v + 1) (omega (arith, less))) refl
           | inr more ↦ rw (le-ltb w v more, le-ltb w (v + 1) (omega (arith, more, other))) refl
@@ -49,9 +41,7 @@ pub none_yet : (r : ℕ → Bool) (w : ℕ) → (nat_lt w 0 && r w) ≡ false
 none_yet r w = rw (le-ltb w 0 (omega arith)) refl
 
 pub reads_there : (rs all : List Link) (v w : ℕ) (d : Link) → v < length rs → reads_in rs all v w ≡ is_read_by (get_or rs v d).reads all w
-reads_there [] all v w d within = absurd (omega (arith, within))
-reads_there (r ∷ rs) all zero w d within = refl
-reads_there (r ∷ rs) all (suc v) w d within = reads_there rs all v w d (omega (arith, within))
+reads_there rs all v w d within = rw (slice_get-get_or rs v d within) refl
 
 -- one more set of what is read
 pub sets_more : (sets : List (List Bool)) (s : List Bool) (i n : ℕ) (r : ℕ → ℕ → Bool) → length sets ≡ i → ((v w : ℕ) → v < i → w < n → reads_of sets v w ≡ r v w) → ((w : ℕ) → w < n → is_on s w ≡ r i w)

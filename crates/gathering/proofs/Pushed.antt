@@ -1,7 +1,6 @@
 -- One name more asks what it asks, over an arena that grows.
-use Rattle.std.proofs.Common.{◌≡◌, ℕ, suc, Bool, true, false, List, [], ◌∷◌, ◌++◌, length, map, append_assoc, Option, Some, None, refl, sym, ap, ◌∙◌, subst}
-use Rattle.std.specs.Prelude.{All, option_map, unwrap_or}
-use Rattle.gathering.proofs.Common.{All-nil, All-push, map-append, append-nil, Table, cell_at, Control, Formula, Extension, Kind, APin, ANode, AConstant, ADeviceName, Entry, is_stored, control_of, control_if_stored, Context, formulas, function_of, is_raw_signal, IsFunctionIn, IsControlIn, IsCellIn, Contribution, Totals, contributions_in, AreGiven, first_target, target_place, control_place, by_row, wanted_for, cell_of, cell_by, and_cell, cells_from, and_node, nodes_from, Link, is_node_kind, is_linked, IsLinkOf, AreLinksFrom, control_by_row, control_if, asked_cell, Asks, AsksBefore, IsControlPlaced, IsPlaced}
+use Rattle.std.proofs.Common.{◌≡◌, ℕ, suc, Bool, true, false, List, [], ◌∷◌, ◌++◌, length, map, append_assoc, Option, Some, None, refl, sym, ap, ◌∙◌, subst, All, option_map, unwrap_or}
+use Rattle.gathering.proofs.Common.{All-nil, All-push, map-append, append-nil, Table, cell_at, Control, Formula, Extension, Kind, ANode, Entry, is_stored, control_of, control_if_stored, Context, formulas, function_of, IsFunctionIn, IsControlIn, IsCellIn, Contribution, Totals, contributions_in, AreGiven, first_target, target_place, control_place, by_row, wanted_for, cell_of, cell_by, and_cell, cells_from, and_node, nodes_from, Link, is_node_kind, is_linked, IsLinkOf, AreLinksFrom, control_by_row, control_if, asked_cell, Asks, AsksBefore, IsControlPlaced, IsPlaced}
 use Rattle.pld_device.specs.declared.enable.Enable.{Enable}
 use Rattle.pld_device.specs.declared.enable.Enable.TheVariants.{Row, PinLow}
 use Rattle.abel_tree.specs.declared.words.Extension.TheVariants as extension
@@ -65,27 +64,19 @@ module _ (t : Table) (old new : List Formula) (cs : List Contribution) (c s : �
 
 node_is : (kind : Kind) (f : meant_function.Function Formula) (fs : List (meant_function.Function Formula)) → is_node_kind kind ≡ true → f ∷ fs ≡ and_node kind f fs
 node_is (ANode n) f fs is = refl
-node_is (APin pin negated) f fs is = absurd cc
-node_is (AConstant value) f fs is = absurd cc
-node_is ADeviceName f fs is = absurd cc
+node_is _ f fs is = absurd cc
 
 no_node : (kind : Kind) (f : meant_function.Function Formula) (fs : List (meant_function.Function Formula)) → is_node_kind kind ≡ false → fs ≡ and_node kind f fs
 no_node (ANode n) f fs is = absurd cc
-no_node (APin pin negated) f fs is = refl
-no_node (AConstant value) f fs is = refl
-no_node ADeviceName f fs is = refl
+no_node _ f fs is = refl
 
 no_cell_by : (t : Table) (x : Entry) (kind : Kind) → is_node_kind kind ≡ true → cell_by t x kind ≡ None
 no_cell_by t x (ANode n) is = refl
-no_cell_by t x (APin pin negated) is = absurd cc
-no_cell_by t x (AConstant value) is = absurd cc
-no_cell_by t x ADeviceName is = absurd cc
+no_cell_by t x _ is = absurd cc
 
 no_node_by : (t : Table) (x : Entry) (kind : Kind) (c : ℕ) → cell_by t x kind ≡ Some c → is_node_kind kind ≡ false
 no_node_by t x (ANode n) c is = absurd cc
-no_node_by t x (APin pin negated) c is = refl
-no_node_by t x (AConstant value) c is = refl
-no_node_by t x ADeviceName c is = refl
+no_node_by t x _ c is = refl
 
 -- a list with one more, before what is left
 pushed_before : {A B : Type 0} (f : A → B) (ws more : List A) (w : A) (v : B) (left : List B) → more ≡ ws ++ w ∷ [] → f w ≡ v → map f more ++ left ≡ map f ws ++ v ∷ left

@@ -1,7 +1,8 @@
 -- Vertices by other names: a graph and a larger one, of whose vertices only those of the first graph read or are read, have
 -- the same loops and paths.
-use Rattle.std.proofs.Common.{◌≡◌, ◌≢◌, ℕ, ◌<◌, ◌≤◌, Bool, true, false, eqb, List, [], ◌∷◌, ◌++◌, map, get_or, refl, ap, ap₂, sym, ◌∙◌, subst, arith, eqb-true, ne_eqb, inl, inr}
+use Rattle.std.proofs.Common.{◌≡◌, ◌≢◌, ℕ, ◌<◌, ◌≤◌, Bool, true, false, ◌==◌, eqb, List, [], ◌∷◌, ◌++◌, map, get_or, refl, ap, ap₂, sym, ◌∙◌, subst, arith, eqb-true, ne_eqb, inl, inr}
 use Rattle.gathering.proofs.Common.{IsDistinct, AllByRecursion, true≢false, cases_eq, cases_lt, eq-eqb, or_cases, or_left, or_right, map-append, has, IsChain, IsLoop, IsLeastLoop, HasNoLoop, IsPath, HasNoPath, eqb_same, has_push}
+use Rattle.pld_order.proofs.DoneSets.{has_more}
 
 first_in : (x : ℕ) (xs : List ℕ) → has (x ∷ xs) x ≡ true
 first_in x xs = or_left (eqb x x) (has xs x) (eqb_same x)
@@ -27,16 +28,10 @@ imaged up (y ∷ ys) x there =
     ]
 
 before_in : (before : List ℕ) (last v : ℕ) → has before v ≡ true → has (before ++ last ∷ []) v ≡ true
-before_in [] last v there = absurd (true≢false (sym there))
-before_in (x ∷ xs) last v there =
-    elim (or_cases (eqb v x) (has xs v) there) [
-      | inl here ↦ or_left (eqb v x) (has (xs ++ last ∷ []) v) here
-      | inr later ↦ later_in x (xs ++ last ∷ []) v (before_in xs last v later)
-    ]
+before_in before last v there = has_more before last v ∙ or_right (v == last) (has before v) there
 
 last_in : (before : List ℕ) (last : ℕ) → has (before ++ last ∷ []) last ≡ true
-last_in [] last = first_in last []
-last_in (x ∷ xs) last = later_in x (xs ++ last ∷ []) last (last_in xs last)
+last_in before last = has_more before last last ∙ or_left (last == last) (has before last) (eqb_same last)
 
 begin_in : (before : List ℕ) (last : ℕ) → has (before ++ last ∷ []) (get_or (before ++ last ∷ []) 0 0) ≡ true
 begin_in [] last = first_in last []

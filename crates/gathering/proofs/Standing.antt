@@ -1,7 +1,6 @@
 -- What stands in an arena that grows.
 use Rattle.std.proofs.Common.{◌≡◌, ℕ, ◌<◌, false, List, [], ◌∷◌, length, get_or, Result, Ok, Err, IfOk, refl, ap₂, ◌∙◌, arith}
-use Rattle.gathering.proofs.Common.{All-head, All-tail, ExprId, formula_at, Formula, Const, view_contribution, Contribution, contributions_in, AllLieIn, Stands, Throughout}
-use Rattle.std.proofs.lemmas.Option.{slice_get-get_or, get_or_from_slice_get}
+use Rattle.gathering.proofs.Common.{All-head, All-tail, ExprId, formula_at, Formula, Const, view_contribution, Contribution, contributions_in, AllLieIn, Stands, Throughout, slice_get-get_or, get_or_from_slice_get}
 use Rattle.pld_base.specs.declared.out_of_memory.OutOfMemory.{OutOfMemory}
 
 pub stands_same : (fs : List Formula) → Stands fs fs

@@ -15,16 +15,6 @@ use pld_device::Device;
 use set_expr::{Contribution, Contributions};
 use std::alloc::Global;
 
-/// The next number of a name; so many names that there is none are more than memory holds.
-fn next(number: u32) -> Result<u32, OutOfMemory>
-    ensures { IfOk result (λ n. n ≡ number + 1) }
-{
-    match number.checked_add(1) {
-        Some(next) => Ok(next),
-        None => Err(OutOfMemory),
-    }
-}
-
 /// What all names ask.
 fn ask_all<D: Device>(
     alloc: Global,
@@ -46,7 +36,7 @@ fn ask_all<D: Device>(
     for declared in names.list.as_slice() {
         let named = Named { number, declared };
         ask::<D>(alloc, exprs, list, &named, &mut asked)?;
-        number = next(number)?;
+        number = number.checked_add(1).ok_or(OutOfMemory)?;
     }
     Ok(asked)
 }

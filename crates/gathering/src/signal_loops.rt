@@ -15,10 +15,10 @@ fn numbers_at(alloc: Global, signals: &[u32], places: &[u8]) -> Result<Vec<u32>,
     requires { All (λ (v : ℕ). v < length signals.now) places.now }
     ensures { IfOk result (λ r. r.items ≡ map (λ (v : ℕ). get_or signals.now v 0) places.now) }
 {
-    let mut numbers = Vec::new(alloc);
-    for place in places {
-        numbers.push(signals[*place as usize])?;
-    }
+    let numbers = places
+        .iter()
+        .map(|place| signals[*place as usize])
+        .collect(alloc)?;
     Ok(numbers)
 }
 

@@ -1,5 +1,4 @@
-use Rattle.std.proofs.Common.{◌≡◌, true, ◌++◌, ◌∷◌, [], refl, ap, sym, ◌∙◌}
-use Rattle.std.specs.Prelude.{is_some, not}
+use Rattle.std.proofs.Common.{◌≡◌, true, ◌++◌, ◌∷◌, [], refl, ap, sym, ◌∙◌, is_some, not}
 use Rattle.gathering.proofs.Common.{true≢false, arena, view_declared, is_node_kind}
 use Rattle.gathering.proofs.Pushed.{asks_node, asks_cell}
 use Rattle.gathering.proofs.Standing.{stands_same}

@@ -1,5 +1,4 @@
-use Rattle.std.proofs.Common.{length, Option, Some, None}
-use Rattle.std.specs.Prelude.{IfSome, IfNone}
+use Rattle.std.proofs.Common.{length, Option, Some, None, IfSome, IfNone}
 use Rattle.gathering.proofs.Common.{is_on, link_reads, is_read_by, is_stored_in}
 use Rattle.gathering.proofs.SameChains.{path_of_sets, no_path_of_sets}
 use Rattle.gathering.proofs.chains.path_to_register.Goals as goal

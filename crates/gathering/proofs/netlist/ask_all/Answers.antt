@@ -1,6 +1,7 @@
 use Rattle.std.proofs.Common.{◌≡◌, suc, ◌+◌, ◌∷◌, map, drop, sym, ap, subst, ◌∙◌, arith}
 use Rattle.gathering.proofs.Common.{drop_all, arena, view_declared, Asks, AsksBefore}
 use Rattle.std.proofs.Math.Seq.{drop-cons}
+use Rattle.std.proofs.lemmas.Grind.{common_steps}
 use Rattle.gathering.proofs.Pushed.{none_asked, all_asked}
 use Rattle.gathering.proofs.Standing.{stands_same, stands_on}
 use Rattle.gathering.proofs.netlist.ask_all.Goals as goal
@@ -23,7 +24,7 @@ loop-declared-preserved g c =
     let here : drop i ds ≡ c.declared-item.result ∷ drop (i + 1) ds = drop-cons ds i c.declared-item.result c.loop-declared-test.true ∙ ap (λ x. x ∷ drop (suc i) ds) (sym c.declared-item.is) ∙ ap (λ n. c.declared-item.result ∷ drop n ds) next in
     record {
       asks = λ last behind.
-          subst (λ n. AsksBefore t first last list (map view_declared ds) n (map view_declared (drop (i + 1) ds)) c.ask.new.asked) (omega (arith, c.in_ok-number.ensures))
+          subst (λ n. AsksBefore t first last list (map view_declared ds) n (map view_declared (drop (i + 1) ds)) c.ask.new.asked) (grind (arith, common_steps, c.in_ok-number.was, c.ok_or.ensures.ok_part, c.checked_add.ensures))
           (c.in_ok-ask.ensures.asks first last c.loop-declared.invariant.stands c.requires behind (map view_declared ds) (map view_declared (drop (i + 1) ds))
           (subst (λ ys. AsksBefore t first last list (map view_declared ds) c.loop-declared.number (map view_declared ys) c.loop-declared.asked) here
           (c.loop-declared.invariant.asks last (stands_on old (arena c.ask.new.exprs) last c.in_ok-ask.ensures.stands behind))));

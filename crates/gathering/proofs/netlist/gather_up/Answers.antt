@@ -1,5 +1,4 @@
-use Rattle.std.proofs.Common.{sym, subst}
-use Rattle.std.specs.Prelude.{All}
+use Rattle.std.proofs.Common.{sym, subst, All}
 use Rattle.gathering.proofs.Common.{IsPlaced}
 use Rattle.gathering.proofs.netlist.gather_up.Goals as goal
 

@@ -1,5 +1,4 @@
-use Rattle.std.proofs.Common.{◌≡◌, ◌∙◌, ◌<◌, ℕ, List, length, subst, sym}
-use Rattle.std.specs.Prelude.{filter}
+use Rattle.std.proofs.Common.{◌≡◌, ◌∙◌, ◌<◌, ℕ, List, length, subst, sym, filter}
 use Rattle.gathering.proofs.Common.{All-filter, IfOk-weaker, arena, Contribution, AreGiven, is_to, AllLieIn}
 use Rattle.gathering.proofs.GivenAmounts.{totals_own}
 use Rattle.gathering.proofs.signal.sum_up.Goals as goal

@@ -1,5 +1,4 @@
-use Rattle.std.proofs.Common.{ℕ, ◌<◌, length, map, get_or, ap, sym, ◌∙◌, subst}
-use Rattle.std.specs.Prelude.{All}
+use Rattle.std.proofs.Common.{ℕ, ◌<◌, length, map, get_or, ap, sym, ◌∙◌, subst, All}
 use Rattle.gathering.proofs.Common.{IsSignalPath, IsRegisterPath, HasNoRegisterPath}
 use Rattle.gathering.proofs.Graphed.{all_below, path_told, no_path_told}
 use Rattle.gathering.proofs.signal_loops.reset_path.Goals as goal

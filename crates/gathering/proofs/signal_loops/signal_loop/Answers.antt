@@ -1,5 +1,4 @@
-use Rattle.std.proofs.Common.{ℕ, ◌<◌, length, map, get_or, ap, sym, ◌∙◌, subst}
-use Rattle.std.specs.Prelude.{All}
+use Rattle.std.proofs.Common.{ℕ, ◌<◌, length, map, get_or, ap, sym, ◌∙◌, subst, All}
 use Rattle.gathering.proofs.Common.{IsSignalLoop, IsFirstChain, HasNoChain}
 use Rattle.gathering.proofs.Graphed.{all_below, loop_told, no_loop_told}
 use Rattle.gathering.proofs.signal_loops.signal_loop.Goals as goal
