@@ -3,7 +3,6 @@ pub use Rattle.std.proofs.lemmas.List.{at_drop_all, at_drop_more}
 pub use Rattle.abel_meaning.specs.Designs.{Context, Design, after_declarations, design_for}
 pub use Rattle.abel_meaning.specs.Directives.{after_branches, after_choices, after_section, after_statements, after_states}
 pub use Rattle.abel_meaning.specs.FormulaBits.{formulas}
-pub use Rattle.abel_meaning.specs.Sections.{next_block, section_gives, sections_give, unguarded}
 pub use Rattle.abel_meaning.specs.SignalReads.{given_formulas}
 pub use Rattle.abel_tree.specs.Entries.{entries_of}
 pub use Rattle.abel_tree.specs.FirstRefusal.{earlier, first_refusal}

@@ -1,22 +1,27 @@
--- An EQUATIONS section is walked by its statements, a table by its rows, and a state diagram by its states.
-use Rattle.std.proofs.Common.{◌≡◌, ℕ, Bool, true, Option, None, Some, List, map, refl, sym, subst}
-use Rattle.source_sections.proofs.Common.{arena, formula_at, SectionTree, Equations, ATable, ADiagram, view, view_row, view_state, view_stmt, Context, formulas, section_gives, unguarded, view_guard, Manner, Walked, Walks, view_list, section_manners, section_places, units_of_section}
+-- A section is walked by its statements, rows or states, and behind it those that are left; the same of declarations.
+use Rattle.std.proofs.Common.{◌≡◌, ℕ, ◌+◌, ◌<◌, Bool, true, Option, List, [], ◌∷◌, ◌++◌, drop, length, get_or, refl, sym, ap, ◌∙◌, subst}
+use Rattle.source_sections.proofs.Common.{at_drop_more, arena, formula_at, Table, Names, SectionTree, Declaration, ADevice, SomePins, SomeNodes, SomeAttributes, SomeConstants, SomeOptions, DontCareFor, Context, after_declarations, after_section, formulas, context_for, view_guard, Manner, Walked, AreFirsts, Walks, walks_none, walks_then, WalksSection, section_manners, sections_manners, section_places, sections_places, units_of_section, units_of_sections}
+use Rattle.abel_meaning.specs.Sections.{next_block, section_gives, sections_give, unguarded}
 use Rattle.bit_expr.specs.Formulas.{Formula, Const}
-use Rattle.abel_tree.specs.declared.diagrams.Diagram.{Diagram}
-use Rattle.abel_tree.specs.declared.statements.Stmt.{Stmt}
-use Rattle.abel_tree.specs.declared.tables.Table.{Table}
-use Rattle.abel_meaning.specs.Diagrams.{diagram_gives}
-use Rattle.abel_meaning.specs.Statements.{statements_give}
-use Rattle.abel_meaning.specs.Tables.{table_gives}
-use Rattle.abel_meaning.specs.Terms.{term_of}
+use Rattle.abel_meaning.specs.Contributions as meant
 use Rattle.set_expr.specs.declared.contributions.Guard.{Guard}
-use Rattle.section_targets.specs.TargetSignals.{target_member}
-use Rattle.equations.specs.StatementUnits.{statements_manners, statements_places, units_of_statements}
-use Rattle.truth_tables.specs.OutputHeaders.{output_header}
-use Rattle.truth_tables.specs.TableUnits.{assigned_by}
-use Rattle.truth_tables.specs.TableWalks.{given_by, places_by, units_of}
-use Rattle.state_diagrams.specs.DiagramUnits.{diagram_manners}
-use Rattle.state_diagrams.specs.DiagramWalks as diagrams
+
+-- ---- declarations
+
+pub left_next : {X : Type 0} (list : List X) (i : ℕ) (x : X) → i < length list → x ≡ get_or list i x → drop i list ≡ x ∷ drop (i + 1) list
+left_next list i x h is = at_drop_more (λ ys. ys) list i x h ∙ ap (λ y. y ∷ drop (i + 1) list) (sym is)
+
+-- whether the directive is in force behind declarations
+pub declarations_then : (on : Bool) (d : Declaration) (ds : List Declaration) → after_declarations on (d ∷ ds) ≡ after_declarations (after_declarations on (d ∷ [])) ds
+declarations_then on (DontCareFor directive) ds = refl
+declarations_then on (ADevice name text) ds = refl
+declarations_then on (SomePins names numbers attributes) ds = refl
+declarations_then on (SomeNodes names numbers attributes) ds = refl
+declarations_then on (SomeAttributes names attributes) ds = refl
+declarations_then on (SomeConstants names values) ds = refl
+declarations_then on (SomeOptions words) ds = refl
+
+-- ---- one section
 
 -- no condition stands round a block or statements
 guard_open : (d : Context) (fs : List Formula) (g : Guard) (on : Bool) (block : Option ℕ) → formula_at fs g.when ≡ Const true → g.dontcare ≡ on → g.block ≡ block → view_guard fs g ≡ unguarded (formulas d) on block
@@ -26,29 +31,36 @@ guard_open d fs g on block w o b = rw (w, o, b) refl
 abbrev pub Within : Context → List Manner → Bool → ℕ → SectionTree → (old new : Walked) → Type 0
 Within d all on block s old new = Walks all (units_of_section d all s) (section_gives (formulas d) d on block s) (section_places d s) (section_manners d all s) old new
 
-pub equations_walked : (d : Context) (on : Bool) (block : ℕ) (all : List Manner) (g : Guard) (list : List Stmt) (s : SectionTree) (old new : Walked)
-    → s ≡ Equations (map view_stmt list) → formula_at (arena old.exprs) g.when ≡ Const true → g.dontcare ≡ on → g.block ≡ None
-    → Walks all (units_of_statements d (formula_at (arena old.exprs) g.when) all (view_list list)) (statements_give (formulas d) d (view_guard (arena old.exprs) g) (view_list list)) (statements_places d (view_list list)) (statements_manners d (view_list list)) old new
-    → Within d all on block s old new
-equations_walked d on block all g list s old new e w o b h =
-    let ss = view_list list in
-    let bit = subst (λ f. Walks all (units_of_statements d f all ss) (statements_give (formulas d) d (view_guard (arena old.exprs) g) ss) (statements_places d ss) (statements_manners d ss) old new) w h in
-    let open_guard = subst (λ k. Walks all (units_of_statements d (Const true) all ss) (statements_give (formulas d) d k ss) (statements_places d ss) (statements_manners d ss) old new) (guard_open d (arena old.exprs) g on None w o b) bit in
-    subst (λ t. Within d all on block t old new) (sym e) open_guard
+-- what a walk under its guard leaves is left of a section where that is so under the guard of no condition
+pub section_walked : (d : Context) (on : Bool) (block : ℕ) (all : List Manner) (g : Guard) (own : Option ℕ) (s x : SectionTree) (old new : Walked) (Leaves : meant.Guard Formula → Type 0)
+    → s ≡ x → formula_at (arena old.exprs) g.when ≡ Const true → g.dontcare ≡ on → g.block ≡ own
+    → (Leaves (unguarded (formulas d) on own) → Within d all on block x old new) → Leaves (view_guard (arena old.exprs) g) → Within d all on block s old new
+section_walked d on block all g own s x old new Leaves e w o b h k =
+    subst (λ y. Within d all on block y old new) (sym e) (h (subst Leaves (guard_open d (arena old.exprs) g on own w o b) k))
 
-pub table_walked : (d : Context) (on : Bool) (block : ℕ) (all : List Manner) (g : Guard) (t : Table) (s : SectionTree) (old new : Walked)
-    → s ≡ ATable t.place (view t.inputs) t.clocked (view t.outputs) (map view_row t.rows) → formula_at (arena old.exprs) g.when ≡ Const true → g.dontcare ≡ on → g.block ≡ Some block
-    → Walks all (units_of d all t) (given_by d g t (arena old.exprs)) (places_by d t) (assigned_by t.clocked (output_header d (view t.outputs))) old new
-    → Within d all on block s old new
-table_walked d on block all g t s old new e w o b h =
-    let open_guard = subst (λ k. Walks all (units_of d all t) (table_gives (formulas d) d k t.clocked (term_of d.known (view t.inputs)) (term_of d.known (view t.outputs)) (map view_row t.rows)) (places_by d t) (assigned_by t.clocked (output_header d (view t.outputs))) old new) (guard_open d (arena old.exprs) g on (Some block) w o b) h in
-    subst (λ x. Within d all on block x old new) (sym e) open_guard
+-- ---- those that are left
 
-pub diagram_walked : (d : Context) (on : Bool) (block : ℕ) (all : List Manner) (g : Guard) (x : Diagram) (s : SectionTree) (old new : Walked)
-    → s ≡ ADiagram x.place (view x.registers) (map view_state x.states) → formula_at (arena old.exprs) g.when ≡ Const true → g.dontcare ≡ on → g.block ≡ Some block
-    → Walks all (diagrams.units_of d all x) (diagrams.given_by d g x (arena old.exprs)) (diagrams.places_by d x) (diagram_manners d all (target_member d (view x.registers)) (map view_state x.states)) old new
-    → Within d all on block s old new
-diagram_walked d on block all g x s old new e w o b h =
-    let ms = diagram_manners d all (target_member d (view x.registers)) (map view_state x.states) in
-    let open_guard = subst (λ k. Walks all (diagrams.units_of d all x) (diagram_gives (formulas d) d k (term_of d.known (view x.registers)) (map view_state x.states)) (diagrams.places_by d x) ms old new) (guard_open d (arena old.exprs) g on (Some block) w o b) h in
-    subst (λ t. Within d all on block t old new) (sym e) open_guard
+-- what is walked of them from here on completes a walk over all
+abbrev pub AreLeft : Table → Names → (on : Bool) → (block : ℕ) → List SectionTree → (here : Walked) → (Walked → Type 0) → Type 0
+AreLeft t n on block ss here Done =
+    (all : List Manner) × (AreFirsts here.before all
+    × ((new : Walked) → Walks all (units_of_sections (context_for t n) all ss) (sections_give (formulas (context_for t n)) (context_for t n) on block ss) (sections_places (context_for t n) ss) (sections_manners (context_for t n) all ss) here new → Done new))
+
+module _ (t : Table) (n : Names) (on : Bool) (block : ℕ) (here : Walked) (Done : Walked → Type 0) where
+  pub one_walked : (s : SectionTree) (ss : List SectionTree) (mid : Walked) → WalksSection t n on block s here mid → AreLeft t n on block (s ∷ ss) here Done → AreLeft t n (after_section on s) (next_block block s) ss mid Done
+  one_walked s ss mid walks left =
+      let d = context_for t n in
+      let all = left.0 in
+      let ms = section_manners d all s in
+      let one = walks all left.1.0 in (
+        all ++ ms,
+        (
+          one.manners,
+          λ new more.
+              left.1.1 new
+              (walks_then all ms (sections_manners d (all ++ ms) ss) (units_of_section d all s) (units_of_sections d (all ++ ms) ss) (section_gives (formulas d) d on block s) (sections_give (formulas d) d (after_section on s) (next_block block s) ss) (section_places d s) (sections_places d ss) here mid new one more),
+        ),
+      )
+
+  pub all_walked : AreLeft t n on block [] here Done → Done here
+  all_walked left = left.1.1 here (walks_none left.0 here left.1.0)

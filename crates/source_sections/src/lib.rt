@@ -3,7 +3,6 @@
 
 mod directives;
 mod joining;
-mod state_directives;
 mod walking;
 
 pub use joining::contributions;

@@ -6,8 +6,7 @@ ghost use Rattle.abel_meaning.specs.Directives as directives;
 ghost use Rattle.abel_meaning.specs.Sections.{next_block};
 ghost use Rattle.source_sections.specs.Reading.{WalksSection, WalksSections, view_sections};
 
-use crate::directives::{after_declarations, after_statements};
-use crate::state_directives::after_states;
+use crate::directives::{after_declarations, after_statements, after_states};
 use abel_tree::Section;
 use bit_expr::ExprId;
 use equations::walk_statements;

@@ -1,8 +1,7 @@
 -- One section, and those that are left.
 use Rattle.std.proofs.Common.{◌≡◌, ◌+◌, [], ◌∷◌, List, drop, refl, sym, ap, subst, arith}
 use Rattle.source_sections.proofs.Common.{at_drop_all, view_section, after_section, Manner, Walked, AreFirsts, WalksSections, view_sections}
-use Rattle.source_sections.proofs.LeftBehind.{left_next}
-use Rattle.source_sections.proofs.SectionsLeft.{AreLeft, all_walked, one_walked}
+use Rattle.source_sections.proofs.SectionsWalked.{AreLeft, all_walked, left_next, one_walked}
 use Rattle.source_sections.proofs.walking.walk_sections.Goals as goal
 
 pub loop-section-init : goal.loop-section-init

@@ -1,7 +1,7 @@
 -- What is walked of the sections that are left completes a walk over all.
 use Rattle.std.proofs.Common.{drop}
 use Rattle.source_sections.proofs.Common.{WalksSections, view_sections}
-use Rattle.source_sections.proofs.SectionsLeft.{AreLeft}
+use Rattle.source_sections.proofs.SectionsWalked.{AreLeft}
 use Rattle.source_sections.proofs.walking.walk_sections.Given as goal
 
 abbrev pub invariant-loop-section : goal.invariant-loop-section
