@@ -5,17 +5,8 @@ use Rattle.set_expr.specs.declared.fault.SectionFault.TheVariants as fault
 
 -- what is told of other than want of memory is the first refusal
 pub told_first : (rs : List SectionFault) (f : SectionFault) → f ≢ fault.OutOfMemory → IsTold rs f → first_refusal section_order rs ≡ Some f
-told_first rs (fault.MisplacedSpecial p) o h = h
-told_first rs (fault.NotConstant p) o h = h
-told_first rs (fault.ZeroDivisor p) o h = h
-told_first rs (fault.BadWidth p) o h = h
-told_first rs (fault.NotAnOutput p name) o h = h
-told_first rs (fault.MixedAssignment p name) o h = h
-told_first rs (fault.BadRow p) o h = h
-told_first rs (fault.BadState p) o h = h
-told_first rs (fault.BadVector p) o h = h
-told_first rs (fault.NodeLimit p) o h = h
 told_first rs fault.OutOfMemory o h = absurd (o refl)
+told_first rs f o h = h
 
 pub first_told : (rs ss : List SectionFault) (f g r : SectionFault) → f ≢ fault.OutOfMemory → g ≢ fault.OutOfMemory → earlier section_order (Some f) (Some g) ≡ Some r → IsTold rs f → IsTold ss g → IsTold (rs ++ ss) r
 first_told rs ss f g r o p e h k =

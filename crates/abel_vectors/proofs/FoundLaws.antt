@@ -1,17 +1,11 @@
 -- More that is found, behind what was found before.
-use Rattle.std.proofs.Common.{◌≡◌, ℕ, true, ◌||◌, Option, None, Some, List, [], ◌∷◌, ◌++◌, Result, Ok, Err, refl, sym, ap, ap₂, ◌∙◌, subst, append_assoc, append-nil}
-use Rattle.std.specs.Prelude.{is_some}
-use Rattle.abel_vectors.proofs.Common.{Table, all_chars, first_refusal, earlier, earlier_assoc, earlier_none, first_append, none_refused, left_empty, right_empty, SectionFault, section_order, Found, fault_in, Finds, IsFound, IsReadAs, NothingFound, if_none}
-use Rattle.std.proofs.lemmas.Bool.{true≢false}
-
--- of two lists there is no first refusal only where both are empty
-parts_clear : (rs qs : List SectionFault) → first_refusal section_order (rs ++ qs) ≡ None → (rs ≡ []) × (qs ≡ [])
-parts_clear rs qs e = let none = none_refused section_order (rs ++ qs) (sym e) in (left_empty rs qs none, right_empty rs qs none)
+use Rattle.std.proofs.Common.{◌≡◌, ℕ, Option, None, Some, List, [], ◌∷◌, ◌++◌, Result, Ok, Err, IfOk, refl, sym, ap, ap₂, ◌∙◌, subst, append_assoc, append-nil, IfErr}
+use Rattle.abel_vectors.proofs.Common.{map-append, Vector, Table, all_chars, chars_of, first_refusal, earlier, earlier_assoc, earlier_none, first_append, none_refused, SectionFault, section_order, Found, fault_in, Finds, IsFound, IsReadAs, NothingFound, if_none}
 
 -- where nothing is refused now, nothing was before
 both_none : (a : Option SectionFault) (rs : List SectionFault) → earlier section_order a (first_refusal section_order rs) ≡ None → (a ≡ None) × (rs ≡ [])
 both_none None rs e = (refl, none_refused section_order rs (sym e))
-both_none (Some f) rs e = absurd (let k = (parts_clear (f ∷ []) rs e).0 in cc)
+both_none (Some f) rs e = absurd (let k = none_refused section_order (f ∷ rs) (sym e) in cc)
 
 pub finds_none : (t : Table) (found : Found) → Finds t [] [] found found
 finds_none t found = record { fault = sym (earlier_none section_order found.fault); list = λ e. sym (append-nil (all_chars t found.list.items)) }
@@ -33,41 +27,47 @@ finds_then t rs qs cs ds old mid new a b =
 pub finds_refusals : (t : Table) (rs : List SectionFault) (f : Option SectionFault) (old new : Found) → f ≡ first_refusal section_order rs → new.fault ≡ earlier section_order old.fault f → new.list.items ≡ old.list.items → Finds t rs [] old new
 finds_refusals t rs f old new g e l = record { fault = e ∙ ap (earlier section_order old.fault) g; list = λ k. ap (all_chars t) l ∙ sym (append-nil (all_chars t old.list.items)) }
 
--- where something is refused it doesn't matter which vectors there would be
-pub finds_refused : (t : Table) (rs : List SectionFault) (cs ds : List (List ℕ)) (old new : Found) → (rs ≡ [] → ⊥) → Finds t rs cs old new → Finds t rs ds old new
-finds_refused t rs cs ds old new some a = record { fault = a.fault; list = λ k. absurd (some (both_none old.fault rs (sym a.fault ∙ k)).1) }
+-- of all refusals of a thing the first one
+pub finds_first : (t : Table) (rs : List SectionFault) (cs : List (List ℕ)) (f : SectionFault) (old new : Found) → first_refusal section_order rs ≡ Some f → new.fault ≡ earlier section_order old.fault (Some f) → Finds t rs cs old new
+finds_first t rs cs f old new first fault =
+    let same = fault ∙ ap (earlier section_order old.fault) (sym first) in
+    record {
+      fault = same;
+      list = λ e. absurd (let bad = sym (ap (first_refusal section_order) (both_none old.fault rs (sym same ∙ e)).1) ∙ first in cc);
+    }
 
--- refusals that come alone
-pub finds_alone : (t : Table) (xs ys : List SectionFault) (cs : List (List ℕ)) (old new : Found) → (xs ≡ [] → ⊥) → Finds t xs [] old new → Finds t (if_none xs ys) cs old new
-finds_alone t [] ys cs old new some a = absurd (some refl)
-finds_alone t (x ∷ xs) ys cs old new some a = finds_refused t (x ∷ xs) [] cs old new some a
+-- a vector of which nothing is refused
+pub finds_vector : (t : Table) (rs : List SectionFault) (text : List ℕ) (v : Vector) (old new : Found) → (rs ≡ []) × (chars_of t v ≡ text) → new.fault ≡ old.fault → new.list.items ≡ old.list.items ++ v ∷ [] → Finds t rs (text ∷ []) old new
+finds_vector t rs text v old new is fault list =
+    record {
+      fault = fault ∙ sym (earlier_none section_order old.fault) ∙ ap (λ xs. earlier section_order old.fault (first_refusal section_order xs)) (sym is.0);
+      list = λ e. ap (all_chars t) list ∙ map-append (chars_of t) old.list.items (v ∷ []) ∙ ap (λ cs. all_chars t old.list.items ++ cs ∷ []) is.1;
+    }
 
--- and what is found where there is none of them
-pub finds_behind : (t : Table) (xs ys : List SectionFault) (cs : List (List ℕ)) (old mid new : Found) → xs ≡ [] → Finds t xs [] old mid → Finds t ys cs mid new → Finds t (if_none xs ys) cs old new
-finds_behind t [] ys cs old mid new e a b = finds_then t [] ys [] cs old mid new a b
-finds_behind t (x ∷ xs) ys cs old mid new e a b = absurd cc
+-- refusals that come alone, and what comes behind none
+pub first_alone : (xs ys : List SectionFault) (f : SectionFault) → first_refusal section_order xs ≡ Some f → first_refusal section_order (if_none xs ys) ≡ Some f
+first_alone [] ys f e = absurd cc
+first_alone (x ∷ xs) ys f e = e
 
--- what is refused of a thing that was read, and how it is
-module _ {A : Type 0} (rs : List SectionFault) (so : A → Type 0) where
-  pub read_first : (r : Result A SectionFault) → IsReadAs rs so r → fault_in r ≡ first_refusal section_order rs
-  read_first (Ok x) is = sym (ap (first_refusal section_order) is.0)
-  read_first (Err f) is = sym is
+pub behind_none : (xs ys : List SectionFault) → xs ≡ [] → if_none xs ys ≡ ys
+behind_none [] ys e = refl
+behind_none (x ∷ xs) ys e = absurd cc
 
-  pub read_so : (r : Result A SectionFault) (x : A) → r ≡ Ok x → IsReadAs rs so r → (rs ≡ []) × so x
-  read_so r x e is = subst (IsReadAs rs so) e is
+-- what is refused of a thing that was read, and how two are
+read_first : {A : Type 0} (rs : List SectionFault) (so : A → Type 0) (r : Result A SectionFault) → IsReadAs rs so r → fault_in r ≡ first_refusal section_order rs
+read_first rs so (Ok x) is = sym (ap (first_refusal section_order) is.0)
+read_first rs so (Err f) is = sym is
 
--- the refusals of two, behind what was found before
-module _ (t : Table) (rs ss : List SectionFault) (x y : Option SectionFault) (old new : Found) (left : x ≡ first_refusal section_order rs) (right : y ≡ first_refusal section_order ss) where
-  pub both_found : new.fault ≡ earlier section_order old.fault (earlier section_order x y) → new.list.items ≡ old.list.items → Finds t (rs ++ ss) [] old new
-  both_found fault list =
-      finds_refusals t (rs ++ ss) (earlier section_order x y) old new (ap₂ (earlier section_order) left right ∙ sym (first_append section_order rs ss)) fault list
-
-  -- where one is refused, what would come behind doesn't matter
-  pub found_alone : (ys : List SectionFault) (cs : List (List ℕ)) → (is_some x || is_some y) ≡ true → Finds t (rs ++ ss) [] old new → Finds t (if_none (rs ++ ss) ys) cs old new
-  found_alone ys cs refused found =
-      finds_alone t (rs ++ ss) ys cs old new
-      (λ none. true≢false (sym refused ∙ ap₂ (λ a b. is_some a || is_some b) (left ∙ ap (first_refusal section_order) (left_empty rs ss none)) (right ∙ ap (first_refusal section_order) (right_empty rs ss none))))
-      found
+pub both_read : {A B : Type 0} (rs ss : List SectionFault) (so : A → Type 0) (to : B → Type 0) (x : Result A SectionFault) (y : Result B SectionFault) (r : Result (A × B) SectionFault) → IsReadAs rs so x → IsReadAs ss to y
+    → IfOk r (λ z. (x ≡ Ok z.0) × (y ≡ Ok z.1)) → IfErr r (λ f. Some f ≡ earlier section_order (fault_in x) (fault_in y)) → IsReadAs (rs ++ ss) (λ z. so z.0 × to z.1) r
+both_read rs ss so to x y (Ok z) a b is none =
+    let first = subst (IsReadAs rs so) is.0 a in
+    let second = subst (IsReadAs ss to) is.1 b in (
+      ap₂ (λ xs ys. xs ++ ys) first.0 second.0,
+      (first.1, second.1),
+    )
+both_read rs ss so to x y (Err f) a b is refused =
+    first_append section_order rs ss ∙ sym (ap₂ (earlier section_order) (read_first rs so x a) (read_first ss to y b)) ∙ sym refused
 
 -- all that is found, from nothing
 pub all_found : (t : Table) (rs : List SectionFault) (cs : List (List ℕ)) (old new : Found) → NothingFound old → Finds t rs cs old new → IsFound t rs cs new

@@ -1,13 +1,13 @@
 -- A section by its header and its rows, sections one behind another, and how many vectors they have.
-use Rattle.std.proofs.Common.{◌≡◌, ℕ, suc, ◌+◌, ◌-◌, ◌<◌, ◌≤◌, nat_lt, Bool, true, false, if◌then◌else◌, List, [], ◌∷◌, ◌++◌, length, map, Result, Ok, Err, IfOk, refl, sym, ap, ◌∙◌, subst, length-append, arith}
-use Rattle.std.specs.Prelude.{All}
-use Rattle.abel_vectors.proofs.Common.{length-map, Place, Vector, Table, IsTestVector, all_chars, chars_of, Section, RowTree, SectionTree, Declarations, Equations, ATable, ADiagram, SomeVectors, DontCareSection, view, view_section, view_vector_row, Context, Term, term_of, row_chars, section_vectors, sections_vectors, left_empty, right_empty, SectionFault, BadVector, Found, Finds, FindsSection, view_vectors, refused_behind, IsAnswer, header_refused, if_none, one_too_many, row_refused, rows_refused, vectors_refused}
+use Rattle.std.proofs.Common.{◌≡◌, ℕ, suc, ◌+◌, ◌-◌, ◌<◌, ◌≤◌, nat_lt, Bool, true, false, if◌then◌else◌, List, [], ◌∷◌, ◌++◌, length, map, Result, Ok, Err, IfOk, refl, sym, ap, ◌∙◌, subst, length-append, arith, All}
+use Rattle.abel_vectors.proofs.Common.{length-map, Place, Vector, Table, IsTestVector, all_chars, chars_of, Section, RowTree, SectionTree, SomeVectors, view, view_section, view_vector_row, Context, Term, term_of, row_chars, section_vectors, sections_vectors, SectionFault, BadVector, Found, Finds, FindsSection, view_vectors, refused_behind, IsAnswer, header_refused, if_none, one_too_many, row_refused, rows_refused, vectors_refused}
+use Rattle.set_expr.proofs.SummedUp.{left_empty, right_empty}
 use Rattle.std.specs.Global.{Vec}
 use Rattle.std.proofs.lemmas.Bool.Decides.{nat_tests}
 use Rattle.abel_tree.specs.declared.sections.Section.TheVariants as section
 use Rattle.abel_tree.specs.declared.tables.Vectors.{Vectors}
 use Rattle.abel_vectors.proofs.FoundLaws.{finds_none, finds_then}
-use Rattle.abel_vectors.proofs.TestChars.{AllTest, all_test}
+use Rattle.abel_vectors.proofs.TestChars.{all_test, are_test_texts}
 
 -- ---- sections
 
@@ -22,11 +22,7 @@ section_found d n room left long v old new r l k finds =
 -- another section has no vectors
 pub other_found : (d : Context) (n room : ℕ) (s : Section) (found : Found) → ((v : Vectors) → s ≡ section.Vectors v → ⊥) → room ≡ 9999 - n → FindsSection d n (view_section s) room found found
 other_found d n room (section.Vectors v) found other r = absurd (other v refl)
-other_found d n room (section.Declarations ds) found other r = record { room = omega arith; finds = finds_none d.device found }
-other_found d n room (section.Equations ss) found other r = record { room = omega arith; finds = finds_none d.device found }
-other_found d n room (section.Table t) found other r = record { room = omega arith; finds = finds_none d.device found }
-other_found d n room (section.Diagram g) found other r = record { room = omega arith; finds = finds_none d.device found }
-other_found d n room (section.DontCare c) found other r = record { room = omega arith; finds = finds_none d.device found }
+other_found d n room _ found other r = record { room = omega arith; finds = finds_none d.device found }
 
 -- one before others
 pub sections_behind : (d : Context) (n left : ℕ) (s : SectionTree) (all rest : List SectionTree) (old new later : Found) → all ≡ s ∷ rest → FindsSection d n s left old new
@@ -53,20 +49,16 @@ rows_few d n h k (r ∷ rs) le e =
     let more : suc n + length rs ≤ 9999 = rows_few d (suc n) h k rs (omega arith) rest in
     omega arith
 
-behind_none : (xs ys : List SectionFault) → if_none xs ys ≡ [] → ys ≡ []
-behind_none [] ys e = e
-behind_none (x ∷ xs) ys e = absurd cc
+none_behind : (xs ys : List SectionFault) → if_none xs ys ≡ [] → ys ≡ []
+none_behind [] ys e = e
+none_behind (x ∷ xs) ys e = absurd cc
 
 pub section_few : (d : Context) (n : ℕ) (s : SectionTree) → n ≤ 9999 → vectors_refused d n s ≡ [] → n + length (section_vectors d s) ≤ 9999
 section_few d n (SomeVectors _ p a b rs) le e =
-    let rows : n + length rs ≤ 9999 = rows_few d n (term_of d.known a) (term_of d.known b) rs le (behind_none (header_refused d p a b) (rows_refused d n (term_of d.known a) (term_of d.known b) rs) e) in
+    let rows : n + length rs ≤ 9999 = rows_few d n (term_of d.known a) (term_of d.known b) rs le (none_behind (header_refused d p a b) (rows_refused d n (term_of d.known a) (term_of d.known b) rs) e) in
     let mapped = length-map rs (row_chars d (term_of d.known a) (term_of d.known b)) in
     omega arith
-section_few d n (Declarations ds) le e = omega (arith, le)
-section_few d n (Equations ss) le e = omega (arith, le)
-section_few d n (ATable p a c b rs) le e = omega (arith, le)
-section_few d n (ADiagram p t ss) le e = omega (arith, le)
-section_few d n (DontCareSection c) le e = omega (arith, le)
+section_few d n _ le e = omega (arith, le)
 
 pub all_few : (d : Context) (n : ℕ) (ss : List SectionTree) → n ≤ 9999 → refused_behind d n ss ≡ [] → n + length (sections_vectors d ss) ≤ 9999
 all_few d n [] le e = omega (arith, le)
@@ -85,6 +77,6 @@ pub answer_few : (t : Table) (rs : List SectionFault) (texts : List (List ℕ)) 
 answer_few t rs texts n (Err f) room h = tt
 answer_few t rs texts n (Ok list) room h = let same = count t list.items texts h.chars in let fits = room h.accepted in omega arith
 
-pub answer_test : (t : Table) (rs : List SectionFault) (texts : List (List ℕ)) (r : Result (Vec Vector) SectionFault) → AllTest texts → IsAnswer t rs texts r → IfOk r (λ list. All (IsTestVector t) list.items)
+pub answer_test : (t : Table) (rs : List SectionFault) (texts : List (List ℕ)) (r : Result (Vec Vector) SectionFault) → are_test_texts texts ≡ true → IsAnswer t rs texts r → IfOk r (λ list. All (IsTestVector t) list.items)
 answer_test t rs texts (Err f) all h = tt
 answer_test t rs texts (Ok list) all h = all_test t list.items texts h.chars all

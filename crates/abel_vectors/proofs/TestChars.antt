@@ -1,8 +1,8 @@
 -- The characters of vectors are those that a fuse file may have.
-use Rattle.std.proofs.Common.{◌≡◌, ℕ, ◌==◌, Bool, true, false, ◌&&◌, ◌||◌, if◌then◌else◌, Option, None, Some, List, [], ◌∷◌, map, refl, sym, ap₂, subst}
-use Rattle.std.specs.Prelude.{All}
-use Rattle.abel_vectors.proofs.Common.{list_all, range_with_len, Vector, Table, IsTestVector, all_chars, Kind, APin, ANode, AConstant, ADeviceName, RowTree, SectionTree, Declarations, Equations, ATable, ADiagram, SomeVectors, DontCareSection, Context, name_at, Mark, Level, Unknown, Pulsed, Released, marks_of, targets_of, Term, term_of, char_by, input_char, output_char, given_to, first_char, char_given, char_or_plain, pin_char, row_chars, section_vectors, sections_vectors}
-use Rattle.std.proofs.lemmas.List.Elements.{All-append, All-nil, All-cons, All-head, All-tail}
+use Rattle.std.proofs.Common.{◌≡◌, ℕ, ◌==◌, Bool, true, false, ◌&&◌, ◌||◌, if◌then◌else◌, Option, None, Some, List, [], ◌∷◌, map, refl, sym, ap, ap₂, ◌∙◌, All}
+use Rattle.abel_vectors.proofs.Common.{list_all, range_with_len, Vector, Table, IsTestVector, all_chars, chars_of, Kind, APin, ANode, AConstant, ADeviceName, RowTree, SectionTree, SomeVectors, Context, name_at, Mark, Level, Unknown, Pulsed, Released, marks_of, targets_of, Term, term_of, char_by, input_char, output_char, given_to, first_char, char_given, char_or_plain, pin_char, row_chars, section_vectors, sections_vectors}
+use Rattle.std.proofs.lemmas.List.Folds.{list_all-append, list_all-map}
+use Rattle.std.proofs.lemmas.List.Sums.{AllPass-from_list_all}
 use Rattle.pld_device.specs.Macrocells.{complement_if}
 use Rattle.jedec_file.specs.Fields.{is_test_char}
 
@@ -66,42 +66,27 @@ pin_tests d h k r pin =
     (side_tests d pin input_char (targets_of h) (marks_of d h (term_of d.known r.inputs)) input_tests)
     (side_tests d pin output_char (targets_of k) (marks_of d k (term_of d.known r.outputs)) output_tests))
 
-pins_test : (d : Context) (h k : Term) (r : RowTree) (pins : List ℕ) → list_all is_test_char (map (pin_char d h k r) pins) ≡ true
-pins_test d h k r [] = refl
-pins_test d h k r (pin ∷ pins) = ap₂ (λ a b. a && b) (pin_tests d h k r pin) (pins_test d h k r pins)
-
 -- ---- texts
 
-abbrev pub AllTest : List (List ℕ) → Type 0
-AllTest css = All (λ (cs : List ℕ). list_all is_test_char cs ≡ true) css
+-- all that a function gives passes
+mapped_pass : {X Y : Type 0} (p : X → Bool) (f : Y → X) (ys : List Y) → ((y : Y) → p (f y) ≡ true) → list_all p (map f ys) ≡ true
+mapped_pass p f [] h = refl
+mapped_pass p f (y ∷ ys) h = ap₂ (λ a b. a && b) (h y) (mapped_pass p f ys h)
 
-none_test : AllTest []
-none_test = All-nil (λ (cs : List ℕ). list_all is_test_char cs ≡ true)
+abbrev pub are_test_texts : List (List ℕ) → Bool
+are_test_texts css = list_all (λ cs. list_all is_test_char cs) css
 
-rows_test : (d : Context) (h k : Term) (rs : List RowTree) → AllTest (map (row_chars d h k) rs)
-rows_test d h k [] = none_test
-rows_test d h k (r ∷ rs) =
-    All-cons (λ (cs : List ℕ). list_all is_test_char cs ≡ true) (row_chars d h k r) (map (row_chars d h k) rs) (pins_test d h k r (range_with_len 1 d.device.pins)) (rows_test d h k rs)
+pub section_test : (d : Context) (s : SectionTree) → are_test_texts (section_vectors d s) ≡ true
+section_test d (SomeVectors _ p a b rs) =
+    let h = term_of d.known a in
+    let k = term_of d.known b in
+    mapped_pass (λ cs. list_all is_test_char cs) (row_chars d h k) rs (λ r. mapped_pass is_test_char (pin_char d h k r) (range_with_len 1 d.device.pins) (pin_tests d h k r))
+section_test d _ = refl
 
-pub section_test : (d : Context) (s : SectionTree) → AllTest (section_vectors d s)
-section_test d (SomeVectors _ p a b rs) = rows_test d (term_of d.known a) (term_of d.known b) rs
-section_test d (Declarations ds) = none_test
-section_test d (Equations ss) = none_test
-section_test d (ATable p a c b rs) = none_test
-section_test d (ADiagram p t ss) = none_test
-section_test d (DontCareSection c) = none_test
-
-pub sections_test : (d : Context) (ss : List SectionTree) → AllTest (sections_vectors d ss)
-sections_test d [] = none_test
-sections_test d (s ∷ ss) = All-append (λ (cs : List ℕ). list_all is_test_char cs ≡ true) (section_vectors d s) (sections_vectors d ss) (section_test d s) (sections_test d ss)
+pub sections_test : (d : Context) (ss : List SectionTree) → are_test_texts (sections_vectors d ss) ≡ true
+sections_test d [] = refl
+sections_test d (s ∷ ss) = list_all-append (λ cs. list_all is_test_char cs) (section_vectors d s) (sections_vectors d ss) ∙ ap₂ (λ a b. a && b) (section_test d s) (sections_test d ss)
 
 -- vectors of such texts
-pub all_test : (t : Table) (vs : List Vector) (css : List (List ℕ)) → all_chars t vs ≡ css → AllTest css → All (IsTestVector t) vs
-all_test t vs css e h = each vs (subst AllTest (sym e) h)
-  where
-    test : List ℕ → Type 0
-    test cs = list_all is_test_char cs ≡ true
-
-    each : (ws : List Vector) → AllTest (all_chars t ws) → All (IsTestVector t) ws
-    each [] k = All-nil (IsTestVector t)
-    each (v ∷ ws) k = All-cons (IsTestVector t) v ws (All-head test _ (all_chars t ws) k) (each ws (All-tail test _ (all_chars t ws) k))
+pub all_test : (t : Table) (vs : List Vector) (css : List (List ℕ)) → all_chars t vs ≡ css → are_test_texts css ≡ true → All (IsTestVector t) vs
+all_test t vs css e h = AllPass-from_list_all (λ v. list_all is_test_char (chars_of t v)) vs (sym (list_all-map (λ cs. list_all is_test_char cs) (chars_of t) vs) ∙ ap are_test_texts e ∙ h)

@@ -1,8 +1,7 @@
 -- What is refused of test vectors, by computation. a is pin 1, b is !pin 2, e pin 3, n a node, k is .C., z is .Z.
 use Rattle.abel_vectors.proofs.Common.{Place, Kind, APin, ANode, AConstant, Entry, Tree, ANumber, ASpecial, AName, ASet, AParen, SetMember, OneMember, members_of, RowTree, SomeVectors, Context, context_of, SectionFault, MisplacedSpecial, BadVector, vectors_refused}
 use Prim.Native.String.{String}
-use Rattle.std.specs.Prelude.{◌≡◌, ℕ, true, false, None, Some, List, [], ◌∷◌, codes}
-use Rattle.std.proofs.Common.{refl}
+use Rattle.std.proofs.Common.{◌≡◌, ℕ, true, false, None, Some, List, [], ◌∷◌, codes, refl}
 use Rattle.pld_device.specs.SampleTable.{sample}
 use Rattle.abel_tree.specs.declared.words.Extension.TheVariants as extension
 use Rattle.abel_tree.specs.declared.words.Word.{Word}

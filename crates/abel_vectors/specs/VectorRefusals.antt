@@ -1,7 +1,8 @@
 -- What is refused of test vectors (ABEL-HDL Reference Manual, test vectors; JESD3-C, test vector field; one character for
 -- each pin, and the limit, are this project's rules).
-use Rattle.std.specs.Prelude.{ℕ, suc, ◌==◌, nat_lt, Bool, true, false, not, ◌&&◌, ◌||◌, Option, None, Some, List, [], ◌∷◌, ◌++◌, get_or, if◌then◌else◌}
-use Rattle.abel_vectors.specs.Prelude.{list_all, list_any, Place, Entry, Kind, APin, ANode, AConstant, ADeviceName, Tree, RowTree, SectionTree, SomeVectors, Context, no_name, Mark, Pulsed, marks_of, targets_of, Term, term_of, input_char, output_char, SectionFault, BadVector, expression_found, unless_met, entry_refused}
+use Rattle.std.specs.Prelude.{ℕ, suc, ◌==◌, nat_lt, Bool, true, false, not, ◌&&◌, ◌||◌, Option, None, Some, List, [], ◌∷◌, ◌++◌, get_or, filter_map, option_map, zip, if◌then◌else◌}
+use Rattle.abel_vectors.specs.Prelude.{list_all, list_any, Place, Entry, Kind, APin, ANode, AConstant, ADeviceName, Tree, RowTree, SectionTree, SomeVectors, Context, no_name, Mark, Pulsed, marks_of, targets_of, Term, term_of, input_char, output_char, SectionFault, expression_found, unless_met, entry_refused}
+use Rattle.set_expr.specs.declared.fault.SectionFault.TheVariants.{BadVector}
 use Rattle.std.specs.Option.{is_none, is_some}
 use Rattle.truth_tables.specs.HeaderSignals.{names_positions}
 
@@ -36,23 +37,16 @@ header_refused d p inputs outputs = side_refused d p inputs ++ side_refused d p 
 
 -- ---- rows
 
--- a character of a pin, if there is one
-abbrev pub char_if : (pin : ℕ) → Option ℕ → List (ℕ × ℕ)
-char_if pin None = []
-char_if pin (Some c) = (pin, c) ∷ []
+-- the character that a position gives to a pin, and those of a side
+abbrev pub char_for : Option (ℕ × Bool) → (Bool → Mark → Option ℕ) → Mark → Option (ℕ × ℕ)
+char_for None char mark = None
+char_for (Some x) char mark = option_map (λ c. (x.0, c)) (char x.1 mark)
 
--- the characters that a position gives to pins, and those of a side
-abbrev pub char_for : Option (ℕ × Bool) → (Bool → Mark → Option ℕ) → Mark → List (ℕ × ℕ)
-char_for None char mark = []
-char_for (Some x) char mark = char_if x.0 (char x.1 mark)
-
-abbrev pub position_gives : List Entry → (Bool → Mark → Option ℕ) → Option ℕ → Mark → List (ℕ × ℕ)
+abbrev pub position_gives : List Entry → (Bool → Mark → Option ℕ) → Option ℕ → Mark → Option (ℕ × ℕ)
 position_gives es char s mark = char_for (pin_at es s) char mark
 
 abbrev pub chars_for : List Entry → (Bool → Mark → Option ℕ) → List (Option ℕ) → List Mark → List (ℕ × ℕ)
-chars_for es char [] marks = []
-chars_for es char (s ∷ ss) [] = []
-chars_for es char (s ∷ ss) (m ∷ marks) = position_gives es char s m ++ chars_for es char ss marks
+chars_for es char ss marks = filter_map (λ (x : Option ℕ × Mark). position_gives es char x.0 x.1) (zip ss marks)
 
 -- some pin has another character than this one
 abbrev pub gives_another : ℕ × ℕ → ℕ × ℕ → Bool
@@ -70,9 +64,7 @@ position_pulses (Some s) Pulsed = true
 position_pulses (Some s) mark = false
 
 abbrev pub tests_pulse : List (Option ℕ) → List Mark → Bool
-tests_pulse [] marks = false
-tests_pulse (s ∷ ss) [] = false
-tests_pulse (s ∷ ss) (m ∷ marks) = position_pulses s m || tests_pulse ss marks
+tests_pulse ss marks = list_any (λ (x : Option ℕ × Mark). position_pulses x.0 x.1) (zip ss marks)
 
 -- all characters of a row under a header with these positions
 abbrev pub all_given : List Entry → (inputs : List (Option ℕ)) → List Mark → (outputs : List (Option ℕ)) → List Mark → List (ℕ × ℕ)

@@ -1,12 +1,12 @@
 //! What is found of vectors, row after row and section after section.
 
-ghost use Rattle.std.specs.Prelude.{◌≡◌, ℕ, true, ◌||◌, ◌++◌, [], Some, is_some, IfSome, IfNone, List, Ok};
-ghost use Rattle.abel_vectors.specs.Prelude.{Table, first_refusal, section_order, SectionFault};
+ghost use Rattle.std.specs.Prelude.{◌≡◌, ℕ, Some, [], ◌∷◌, IfErr, IfOk, List, Ok, OnOk};
+ghost use Rattle.abel_vectors.specs.Prelude.{Table, chars_of, first_refusal, section_order, SectionFault};
 ghost use Rattle.abel_tree.specs.FirstRefusal as refusal;
-ghost use Rattle.abel_vectors.specs.{fault_in, Finds, IsFound, NothingFound, IsAnswer};
+ghost use Rattle.abel_vectors.specs.{fault_in, Finds, IsFound, IsReadAs, NothingFound, IsAnswer};
 
 use abel_tree::{earlier, is_before};
-use pld_base::Vector;
+use pld_base::{OutOfMemory, Vector};
 use set_expr::SectionFault;
 use std::alloc::Global;
 
@@ -15,16 +15,6 @@ use std::alloc::Global;
 pub(crate) struct Found {
     pub fault: Option<SectionFault>,
     pub list: Vec<Vector>,
-}
-
-/// The refusal of what was read, if there is one.
-fn fault_in<A>(read: &Result<A, SectionFault>) -> Option<SectionFault>
-    ensures { result ≡ fault_in read.now }
-{
-    match read {
-        Ok(_) => None,
-        Err(fault) => Some(*fault),
-    }
 }
 
 impl Found {
@@ -38,23 +28,25 @@ impl Found {
         }
     }
 
-    /// Both of two things that were read in this order, unless one is refused.
-    pub(crate) fn both<A: Drop, B: Drop>(
-        &mut self,
-        left: Result<A, SectionFault>,
-        right: Result<B, SectionFault>,
-    ) -> Option<(A, B)>
-        ensures found { (t : Table) (rs ss : List SectionFault) → fault_in left ≡ first_refusal section_order rs
-            → fault_in right ≡ first_refusal section_order ss → Finds t (rs ++ ss) [] self.old self.new }
-        ensures both { IfSome result (λ x. (left ≡ Ok x.0) × (right ≡ Ok x.1)) }
-        ensures refused { IfNone result ((is_some (fault_in left) || is_some (fault_in right)) ≡ true) }
+    /// One refusal more.
+    pub(crate) fn refuse(&mut self, fault: SectionFault)
+        ensures { (t : Table) (rs : List SectionFault) (texts : List (List ℕ)) → first_refusal section_order rs ≡ Some fault
+            → Finds t rs texts self.old self.new }
     {
-        let refused = earlier(fault_in(&left), fault_in(&right));
-        self.fault = earlier(self.fault, refused);
-        match (left, right) {
-            (Ok(left), Ok(right)) => Some((left, right)),
-            (Err(_), _) => None,
-            (Ok(_), Err(_)) => None,
+        self.fault = earlier(self.fault, Some(fault));
+    }
+
+    /// The vector of one row more, or its refusal.
+    pub(crate) fn add(&mut self, read: Result<Vector, SectionFault>) -> Result<(), OutOfMemory>
+        ensures { OnOk result ((t : Table) (rs : List SectionFault) (text : List ℕ)
+            → IsReadAs rs (λ vector. chars_of t vector ≡ text) read → Finds t rs (text ∷ []) self.old self.new) }
+    {
+        match read {
+            Ok(vector) => Ok(self.list.push(vector)?),
+            Err(fault) => {
+                self.refuse(fault);
+                Ok(())
+            }
         }
     }
 
@@ -70,12 +62,29 @@ impl Found {
     }
 }
 
-/// The first of two refusals of which one is there.
-pub(crate) fn first_of(first: SectionFault, other: Option<SectionFault>) -> SectionFault
-    ensures { Some result ≡ refusal.earlier section_order (Some first) other }
+/// The first of two refusals.
+pub(crate) fn first_of(first: SectionFault, other: SectionFault) -> SectionFault
+    ensures { Some result ≡ refusal.earlier section_order (Some first) (Some other) }
 {
-    match other {
-        Some(other) if is_before(&other, &first) => other,
-        _ => first,
+    if is_before(&other, &first) {
+        other
+    } else {
+        first
+    }
+}
+
+/// Both of two things that were read in this order, or the first refusal.
+pub(crate) fn both<A: Drop, B: Drop>(
+    left: Result<A, SectionFault>,
+    right: Result<B, SectionFault>,
+) -> Result<(A, B), SectionFault>
+    ensures read { IfOk result (λ x. (left ≡ Ok x.0) × (right ≡ Ok x.1)) }
+    ensures refused { IfErr result (λ f. Some f ≡ refusal.earlier section_order (fault_in left) (fault_in right)) }
+{
+    match (left, right) {
+        (Ok(left), Ok(right)) => Ok((left, right)),
+        (Ok(_), Err(right)) => Err(right),
+        (Err(left), Ok(_)) => Err(left),
+        (Err(left), Err(right)) => Err(first_of(left, right)),
     }
 }

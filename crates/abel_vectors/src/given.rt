@@ -1,33 +1,41 @@
 //! The characters that the entries of a row give to pins.
 
-ghost use Rattle.std.specs.Prelude.{◌≡◌, ◌++◌, IfOk, OnOk, map};
+ghost use Rattle.std.specs.Prelude.{◌≡◌, IfOk};
 ghost use Rattle.abel_vectors.specs.Prelude.{list_any, entries_of, view_mark};
-ghost use Rattle.abel_vectors.specs.{char_in, found_at, chars_for, disagree, gives_another, position_gives, position_pulses, tests_pulse};
+ghost use Rattle.abel_vectors.specs.{char_in, found_at, chars_read, disagree, gives_another, position_gives, position_pulses, pulse_read};
 
 use crate::chars::{Role, role_char};
 use crate::pins::pin_at;
 use pld_base::OutOfMemory;
 use set_expr::Scope;
+use std::alloc::Global;
 use truth_tables::Mark;
 
-/// Puts down the character that a mark gives at a position, with its pin.
-fn put_mark(
+/// The character that a mark gives at a position of a header, with its pin; None where it gives none.
+fn char_at(scope: &Scope<'_>, role: Role, signal: Option<u32>, mark: Mark) -> Option<(u8, u8)>
+    ensures { result ≡ position_gives (entries_of scope.now) (char_in role) signal (view_mark mark) }
+{
+    let (pin, negated) = pin_at(scope, signal)?;
+    let char = role_char(role, negated, mark)?;
+    Some((pin, char))
+}
+
+/// The characters of a side of a row, each with its pin.
+pub(crate) fn side_chars(
+    alloc: Global,
     scope: &Scope<'_>,
     role: Role,
-    signal: Option<u32>,
-    mark: Mark,
-    list: &mut Vec<(u8, u8)>,
-) -> Result<(), OutOfMemory>
-    ensures { OnOk result (list.new.items ≡ list.old.items ++ position_gives (entries_of scope.now) (char_in role) signal (view_mark mark)) }
+    signals: &[Option<u32>],
+    marks: &[Mark],
+) -> Result<Vec<(u8, u8)>, OutOfMemory>
+    ensures { IfOk result (λ list. list.items ≡ chars_read (entries_of scope.now) (char_in role) signals.now marks.now) }
 {
-    let Some((pin, negated)) = pin_at(scope, signal) else {
-        return Ok(());
-    };
-    let Some(char) = role_char(role, negated, mark) else {
-        return Ok(());
-    };
-    list.push((pin, char))?;
-    Ok(())
+    let list = signals
+        .iter()
+        .zip(marks.iter())
+        .filter_map(|(signal, mark)| char_at(scope, role, *signal, *mark))
+        .collect(alloc)?;
+    Ok(list)
 }
 
 /// Whether a mark is `.C.` at a position that is a pin.
@@ -40,24 +48,14 @@ fn is_pulsed(signal: Option<u32>, mark: Mark) -> bool
     }
 }
 
-/// Puts down the characters of a side of a row, each with its pin; whether `.C.` stands at one of its pins.
-pub(crate) fn put_side(
-    scope: &Scope<'_>,
-    role: Role,
-    signals: &[Option<u32>],
-    marks: &[Mark],
-    list: &mut Vec<(u8, u8)>,
-) -> Result<bool, OutOfMemory>
-    ensures pulses { IfOk result (λ pulsed. pulsed ≡ tests_pulse signals.now (map view_mark marks.now)) }
-    ensures chars { OnOk result (list.new.items ≡ list.old.items ++ chars_for (entries_of scope.now) (char_in role) signals.now (map view_mark marks.now)) }
+/// Whether `.C.` stands at a position of a side that is a pin.
+pub(crate) fn tests_pulse(signals: &[Option<u32>], marks: &[Mark]) -> bool
+    ensures { result ≡ pulse_read signals.now marks.now }
 {
-    let mut pulsed = false;
-    let count = signals.len().min(marks.len());
-    for index in 0..count {
-        put_mark(scope, role, signals[index], marks[index], list)?;
-        pulsed |= is_pulsed(signals[index], marks[index]);
-    }
-    Ok(pulsed)
+    signals
+        .iter()
+        .zip(marks.iter())
+        .any(|(signal, mark)| is_pulsed(*signal, *mark))
 }
 
 /// The first character that is given to a pin.

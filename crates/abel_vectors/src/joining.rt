@@ -1,7 +1,7 @@
 //! All that the sections of a source say.
 
-ghost use Rattle.std.specs.Prelude.{◌≤◌, ◌++◌, All, IfOk, List, length};
-ghost use Rattle.abel_vectors.specs.Prelude.{IsTestVector, entries_of, view_module, Design, design_for, SectionFault, IsTold, sections_refused};
+ghost use Rattle.std.specs.Prelude.{◌≤◌, All, IfOk, length};
+ghost use Rattle.abel_vectors.specs.Prelude.{IsTestVector, entries_of, view_module, Design, design_for, IsTold, sections_refused};
 ghost use Rattle.abel_vectors.specs.{AnswersAll, all_sections_refused, AnswersVectors};
 
 use crate::finding::first_of;
@@ -21,26 +21,19 @@ pub struct SourceSections {
     pub vectors: Vec<Vector>,
 }
 
-/// The first of a refusal of the sections and of one of the vectors; want of memory comes before both.
-fn told_of_both(section: SectionFault, vector: SectionFault) -> SectionFault
-    ensures { (rs ss : List SectionFault) → IsTold rs section → IsTold ss vector → IsTold (rs ++ ss) result }
-{
-    match section {
-        SectionFault::OutOfMemory => section,
-        _ => match vector {
-            SectionFault::OutOfMemory => vector,
-            _ => first_of(section, Some(vector)),
-        },
-    }
-}
-
-/// The same, where the vectors may not be refused.
+/// The first refusal where the sections are refused, and perhaps the vectors too; want of memory comes before both.
 fn first_with(section: SectionFault, tested: &Result<Vec<Vector>, SectionFault>) -> SectionFault
     ensures { (d : Design) → IsTold (sections_refused d) section → AnswersVectors d tested.now → IsTold (all_sections_refused d) result }
 {
     match tested {
         Ok(_) => section,
-        Err(vector) => told_of_both(section, *vector),
+        Err(vector) => match section {
+            SectionFault::OutOfMemory => section,
+            _ => match *vector {
+                SectionFault::OutOfMemory => *vector,
+                _ => first_of(section, *vector),
+            },
+        },
     }
 }
 

@@ -29,26 +29,11 @@ pub(crate) fn pin_at(scope: &Scope<'_>, signal: Option<u32>) -> Option<(u8, bool
     ensures { result ≡ refused.pin_at (entries_of scope.now) signal }
 {
     let list = scope.list();
-    match signal {
-        Some(number) => {
-            if (number as usize) < list.len() {
-                pin_of(&list[number as usize].meaning)
-            } else {
-                None
-            }
-        }
-        None => None,
-    }
-}
-
-/// The character of a pin that no entry speaks of.
-fn plain_char<D: Device>(pin: u8) -> u8
-    ensures { result ≡ meant.plain_char D.table pin }
-{
-    if pin == D::GROUND || pin == D::PINS {
-        b'N'
+    let number = signal? as usize;
+    if number < list.len() {
+        pin_of(&list[number].meaning)
     } else {
-        b'X'
+        None
     }
 }
 
@@ -58,7 +43,8 @@ fn pin_char<D: Device>(list: &[(u8, u8)], pin: u8) -> u8
 {
     match first_at(list, pin) {
         Some(char) => char,
-        None => plain_char::<D>(pin),
+        None if pin == D::GROUND || pin == D::PINS => b'N',
+        None => b'X',
     }
 }
 

@@ -2,11 +2,11 @@
 
 ghost use Rattle.std.specs.Prelude.{◌≡◌, ℕ, ◌+◌, ◌-◌, IfOk, OnOk, map};
 ghost use Rattle.abel_vectors.specs.Prelude.{first_refusal, view_vector_row, context_for, section_order, Tree, Context, marks_of, Term, term_of, SectionFault, IsRead, view_mark, entry_refused};
-ghost use Rattle.abel_vectors.specs.{IsReadAs, AddsVector, FindsRow, FindsRows, IsRowVector, NamesPins, one_too_many};
+ghost use Rattle.abel_vectors.specs.{IsReadAs, IsRowRead, FindsRows, IsRowVector, NamesPins, one_too_many};
 
 use crate::chars::Role;
-use crate::finding::Found;
-use crate::given::{disagree, put_side};
+use crate::finding::{Found, both};
+use crate::given::{disagree, side_chars, tests_pulse};
 use crate::pins::vector_of;
 use abel_tree::{VectorRow, Vectors, earlier};
 use pld_base::{OutOfMemory, Place, Vector};
@@ -31,12 +31,12 @@ fn row_vector<D: Device>(
     driven: &[Mark],
     tested: &[Mark],
 ) -> Result<Option<Vector>, OutOfMemory>
-    ensures { IfOk result (λ vector. IsRowVector (context_for D.table scope.now) header.now.driven.now (map view_mark driven.now) header.now.tested.now (map view_mark tested.now) vector) }
+    ensures { IfOk result (λ vector. IsRowVector (context_for D.table scope.now) header.now.driven.now driven.now header.now.tested.now tested.now vector) }
 {
-    let mut list = Vec::new(alloc);
-    put_side(scope, Role::Driven, header.driven, driven, &mut list)?;
-    let pulsed = put_side(scope, Role::Tested, header.tested, tested, &mut list)?;
-    if pulsed || disagree(list.as_slice()) {
+    let mut list = side_chars(alloc, scope, Role::Driven, header.driven, driven)?;
+    let mut behind = side_chars(alloc, scope, Role::Tested, header.tested, tested)?;
+    list.append(&mut behind)?;
+    if tests_pulse(header.tested, tested) || disagree(list.as_slice()) {
         Ok(None)
     } else {
         Ok(Some(vector_of::<D>(list.as_slice())))
@@ -54,33 +54,21 @@ fn marks_in(entry: Entry) -> Result<Vec<Mark>, SectionFault>
     }
 }
 
-/// The vector of the row at this place, which is refused where it has none.
-fn add_vector(found: &mut Found, place: Place, vector: Option<Vector>) -> Result<(), OutOfMemory>
-    ensures { OnOk result (AddsVector place vector found.old found.new) }
-{
-    match vector {
-        Some(vector) => found.list.push(vector)?,
-        None => found.fault = earlier(found.fault, Some(SectionFault::BadVector(place))),
-    }
-    Ok(())
-}
-
 /// A row: its vector, or its first refusal.
 fn read_row<D: Device>(
     alloc: Global,
     scope: &Scope<'_>,
     header: &Header<'_>,
     row: &VectorRow,
-    found: &mut Found,
-) -> Result<(), OutOfMemory>
+) -> Result<Result<Vector, SectionFault>, OutOfMemory>
     requires { NamesPins (context_for D.table scope.now) header.now }
-    ensures { OnOk result (FindsRow (context_for D.table scope.now) header.now (view_vector_row row.now) found.old found.new) }
+    ensures { IfOk result (λ read. IsRowRead (context_for D.table scope.now) header.now (view_vector_row row.now) read) }
 {
     let bad = SectionFault::BadVector(row.place);
     let driven = read_entry(alloc, scope, bad, &header.section.inputs, &row.inputs)?;
     let tested = read_entry(alloc, scope, bad, &header.section.outputs, &row.outputs)?;
-    match found.both(marks_in(driven), marks_in(tested)) {
-        Some((driven, tested)) => {
+    match both(marks_in(driven), marks_in(tested)) {
+        Ok((driven, tested)) => {
             let vector = row_vector::<D>(
                 alloc,
                 scope,
@@ -88,9 +76,9 @@ fn read_row<D: Device>(
                 driven.as_slice(),
                 tested.as_slice(),
             )?;
-            add_vector(found, row.place, vector)
+            Ok(vector.ok_or(bad))
         }
-        None => Ok(()),
+        Err(fault) => Ok(Err(fault)),
     }
 }
 
@@ -122,7 +110,8 @@ pub(crate) fn read_rows<D: Device>(
         let row = &rows[index];
         let full = refuse_room(room, index, row.place);
         found.fault = earlier(found.fault, full);
-        read_row::<D>(alloc, scope, header, row, found)?;
+        let read = read_row::<D>(alloc, scope, header, row)?;
+        found.add(read)?;
     }
     Ok(())
 }

@@ -1,11 +1,10 @@
 //! Sections of vectors: one, and all of a source.
 
 ghost use Rattle.std.specs.Prelude.{◌≡◌, ℕ, ◌+◌, ◌-◌, ◌≤◌, All, IfOk, OnOk, length};
-ghost use Rattle.abel_vectors.specs.Prelude.{IsTestVector, entries_of, view_module, view_section, Place, Tree, Context, design_for, targets_of, term_of, section_vectors, sections_vectors, context_for};
-ghost use Rattle.source_sections.specs.Reading.{view_sections};
-ghost use Rattle.abel_vectors.specs.{Finds, FindsSection, IsFound, IsReadAs, IsSide, view_vectors, AnswersVectors, refused_behind, Answers, side_refused, vectors_refused};
+ghost use Rattle.abel_vectors.specs.Prelude.{IsTestVector, entries_of, view_module, view_section, Place, Tree, Context, design_for, targets_of, term_of, section_vectors, context_for};
+ghost use Rattle.abel_vectors.specs.{Finds, FindsSection, IsReadAs, IsSide, view_vectors, AnswersVectors, Answers, side_refused, vectors_refused};
 
-use crate::finding::Found;
+use crate::finding::{Found, both};
 use crate::headers::{Side, read_side};
 use crate::rows::{Header, read_rows};
 use abel_tree::{Module, Section, Vectors};
@@ -40,8 +39,8 @@ fn read_section<D: Device>(
 {
     let inputs = read_side(alloc, scope, section.place, &section.inputs)?;
     let outputs = read_side(alloc, scope, section.place, &section.outputs)?;
-    match found.both(pins_in(inputs), pins_in(outputs)) {
-        Some((driven, tested)) => {
+    match both(pins_in(inputs), pins_in(outputs)) {
+        Ok((driven, tested)) => {
             let header = Header {
                 section,
                 driven: driven.as_slice(),
@@ -49,7 +48,10 @@ fn read_section<D: Device>(
             };
             read_rows::<D>(alloc, scope, &header, room, found)
         }
-        None => Ok(()),
+        Err(fault) => {
+            found.refuse(fault);
+            Ok(())
+        }
     }
 }
 
@@ -93,25 +95,8 @@ pub fn vectors<D: Device>(
     found.answer()
 }
 
-/// The first refusal, by place, of the vectors of sections, and the vectors where there is none. All sections are gone
-/// over, since any may have the first refusal.
-fn read_sections<D: Device>(
-    alloc: Global,
-    scope: &Scope<'_>,
-    sections: &[Section],
-) -> Result<Found, OutOfMemory>
-    ensures { IfOk result (λ found. IsFound D.table (refused_behind (context_for D.table scope.now) 0 (view_sections sections.now)) (sections_vectors (context_for D.table scope.now) (view_sections sections.now)) found) }
-{
-    let mut found = Found::new(alloc);
-    let mut room = MOST;
-    for section in sections {
-        room = add_section::<D>(alloc, scope, section, room, &mut found)?;
-    }
-    Ok(found)
-}
-
 /// The test vectors of a module as the characters of the device's pins, in order of the source, where nothing of them is
-/// refused; else the first refusal by place.
+/// refused; else the first refusal by place. All sections are gone over, since any may have it.
 pub(crate) fn all_vectors<D: Device>(
     alloc: Global,
     scope: &Scope<'_>,
@@ -122,6 +107,10 @@ pub(crate) fn all_vectors<D: Device>(
     ensures few { IfOk result (λ list. length list.items ≤ 9999) }
     ensures chars { IfOk result (λ list. All (IsTestVector D.table) list.items) }
 {
-    let found = read_sections::<D>(alloc, scope, source.sections.as_slice())?;
+    let mut found = Found::new(alloc);
+    let mut room = MOST;
+    for section in source.sections.as_slice() {
+        room = add_section::<D>(alloc, scope, section, room, &mut found)?;
+    }
     found.answer()
 }

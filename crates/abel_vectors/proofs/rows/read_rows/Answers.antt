@@ -12,9 +12,10 @@ loop-index-preserved g c before e later others =
     let x = c.index-rows-index.result in
     c.loop-index.invariant before e later
     (rows_behind (context_for g.D.Device.table c.args.scope.now) c.args.header.now (i + before) (i + 1 + before) (view_vector_row x) (map view_vector_row (drop i rows)) (map view_vector_row (drop (i + 1) rows))
-    c.refuse_room-full.result c.loop-index.found _ c.read_row.new.found later
+    c.refuse_room-full.result c.loop-index.found _ c.add.new.self later
     (at_drop_more (map view_vector_row) rows i x c.loop-index-test.true ∙ ap (λ y. view_vector_row y ∷ map view_vector_row (drop (i + 1) rows)) (sym c.index-rows-index.is))
-    (omega arith) (c.refuse_room-full.ensures before e) c.earlier-found.ensures refl c.in_ok-read_row.ensures others)
+    (omega arith) (c.refuse_room-full.ensures before e) c.earlier-found.ensures refl
+    (c.in_ok-add.ensures g.D.Device.table _ _ c.in_ok-read.ensures) others)
 
 pub returns : goal.returns
 returns g c before e =
