@@ -1,6 +1,5 @@
 -- A use that isn't refused reads a leaf for which the device has columns.
-use Rattle.std.proofs.Common.{◌≡◌, ℕ, ◌<◌, ◌==◌, Bool, true, false, not, ◌&&◌, ◌||◌, List, length, get_or, Option, Some, None, refl, sym, ap, ◌∙◌, subst, inl, inr}
-use Rattle.std.specs.Prelude.{position, is_some}
+use Rattle.std.proofs.Common.{◌≡◌, ℕ, ◌<◌, ◌==◌, Bool, true, false, not, ◌&&◌, ◌||◌, List, length, get_or, Option, Some, None, refl, sym, ap, ◌∙◌, subst, inl, inr, position, is_some}
 use Rattle.design_checks.proofs.Common.{list_any, cases_Bool, true≢false, eqb-true, eq-eqb, and_parts, list_any_at, slice_get-get_or, cell_at, no_cell, same_leaf, Extension, Kind, APin, ANode, AConstant, ADeviceName, Entry, is_stored, follows_q, Context, name_at, no_name, holds_leaf, carries_level, carries_q, reads_register, reads_pin, reads_by, has_read_path}
 use Rattle.std.proofs.lemmas.List.Quantifiers.{position-Some}
 use Rattle.pld_device.specs.declared.carry.Carry.{Carry}

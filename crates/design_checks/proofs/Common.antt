@@ -1,12 +1,11 @@
 -- The words that the proofs of this crate are said in, passed on from one place. Declares nothing.
 pub use Rattle.std.proofs.lemmas.Bool.{and_parts, and_right, cases_Bool, eq-eqb, eqb-true, true≢false}
 pub use Rattle.std.proofs.lemmas.Bool.Decides.{nat_tests}
-pub use Rattle.std.proofs.lemmas.Grind.{flat_map-append}
+pub use Rattle.std.proofs.lemmas.Grind.{common_steps, flat_map-append}
 pub use Rattle.std.proofs.lemmas.List.{get_or-map, get_or_past, length-map, length-take-le, map-append, take-append-drop, take_all, take_more}
 pub use Rattle.std.proofs.lemmas.List.Folds.{list_all-append, list_any_at}
 pub use Rattle.std.proofs.lemmas.Option.{get_or_from_slice_get, slice_get-get_or}
 pub use Rattle.std.proofs.lemmas.Result.{IfOk-weaker}
-pub use Rattle.std.specs.Global.{Vec}
 pub use Rattle.std.specs.List.{flat_map, list_all, list_any, position_from}
 pub use Rattle.std.specs.Option.{option_or}
 pub use Rattle.abel_meaning.specs.Designs.{Context, Design, name_at, no_name}
@@ -24,7 +23,7 @@ pub use Rattle.abel_tree.specs.declared.words.Extension.{Extension}
 unfoldable pub use Rattle.bit_expr.specs.Arena.{arena}
 pub use Rattle.bit_expr.specs.Formulas.{Formula, same_leaf}
 pub use Rattle.name_uses.specs.RangeParts.{name_items}
-pub use Rattle.name_uses.specs.Viewed.{PartedSection, view_part, view_section_parts, view_use, with_parts}
+pub use Rattle.name_uses.specs.Viewed.{view_part, view_section_parts, view_use, with_parts, word_at}
 pub use Rattle.netlist_laws.specs.SignalUses.{SignalUse, all_term_uses, holds_leaf, term_uses}
 pub use Rattle.pld_base.specs.declared.place.Place.{Place}
 pub use Rattle.pld_device.specs.Table.{Table, cell_at, no_cell}
@@ -34,7 +33,7 @@ pub use Rattle.set_expr.proofs.FoundMembers.{front_more, whole_front}
 pub use Rattle.set_expr.specs.Answer.{IsContextOf}
 pub use Rattle.set_expr.specs.Contexts.{context_for}
 pub use Rattle.set_expr.specs.declared.contributions.Contribution.{Contribution}
-pub use Rattle.design_checks.specs.{AreOfNames, AreToNames, AreUsesOf, ControlsPass, KindsPass, Knows, PlacedUse, UsesAreRead, UsesHaveColumns, aim_refused, aims_refused, all_at, all_positions, any_controls, are_by_pin, branch_uses, branches_uses, carries_level, carries_q, choices_uses, design_uses, else_refused, else_uses, expression_uses, first_read, first_refused, first_signal, first_use, has_extension, has_read_path, is_cell_by_pin, is_compared, is_compared_of, is_enabled_by_pin, is_refused, is_written_at, is_wrong_cell, joined, kept_by, lacking_controls, learning, list_refused, located, may_be_compared, member_located, members_located, missing_uses, names_read, narrow, no_controls, node_refused, none_written, not_written, one_written, other_levels, other_uses, part_uses, parted_uses, positions_by, positions_of, range_located, read_of, reads_by, reads_pin, reads_register, reads_used, refuses, refuses_use, registered_nodes, section_refused, section_uses, sections_refused, sections_uses, signal_kept, signal_used, statement_refused, statement_uses, statements_uses, states_uses, target_controls, targets_refused, told, told_if, unwritten, use_at, use_order, use_under, uses_of, uses_used, values_of, with_uses, written_if, written_of, written_of_all, wrong_kinds}
+pub use Rattle.design_checks.specs.{AreOfNames, AreToNames, AreUsesOf, ControlsPass, KindsPass, Knows, PlacedUse, UsesAreRead, UsesHaveColumns, aim_refused, aims_refused, all_at, all_positions, any_controls, are_by_pin, branch_uses, branches_uses, carries_level, carries_q, choices_uses, else_refused, else_uses, expression_uses, first_read, first_refused, first_signal, first_use, has_extension, has_read_path, is_compared, is_compared_of, is_enabled_by_pin, is_refused, is_written_at, is_wrong_cell, joined, kept_by, lacking_controls, learning, list_refused, located, may_be_compared, member_located, members_located, missing_uses, names_read, names_to, narrow, no_controls, node_refused, none_written, not_written, other_levels, other_uses, part_uses, parted_uses, positions_by, positions_of, range_located, read_of, reads_by, reads_pin, reads_register, reads_used, refuses, refuses_use, registered_nodes, section_refused, section_uses, sections_refused, sections_uses, statement_refused, statement_uses, statements_uses, states_uses, target_controls, targets_refused, told, told_if, unwritten, use_at, use_order, use_under, uses_of, uses_used, values_of, with_uses, written_if, written_of, written_of_all, wrong_kinds}
 pub use Rattle.design_checks.specs.Written.{Written}
 pub use Rattle.design_checks.specs.declared.names.NameUses.{NameUses}
 pub use Rattle.design_checks.specs.declared.refused.RefusedUse.{RefusedUse}

@@ -1,9 +1,7 @@
 -- What is kept of a name, and of the names of a source.
-use Rattle.std.proofs.Common.{◌≡◌, ℕ, ◌<◌, List, map, length, get_or, Option, None, Some, refl, ap, ap₂, sym, ◌∙◌}
-use Rattle.design_checks.proofs.Common.{get_or-map, Extension, Names, Entry, entries_of, Table, Context, name_at, Known, Read, known_of, IsContextOf, context_for, UseRule, positions_by, kept_by, signal_kept, signal_used, use_under, uses_of, is_cell_by_pin, one_written}
-use Rattle.std.proofs.Math.Bool.{and-true}
+use Rattle.std.proofs.Common.{◌≡◌, ℕ, ◌<◌, List, map, length, get_or, Option, None, Some, refl, ap, sym, subst, ◌∙◌}
+use Rattle.design_checks.proofs.Common.{get_or-map, Extension, Names, Entry, entries_of, Table, Context, Known, known_of, IsContextOf, context_for, UseRule, AreUsesOf, NameUses, kept_by, use_under}
 use Rattle.abel_tree.specs.declared.words.Extension.TheVariants as extension
-use Rattle.netlist_laws.specs.Gathered.{cell_of}
 use Rattle.design_checks.specs.declared.front.Positions.{Positions}
 
 -- ---- one name
@@ -40,3 +38,7 @@ is_context_for t n d of =
 -- the name of a number, in a list that is gone through
 pub name_here : {X : Type 0} (v : X → Entry) (xs : List X) (i : ℕ) (x : X) (y : Entry) → i < length xs → x ≡ get_or xs i x → get_or (map v xs) i y ≡ v x
 name_here v xs i x y low is = get_or-map v xs i x y low ∙ ap v (sym is)
+
+-- what is kept of the names of the code
+pub knows_all : (t : Table) (r : UseRule) (n m : Names) (us vs : List NameUses) → m ≡ n → us ≡ vs → AreUsesOf r (context_for t m) m us → AreUsesOf r (context_for t n) m vs
+knows_all t r n m us vs same kept h = subst (λ (k : Names). AreUsesOf r (context_for t k) m vs) same (subst (AreUsesOf r (context_for t m) m) kept h)

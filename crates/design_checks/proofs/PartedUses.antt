@@ -1,9 +1,8 @@
 -- The uses of expressions and of sections over the names that they use.
-use Rattle.std.proofs.Common.{◌≡◌, ℕ, Bool, true, false, not, List, [], ◌∷◌, ◌++◌, map, Option, Some, None, if◌then◌else◌, refl, sym, ap, ap₂, subst, ◌∙◌, append_assoc, append-nil}
-use Rattle.design_checks.proofs.Common.{flat_map, flat_map-append, map-append, Place, Extension, range_names, Tree, ANumber, ASpecial, AName, ASet, AParen, AUnary, ABinary, SetMember, OneMember, SpanMember, Members, NoMember, MoreMembers, Statement, AnAssign, AWhen, AGroup, ADontCare, Otherwise, NoElse, AnElse, Statements, NoStatement, MoreStatements, statements_of, Branch, AGoal, AnIf, ACase, OtherBranch, NoBranch, ABranch, Choices, NoChoice, MoreChoices, RowTree, StateTree, SectionTree, Declarations, Equations, ATable, ADiagram, SomeVectors, DontCareSection, Names, Table, Context, Design, Known, Term, extended_if, term_named, term_of, innermost, PartedSection, with_parts, SignalUse, term_uses, IsContextOf, context_for, AreUsesOf, first_refused, RefusedUse, UseRule, NameUses, PlacedUse, all_at, located, member_located, members_located, range_located, names_read, part_uses, parted_uses, reads_used, uses_used, branch_uses, branches_uses, choices_uses, design_uses, else_uses, expression_uses, is_compared, other_uses, section_uses, sections_uses, statement_uses, statements_uses, states_uses, with_uses}
+use Rattle.std.proofs.Common.{◌≡◌, ℕ, Bool, true, false, not, List, [], ◌∷◌, ◌++◌, map, Option, Some, None, if◌then◌else◌, refl, sym, ap, ap₂, ◌∙◌, append_assoc, append-nil}
+use Rattle.design_checks.proofs.Common.{flat_map, flat_map-append, map-append, Place, Extension, range_names, Tree, ANumber, ASpecial, AName, ASet, AParen, AUnary, ABinary, SetMember, OneMember, SpanMember, Members, NoMember, MoreMembers, Statement, AnAssign, AWhen, AGroup, ADontCare, Otherwise, NoElse, AnElse, Statements, NoStatement, MoreStatements, statements_of, Branch, AGoal, AnIf, ACase, OtherBranch, NoBranch, ABranch, Choices, NoChoice, MoreChoices, RowTree, StateTree, SectionTree, Declarations, Equations, ATable, ADiagram, SomeVectors, DontCareSection, Context, Known, Term, extended_if, term_named, term_of, innermost, with_parts, SignalUse, term_uses, PlacedUse, all_at, located, member_located, members_located, range_located, names_read, part_uses, parted_uses, reads_used, uses_used, branch_uses, branches_uses, choices_uses, else_uses, expression_uses, is_compared, other_uses, section_uses, sections_uses, statement_uses, statements_uses, states_uses, with_uses}
 use Rattle.name_uses.specs.NamesUsed.{UsedName, member_used, members_used, names_used}
 use Rattle.name_uses.specs.Parts.{PartTree, parts_in_branch, parts_in_choices, parts_in_else, parts_in_other, parts_in_row, parts_in_section, parts_in_state, parts_in_statement, parts_in_statements, parts_in_with}
-use Rattle.design_checks.proofs.LearntName.{is_context_for}
 use Rattle.design_checks.proofs.UsesRead.{plain, plain_at, reads, twice}
 
 -- ---- expressions
@@ -153,11 +152,3 @@ module _ (d : Context) where
   pub sections_parted : (xs : List SectionTree) → sections_uses d xs ≡ flat_map (parted_uses d) (map with_parts xs)
   sections_parted [] = refl
   sections_parted (x ∷ xs) = ap₂ (λ us vs. us ++ vs) (of_section x) (sections_parted xs)
-
--- all uses of a design, over the parts of its sections
-pub first_of_design : (r : UseRule) (t : Table) (n : Names) (d : Design) (us : List NameUses) (first : Option RefusedUse) (xs : List PartedSection) → IsContextOf t n d.context → AreUsesOf r (context_for t n) n us
-    → ((e : Context) → AreUsesOf r e n us → first ≡ first_refused r e (flat_map (parted_uses e) xs)) → xs ≡ map with_parts d.sections
-    → first ≡ first_refused r d.context (design_uses d)
-first_of_design r t n d us first xs of knows found parted =
-    found d.context (subst (λ e. AreUsesOf r e n us) (is_context_for t n d.context of) knows)
-    ∙ ap (first_refused r d.context) (ap (flat_map (parted_uses d.context)) parted ∙ sym (sections_parted d.context d.sections))

@@ -1,7 +1,6 @@
 -- What the positions of terms are, one part more.
-use Rattle.std.proofs.Common.{◌≡◌, ℕ, Bool, true, false, ◌&&◌, Option, None, Some, List, [], ◌∷◌, ◌++◌, bytes_eq, if◌then◌else◌, append-nil, refl, ap, ap₂, ◌∙◌}
+use Rattle.std.proofs.Common.{◌≡◌, ℕ, Bool, true, false, ◌&&◌, Option, None, Some, List, [], ◌∷◌, ◌++◌, bytes_eq, if◌then◌else◌, append-nil, refl, ap, ap₂, ◌∙◌, codes}
 use Rattle.design_checks.proofs.Common.{list_all, list_all-append, Extension, SetMember, members_of, Context, targets_of, all_targets, some_signals, Known, Term, X, Pulse, Release, Before, NoTerm, extended_if, named_before, member_before, special_term, term_named, terms_of, targets_more, range_targets, some_append, extended_targets, positions_by, all_positions, are_by_pin, positions_of, is_enabled_by_pin, joined, not_written, written_of, written_of_all}
-use Rattle.std.specs.Prelude.{codes}
 use Rattle.design_checks.proofs.WrittenTerms.{joined_none, members_written, range_written, written_extended}
 
 by_pin_append : (d : Context) (xs ys : List (Option ℕ)) → are_by_pin d (xs ++ ys) ≡ are_by_pin d xs && are_by_pin d ys

@@ -1,6 +1,5 @@
 -- Equations that are refused, one more.
-use Rattle.std.proofs.Common.{◌≡◌, ℕ, suc, ◌+◌, ◌<◌, ◌≤◌, nat_lt, Bool, true, false, List, [], ◌∷◌, ◌++◌, length, map, refl, rules, sym, ap, ◌∙◌, arith, append_assoc, append-nil, Option, Some, None, not}
-use Rattle.std.specs.Prelude.{option_map}
+use Rattle.std.proofs.Common.{◌≡◌, ℕ, suc, ◌+◌, ◌<◌, ◌≤◌, nat_lt, Bool, true, false, List, [], ◌∷◌, ◌++◌, length, map, refl, rules, sym, ap, ◌∙◌, arith, append_assoc, append-nil, Option, Some, None, not, option_map}
 use Rattle.design_checks.proofs.Common.{and_right, nat_tests, Extension, Entry, first_refusal, AWhen, Statement, AGroup, statements_of, otherwise_of, view, view_stmt, stmt_layer, when_layer, Table, Context, name_at, RefusedUse, told_if, use_order, is_compared_of, list_refused, may_be_compared, Written, else_refused, aim_refused, aims_refused, is_written_at, narrow, statement_refused}
 use Rattle.abel_tree.specs.declared.statements.Stmt.{Stmt, the_lemmas as stmt_lemmas}
 use Rattle.abel_tree.specs.declared.statements.Stmt as stmt

@@ -1,6 +1,5 @@
 -- The uses of an expression, each at its place, are what its term reads.
-use Rattle.std.proofs.Common.{◌≡◌, ℕ, Bool, true, false, List, [], ◌∷◌, ◌++◌, map, Option, Some, None, refl, sym, ap, ap₂, ◌∙◌, append_assoc}
-use Rattle.std.specs.Prelude.{if◌then◌else◌, bytes_eq, codes}
+use Rattle.std.proofs.Common.{◌≡◌, ℕ, Bool, true, false, List, [], ◌∷◌, ◌++◌, map, Option, Some, None, refl, sym, ap, ap₂, ◌∙◌, append_assoc, if◌then◌else◌, bytes_eq, codes}
 use Rattle.design_checks.proofs.Common.{map-append, Place, Extension, innermost, range_names, Tree, ANumber, ASpecial, AName, ASet, AParen, AUnary, ABinary, SetMember, OneMember, SpanMember, Members, NoMember, MoreMembers, Term, Terms, Number, X, Pulse, Release, Read, Set, UnaryOf, BinaryOf, NoTerm, Before, Known, term_named, term_of, terms_of, member_before, named_before, extended, extended_each, extended_if, special_term, SignalUse, term_uses, all_term_uses, UsesAreRead, PlacedUse, all_at, range_located, located, members_located, member_located}
 use Rattle.abel_tree.specs.declared.words.Unary.{Unary}
 use Rattle.abel_tree.specs.declared.words.Binary.{Binary}

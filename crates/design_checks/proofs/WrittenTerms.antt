@@ -1,8 +1,7 @@
 -- How terms are written, one part more.
-use Rattle.std.proofs.Common.{◌≡◌, ℕ, ◌+◌, Bool, true, false, List, [], ◌∷◌, ◌++◌, refl, sym, ap, ap₂, ◌∙◌, add-zero, add_assoc, zero-add}
+use Rattle.std.proofs.Common.{◌≡◌, ℕ, ◌+◌, Bool, true, false, List, [], ◌∷◌, ◌++◌, refl, sym, ap, ap₂, ◌∙◌, add-zero, add_assoc, zero-add, Option, None, Some}
 use Rattle.design_checks.proofs.Common.{Extension, range_names, SetMember, OneMember, SpanMember, members_of, Term, Terms, Number, X, Pulse, Release, Read, Set, UnaryOf, BinaryOf, NoTerm, Before, Known, extended, extended_each, extended_if, member_before, named_before, term_named, term_of, terms_of, Written, joined, none_written, written_of, written_of_all}
 use Rattle.abel_tree.specs.declared.words.Unary.TheVariants as unary
-use Rattle.std.specs.Prelude.{Option, None, Some}
 
 -- ---- joined parts
 

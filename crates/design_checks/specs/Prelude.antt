@@ -3,7 +3,7 @@ pub use Rattle.std.specs.List.{flat_map, list_all, list_any}
 pub use Rattle.abel_meaning.specs.Controls.{must_register}
 pub use Rattle.abel_meaning.specs.Designs.{Context, Design, context_of, name_at, no_name}
 pub use Rattle.abel_meaning.specs.Targets.{all_targets, some_signals, targets_of}
-pub use Rattle.abel_meaning.specs.Terms.{Before, BinaryOf, Known, NoTerm, Number, Pulse, Release, Set, Term, Terms, UnaryOf, X, extended_if, known_of, member_before, named_before, term_meant, term_named, term_of}
+pub use Rattle.abel_meaning.specs.Terms.{Before, BinaryOf, Known, NoTerm, Number, Pulse, Release, Set, Term, Terms, UnaryOf, X, extended_if, known_of, member_before, term_meant, term_named, term_of}
 pub use Rattle.abel_tree.specs.Assigned.{target_extension}
 pub use Rattle.abel_tree.specs.Entries.{AConstant, ANode, APin, Entry, Kind, entries_of, is_stored, view_declared, view_meaning}
 pub use Rattle.abel_tree.specs.Extensions.{innermost, is_data}
@@ -17,7 +17,7 @@ pub use Rattle.bit_expr.specs.Arena.{formula_at}
 unfoldable pub use Rattle.bit_expr.specs.Arena.{arena}
 pub use Rattle.bit_expr.specs.Formulas.{And, Const, Formula, Not, Or, Read, Xor}
 pub use Rattle.bit_expr.specs.declared.node.Leaf.{Leaf}
-pub use Rattle.name_uses.specs.Viewed.{PartedSection, view_part, view_role, view_section_parts, view_use}
+pub use Rattle.name_uses.specs.Viewed.{PartedSection, view_part, view_role, view_use}
 pub use Rattle.netlist_laws.specs.Gathered.{cell_of}
 pub use Rattle.netlist_laws.specs.SignalUses.{SignalUse, term_uses, use_reads}
 pub use Rattle.pld_base.specs.declared.place.Place.{Place}

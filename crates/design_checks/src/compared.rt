@@ -2,7 +2,7 @@
 
 ghost use Rattle.std.specs.Prelude.{◌≡◌, ◌<◌, length};
 ghost use Rattle.design_checks.specs.Prelude.{arena, formula_at, view_declared};
-ghost use Rattle.design_checks.specs.{is_level, is_level_if, says_always, says_so};
+ghost use Rattle.design_checks.specs.{is_level, is_level_if, says_always};
 
 use crate::by_pin::{cell_of, is_compared};
 use abel_tree::{Declared, Extension};
@@ -35,27 +35,8 @@ fn is_level_if(exprs: &Exprs, bit: ExprId, complement: bool, pin: u8) -> bool
     }
 }
 
-/// Whether the equation says what the device does, or the device does what it says.
-fn says_so<D: Device>(exprs: &Exprs, declared: &Declared, given: &Contribution) -> bool
-    requires { given.now.when.0 < length (arena exprs.now) }
-    ensures { result ≡ says_so D.table
-        (view_declared declared.now) given.now.target.extension given.now.complement (formula_at
-        (arena exprs.now) given.now.when) }
-{
-    match given.target.extension {
-        Some(Extension::Clk) => is_level_if(exprs, given.when, given.complement, D::CLOCK),
-        Some(Extension::Oe) => match cell_of::<D>(declared) {
-            None => true,
-            Some(cell) => match D::cell(cell).enable {
-                Enable::Row(_) => true,
-                Enable::PinLow(pin) => is_level_if(exprs, given.when, !given.complement, pin),
-            },
-        },
-        _ => true,
-    }
-}
-
-/// Whether it says so wherever it counts: an equation in a diagram counts in a state alone.
+/// Whether the equation says what the device does, or the device does what it says, wherever the equation counts: in a
+/// diagram it counts in a state alone.
 pub(crate) fn says_always<D: Device>(
     exprs: &Exprs,
     declared: &Declared,
@@ -66,8 +47,19 @@ pub(crate) fn says_always<D: Device>(
         (view_declared declared.now) given.now.target.extension given.now.block given.now.complement (formula_at
         (arena exprs.now) given.now.when) }
 {
-    match given.block {
-        None => says_so::<D>(exprs, declared, given),
-        Some(_) => !is_compared::<D>(declared, given.target.extension),
+    let extension = given.target.extension;
+    if let Some(_) = given.block {
+        return !is_compared::<D>(declared, extension);
+    }
+    match extension {
+        Some(Extension::Clk) => is_level_if(exprs, given.when, given.complement, D::CLOCK),
+        Some(Extension::Oe) => match cell_of::<D>(declared) {
+            None => true,
+            Some(cell) => match D::cell(cell).enable {
+                Enable::Row(_) => true,
+                Enable::PinLow(pin) => is_level_if(exprs, given.when, !given.complement, pin),
+            },
+        },
+        _ => true,
     }
 }

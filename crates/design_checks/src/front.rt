@@ -52,18 +52,15 @@ impl Positions {
         ensures { (x y : Written) (b c : Bool) → self ≡ positions_by x b → next ≡ positions_by y c
             → result ≡ positions_by (joined x y) (b && c) }
     {
+        let by_pin = self.by_pin && next.by_pin;
         if self.whole {
             Positions {
                 count: self.count.saturating_add(next.count),
                 whole: next.whole,
-                by_pin: self.by_pin && next.by_pin,
+                by_pin,
             }
         } else {
-            Positions {
-                count: self.count,
-                whole: false,
-                by_pin: self.by_pin && next.by_pin,
-            }
+            Positions { by_pin, ..self }
         }
     }
 

@@ -6,7 +6,7 @@ ghost use Rattle.design_checks.specs.{AreUsesOf, Knows, signal_kept, signal_used
 
 use crate::by_pin::is_enabled_by_pin;
 use crate::front::Positions;
-use crate::names::{KeptUses, NameUses, next_number};
+use crate::names::{KeptUses, NameUses};
 use crate::positions::positions_of;
 use crate::reads::first_in;
 use crate::rule::{UseRule, refuses_use};
@@ -88,8 +88,9 @@ fn learn<D: Device>(
         → n ≡ uses_of names.now.rule d (term_meant d.known number (view_meaning declared.now.meaning))) }
 {
     match &declared.meaning {
-        Meaning::Pin { .. } => Ok(signal_uses::<D>(names.rule, declared, number)),
-        Meaning::Node(_) => Ok(signal_uses::<D>(names.rule, declared, number)),
+        Meaning::Pin { .. } | Meaning::Node(_) => Ok(signal_uses::<D>(
+            names.rule, declared, number,
+        )),
         Meaning::Constant(expr) => constant_uses(alloc, names, expr),
         Meaning::DeviceName => Ok(NameUses::none()),
     }
@@ -114,7 +115,7 @@ pub(crate) fn learn_names<D: Device>(
         };
         let uses = learn::<D>(alloc, &names, declared, number)?;
         list.push(uses)?;
-        number = next_number(number)?;
+        number = number.checked_add(1).ok_or(OutOfMemory)?;
     }
     Ok(list)
 }

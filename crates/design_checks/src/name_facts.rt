@@ -4,7 +4,6 @@ ghost use Rattle.std.specs.Prelude.{◌≡◌, IfOk};
 ghost use Rattle.design_checks.specs.Prelude.{entries_of, view_declared, first_refusal};
 ghost use Rattle.design_checks.specs.{has_wrong_kind, has_wrong_kind_on, is_registered_node, is_wrong_cell, registered_nodes, use_order};
 
-use crate::names::next_number;
 use crate::refused::{RefusedUse, told_if};
 use abel_tree::{Declared, Meaning, earlier};
 use pld_base::OutOfMemory;
@@ -65,7 +64,7 @@ pub fn registered_node(scope: &Scope<'_>) -> Result<Option<RefusedUse>, OutOfMem
     for declared in scope.list() {
         let refused = is_registered_node(declared);
         first = earlier(first, told_if(refused, declared.place, number));
-        number = next_number(number)?;
+        number = number.checked_add(1).ok_or(OutOfMemory)?;
     }
     Ok(first)
 }

@@ -1,13 +1,12 @@
 //! What is kept of each name: its first refused use, by the extension that it stands with, and what its positions are.
 
-ghost use Rattle.std.specs.Prelude.{◌≡◌, ◌+◌, IfOk, get_or};
+ghost use Rattle.std.specs.Prelude.{◌≡◌, get_or};
 ghost use Rattle.design_checks.specs.Prelude.{Context, term_named};
 ghost use Rattle.design_checks.specs.{Knows, no_use, read_of, use_under, uses_of};
 
 use crate::front::Positions;
 use crate::rule::UseRule;
 use abel_tree::Extension;
-use pld_base::OutOfMemory;
 use set_expr::Scope;
 
 /// What is kept of a name: for each extension the first signal whose use is refused where the name stands with it, and
@@ -60,16 +59,6 @@ impl NameUses {
             Some(Extension::Sp) => self.sp,
             Some(Extension::D) => self.d,
         }
-    }
-}
-
-/// The next number of a name; so many names that there is none are more than memory holds.
-pub(crate) fn next_number(number: u32) -> Result<u32, OutOfMemory>
-    ensures { IfOk result (λ n. n ≡ number + 1) }
-{
-    match number.checked_add(1) {
-        Some(next) => Ok(next),
-        None => Err(OutOfMemory),
     }
 }
 

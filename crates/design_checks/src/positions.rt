@@ -1,34 +1,15 @@
 //! What the positions of expressions are, by those of the names in them.
 
 ghost use Rattle.std.specs.Prelude.{◌≡◌, IfOk};
-ghost use Rattle.design_checks.specs.Prelude.{range_names, view, view_member, Context, NoTerm, member_before, named_before, term_of};
+ghost use Rattle.design_checks.specs.Prelude.{view, view_member, Context, NoTerm, member_before, term_of};
 ghost use Rattle.design_checks.specs.{Knows, all_positions, positions_of};
 
 use crate::front::Positions;
 use crate::names::KeptUses;
-use abel_tree::{Expr, Member, Unary, Word};
+use abel_tree::{Expr, Member, Unary};
 use name_uses::range_list;
 use pld_base::OutOfMemory;
 use std::alloc::Global;
-
-/// Of the names of a range.
-fn range_positions(
-    alloc: Global,
-    names: &KeptUses<'_, '_>,
-    first: &Word,
-    last: &Word,
-) -> Result<Positions, OutOfMemory>
-    ensures { IfOk result (λ p. (d : Context) → Knows d names.now
-        → p ≡ all_positions d (named_before d.known (range_names first.now.text last.now.text) NoTerm)) }
-{
-    let list = range_list(alloc, first.text.bytes(), last.text.bytes())?;
-    let mut positions = Positions::none();
-    for name in &list {
-        let next = names.get(name.as_slice()).positions;
-        positions = positions.with(next);
-    }
-    Ok(positions)
-}
 
 /// Of a member of a set.
 #[cycle(positions)]
@@ -42,7 +23,15 @@ fn member_positions(
 {
     match member {
         Member::One(expr) => positions_of(alloc, names, expr),
-        Member::Span { first, last } => range_positions(alloc, names, first, last),
+        Member::Span { first, last } => {
+            let list = range_list(alloc, first.text.bytes(), last.text.bytes())?;
+            let mut positions = Positions::none();
+            for name in &list {
+                let next = names.get(name.as_slice()).positions;
+                positions = positions.with(next);
+            }
+            Ok(positions)
+        }
     }
 }
 
@@ -71,9 +60,8 @@ pub(crate) fn positions_of(
             Unary::Not => {
                 let inner = positions_of(alloc, names, inner.get())?;
                 Ok(Positions {
-                    count: inner.count,
-                    whole: inner.whole,
                     by_pin: true,
+                    ..inner
                 })
             }
             Unary::Minus => Ok(Positions::other()),

@@ -2,30 +2,13 @@
 
 ghost use Rattle.std.specs.Prelude.{◌≡◌, IfOk, map};
 ghost use Rattle.design_checks.specs.Prelude.{flat_map, Context, view_use};
-ghost use Rattle.name_uses.specs.RangeParts.{name_items};
-ghost use Rattle.design_checks.specs.{Knows, first_read, names_read, reads_used};
+ghost use Rattle.design_checks.specs.{Knows, first_read, reads_used};
 
 use crate::names::KeptUses;
 use abel_tree::Extension;
 use name_uses::{NameUse, range_list};
 use pld_base::OutOfMemory;
 use std::alloc::Global;
-
-/// The first signal that these names read in vain with this extension.
-fn first_named(
-    names: &KeptUses<'_, '_>,
-    list: &[Vec<u8>],
-    extension: Option<Extension>,
-) -> Option<u32>
-    ensures { (d : Context) → Knows d names.now
-        → result ≡ first_read names.now.rule d (names_read d.known extension (map name_items list.now)) }
-{
-    let mut first = None;
-    for name in list {
-        first = first.or(names.read(name.as_slice(), extension));
-    }
-    first
-}
 
 /// The first signal that is read in vain where an expression uses names, in a set with this extension.
 pub(crate) fn first_used(
@@ -43,7 +26,11 @@ pub(crate) fn first_used(
         None => Ok(names.read(first, extension)),
         Some(last) => {
             let list = range_list(alloc, first, last.text.bytes())?;
-            Ok(first_named(names, list.as_slice(), extension))
+            let mut signal = None;
+            for name in &list {
+                signal = signal.or(names.read(name.as_slice(), extension));
+            }
+            Ok(signal)
         }
     }
 }

@@ -1,8 +1,8 @@
 //! The first refused use of a source.
 
 ghost use Rattle.std.specs.Prelude.{◌≡◌, None, IfOk, map};
-ghost use Rattle.design_checks.specs.Prelude.{flat_map, view_section, Context, Design, view_part, view_role, view_section_parts, view_use, IsContextOf};
-ghost use Rattle.design_checks.specs.{Knows, first_refused, is_read, part_uses, parted_uses, uses_used, refused_uses, first_use};
+ghost use Rattle.design_checks.specs.Prelude.{flat_map, view_section, Context, Design, view_part, view_role, view_use, IsContextOf};
+ghost use Rattle.design_checks.specs.{Knows, first_refused, is_read, part_uses, uses_used, refused_uses, first_use};
 
 use crate::learning::learn_names;
 use crate::names::KeptUses;
@@ -11,7 +11,7 @@ use crate::reads::first_used;
 use crate::refused::{RefusedUse, use_at};
 use crate::rule::UseRule;
 use abel_tree::{Extension, earlier};
-use name_uses::{ModuleParts, NameUse, Part, Role, SectionParts, target_extension};
+use name_uses::{ModuleParts, NameUse, Part, Role, target_extension};
 use pld_base::OutOfMemory;
 use pld_device::Device;
 use section_targets::SectionScope;
@@ -84,25 +84,6 @@ fn first_of_parts(
     Ok(first)
 }
 
-/// Of sections.
-fn first_of_sections(
-    alloc: Global,
-    names: &KeptUses<'_, '_>,
-    sections: &[SectionParts<'_>],
-) -> Result<Option<RefusedUse>, OutOfMemory>
-    ensures { IfOk result (λ f. (d : Context) → Knows d names.now
-        → f ≡ first_refused names.now.rule d (flat_map (parted_uses d) (map view_section_parts sections.now))) }
-{
-    let mut first = None;
-    for section in sections {
-        first = earlier(
-            first,
-            first_of_parts(alloc, names, section.parts.as_slice())?,
-        );
-    }
-    Ok(first)
-}
-
 /// The first use that a rule refuses, for a device and the names of a source. None where there is none; the only refusal is
 /// want of memory.
 pub fn first_use<D: Device>(
@@ -122,5 +103,12 @@ pub fn first_use<D: Device>(
         scope: known,
         list: learnt.as_slice(),
     };
-    first_of_sections(alloc, &names, source.sections())
+    let mut first = None;
+    for section in source.sections() {
+        first = earlier(
+            first,
+            first_of_parts(alloc, &names, section.parts.as_slice())?,
+        );
+    }
+    Ok(first)
 }

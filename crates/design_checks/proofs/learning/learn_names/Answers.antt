@@ -1,6 +1,6 @@
 -- One name more, and all names.
 use Rattle.std.proofs.Common.{◌≡◌, ◌+◌, ◌∷◌, [], ◌++◌, map, take, drop, length, get_or, refl, sym, ap, ap₂, subst, ◌∙◌, arith, length-append}
-use Rattle.design_checks.proofs.Common.{length-map, length-take-le, map-append, take-append-drop, entries_of, view_declared, name_at, no_name, known_of, term_meant, context_for, front_more, whole_front, learning, uses_of, AreOfNames, values_of, NameUses}
+use Rattle.design_checks.proofs.Common.{common_steps, length-map, length-take-le, map-append, take-append-drop, entries_of, view_declared, name_at, no_name, known_of, term_meant, context_for, front_more, whole_front, learning, uses_of, AreOfNames, values_of, NameUses}
 use Rattle.design_checks.proofs.LearntName.{name_here}
 use Rattle.design_checks.proofs.PlacedNames.{all_names, first_names, values_more}
 use Rattle.design_checks.proofs.learning.learn_names.Goals as goal
@@ -29,7 +29,7 @@ loop-declared-preserved g c =
           c.in_ok-push.ensures.items
           ∙ ap₂ (λ us u. us ++ u ∷ []) l.invariant.list (one ∙ ap (λ n. uses_of r d (term_meant (known_of es) n (view_declared x).kind)) l.invariant.number)
           ∙ sym (ap (λ xs. values_of (uses_of r d) (known_of xs)) here ∙ values_more (uses_of r d) es (view_declared x));
-      number = omega (arith, c.in_ok-number.ensures, l.invariant.number, ap length here, length-append es (view_declared x ∷ []));
+      number = let longer = ap length here ∙ length-append es (view_declared x ∷ []) in grind (arith, common_steps, l.invariant.number, longer, c.in_ok-number.was, c.ok_or.ensures.ok_part, c.checked_add.ensures);
     }
 
 pub returns : goal.returns

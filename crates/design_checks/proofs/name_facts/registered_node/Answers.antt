@@ -1,5 +1,5 @@
 use Rattle.std.proofs.Common.{◌≡◌, ℕ, suc, List, ◌∷◌, [], ◌++◌, ◌+◌, length, map, take, sym, ap, ap₂, ◌∙◌, arith, append_assoc, append-nil}
-use Rattle.design_checks.proofs.Common.{length-map, length-take-le, Entry, view_declared, earlier, first_refusal, first_append, front_more, node_refused, registered_nodes, told_if, use_order}
+use Rattle.design_checks.proofs.Common.{common_steps, length-map, length-take-le, Entry, view_declared, earlier, first_refusal, first_append, front_more, node_refused, registered_nodes, told_if, use_order}
 use Rattle.design_checks.proofs.JoinedFirsts.{one_more}
 use Rattle.design_checks.proofs.name_facts.registered_node.Goals as goal
 
@@ -22,5 +22,5 @@ loop-declared-preserved c =
       first = c.earlier-first.ensures
           ∙ ap₂ (earlier use_order) l.invariant.first (c.told_if.ensures ∙ ap (λ b. first_refusal use_order (told_if b (record { place = x.place; name = l.number }))) c.is_registered_node-refused.ensures)
           ∙ one_more (first_refusal use_order) (earlier use_order) (first_append use_order) (registered_nodes 0) xs (map view_declared (take (l.declared-index + 1) ds)) x (node_refused l.number x) here (nodes_push 0 l.number xs x (omega (arith, l.invariant.number, long)));
-      number = omega (arith, c.in_ok-number.ensures, l.invariant.number);
+      number = grind (arith, common_steps, l.invariant.number, c.in_ok-number.was, c.ok_or.ensures.ok_part, c.checked_add.ensures);
     }

@@ -1,8 +1,8 @@
 -- One member more, and each kind of expression.
 use Rattle.std.proofs.Common.{◌≡◌, ◌+◌, true, [], ◌∷◌, ◌++◌, map, take, sym, ap, ap₂, ◌∙◌}
-use Rattle.design_checks.proofs.Common.{IfOk-weaker, AParen, AUnary, members_of, view, view_member, all_targets, NoTerm, Set, member_before, term_named, term_of, terms_of, front_more, whole_front, all_positions, are_by_pin, positions_of, written_of_all}
+use Rattle.design_checks.proofs.Common.{IfOk-weaker, range_names, AParen, AUnary, members_of, view, view_member, all_targets, targets_of, NoTerm, Set, member_before, named_before, name_items, term_named, term_of, terms_of, front_more, whole_front, all_positions, are_by_pin, positions_of, written_of, written_of_all}
 use Rattle.expr_bits.proofs.Views.{view_name, view_one, view_paren, view_set, view_span, view_special, view_unary}
-use Rattle.design_checks.proofs.PositionTerms.{extended_positions, members_more, one_member, special_positions}
+use Rattle.design_checks.proofs.PositionTerms.{extended_positions, members_more, one_member, range_more, special_positions}
 use Rattle.design_checks.proofs.positions.+positions.Goals as goal
 
 pub positions_of-loop-member-preserved : goal.positions_of-loop-member-preserved
@@ -56,11 +56,28 @@ positions_of-returns-in_ok-inner-in-Not t c d knows =
     ∙ ap (λ e. positions_of d (term_of d.known e))
     (sym (ap view c.in-Unary.is ∙ view_unary c.in-Unary.sign c.in-Unary.place c.in-Unary.inner ∙ ap₂ (λ s e. AUnary s c.in-Unary.place e) c.in-Not.is (ap view (sym c.get-in-Not.ensures))))
 
-pub member_positions-returns-in-Span : goal.member_positions-returns-in-Span
-member_positions-returns-in-Span t c =
-    IfOk-weaker c.range_positions.result _ _
-    (λ p h d knows. h d knows ∙ ap (λ m. all_positions d (member_before d.known m NoTerm)) (sym (ap view_member c.in-Span.is ∙ view_span c.in-Span.first c.in-Span.last)))
-    c.range_positions.ensures
+pub member_positions-loop-name-preserved : goal.member_positions-loop-name-preserved
+member_positions-loop-name-preserved t c d knows =
+    let names = c.deref-name-items.result.now in
+    let i = c.loop-name.name-index in
+    let before = map name_items (take i names) in
+    let n = name_items c.name-item.result in
+    let here : map name_items (take (i + 1) names) ≡ before ++ n ∷ [] = front_more name_items names i c.name-item.result c.loop-name-test.true c.name-item.is in
+    let ts = named_before d.known before NoTerm in
+    let u = term_named d.known n in
+    c.with-positions.ensures (written_of_all ts) (written_of u) (are_by_pin d (all_targets ts)) (are_by_pin d (targets_of u)) (c.loop-name.invariant d knows)
+    (ap (λ k. k.positions) (c.get.ensures d knows) ∙ ap (λ w. positions_of d (term_named d.known w)) c.as_slice.ensures.value)
+    ∙ sym (ap (λ ns. all_positions d (named_before d.known ns NoTerm)) here ∙ range_more d d.known before n)
+
+pub member_positions-returns-after-loop-name : goal.member_positions-returns-after-loop-name
+member_positions-returns-after-loop-name t c d knows =
+    c.loop-name.invariant d knows
+    ∙ ap (λ ns. all_positions d (named_before d.known ns NoTerm))
+    (whole_front name_items c.deref-name-items.result.now c.loop-name.name-index c.loop-name-test.false
+    ∙ ap (map name_items) c.deref-name-items.ensures.value
+    ∙ c.in_ok-list-in-Span.ensures
+    ∙ ap₂ range_names c.bytes.ensures c.bytes-in-Span.ensures)
+    ∙ ap (λ m. all_positions d (member_before d.known m NoTerm)) (sym (ap view_member c.in-Span.is ∙ view_span c.in-Span.first c.in-Span.last))
 
 pub member_positions-returns-in-One : goal.member_positions-returns-in-One
 member_positions-returns-in-One t c =

@@ -1,16 +1,26 @@
-use Rattle.std.proofs.Common.{map, sym, ap, subst, ◌∙◌}
-use Rattle.design_checks.proofs.Common.{IfOk-weaker, Names, with_parts, IsContextOf, context_for, AreUsesOf}
-use Rattle.design_checks.proofs.PartedUses.{first_of_design}
+-- One section more, and all sections.
+use Rattle.std.proofs.Common.{map, sym, ap, ap₂, ◌∙◌}
+use Rattle.design_checks.proofs.Common.{flat_map, earlier, view_part, view_section_parts, with_parts, context_for, whole_front, first_refused, part_uses, parted_uses, use_order}
+use Rattle.design_checks.proofs.JoinedFirsts.{joined_more, uses_append}
+use Rattle.design_checks.proofs.LearntName.{is_context_for, knows_all}
+use Rattle.design_checks.proofs.PartedUses.{sections_parted}
 use Rattle.design_checks.proofs.uses.first_use.Goals as goal
 
-pub returns : goal.returns
-returns g c =
+pub loop-section-preserved : goal.loop-section-preserved
+loop-section-preserved g c =
     let t = g.D.Device.table in
-    let n = c.scope-known.result.now in
+    let d = context_for t c.args.scope.now in
+    let l = c.loop-section in
     let r = c.args.rule in
-    let knows = subst (λ us. AreUsesOf r (context_for t n) n us) (sym c.as_slice.ensures.value) c.in_ok-learnt.ensures in
-    IfOk-weaker c.first_of_sections.result _ _
-    (λ first found d of same.
-    let here = subst (λ (m : Names). IsContextOf t m d.context) (sym c.scope-known.ensures) of in
-    first_of_design r t n d c.as_slice.result.now first _ here knows found (c.sections.ensures ∙ ap (map with_parts) (sym same)))
-    c.first_of_sections.ensures
+    let knows = knows_all t r c.args.scope.now c.scope-known.result.now _ _ c.scope-known.ensures (sym c.as_slice.ensures.value) c.in_ok-learnt.ensures in
+    c.earlier-first.ensures
+    ∙ ap₂ (earlier use_order) l.invariant (c.in_ok-first_of_parts.ensures d knows ∙ ap (λ ps. first_refused r d (flat_map (part_uses d) (map view_part ps))) c.as_slice-in-loop-section.ensures.value)
+    ∙ joined_more (first_refused r d) (earlier use_order) (uses_append r d) view_section_parts (parted_uses d) c.sections-section-items.result.now l.section-index c.section-item.result c.loop-section-test.true c.section-item.is
+
+pub returns : goal.returns
+returns g c d of same =
+    let r = c.args.rule in
+    let parted = whole_front view_section_parts c.sections-section-items.result.now c.loop-section.section-index c.loop-section-test.false ∙ c.sections-section-items.ensures ∙ ap (map with_parts) (sym same) in
+    c.loop-section.invariant
+    ∙ ap₂ (λ e xs. first_refused r e (flat_map (parted_uses e) xs)) (is_context_for g.D.Device.table c.args.scope.now d.context of) parted
+    ∙ ap (first_refused r d.context) (sym (sections_parted d.context d.sections))
