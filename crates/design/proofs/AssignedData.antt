@@ -1,6 +1,5 @@
 -- What is assigned, and the data that are given to it.
-use Rattle.std.proofs.Common.{◌≡◌, ℕ, ◌==◌, Bool, true, false, ◌&&◌, ◌||◌, Option, None, Some, List, [], ◌∷◌, ◌++◌, length, inl, inr, refl, sym, ap, ap₂, ◌∙◌}
-use Rattle.std.specs.Prelude.{replicate}
+use Rattle.std.proofs.Common.{◌≡◌, ℕ, ◌==◌, Bool, true, false, ◌&&◌, ◌||◌, Option, None, Some, List, [], ◌∷◌, ◌++◌, length, inl, inr, refl, sym, ap, ap₂, ◌∙◌, replicate}
 use Rattle.design.proofs.Common.{list_any, or_left, or_right, or_cases, list_any-append, Extension, Assigned, assigned_each, assigned_by, is_assigned, is_data, Contribution, Gives, Guard, Context, is_data_to, given_each, no_matches, some_signals, SignalUse, reads_of_terms, among}
 use Rattle.abel_tree.specs.declared.words.Extension.TheVariants as extension
 
@@ -13,13 +12,7 @@ assigned_among s c (j ∷ ss) = ap (λ b. (j == s) || b) (assigned_among s c ss)
 pub assigned_data : (s : ℕ) (e : Option Extension) (c : Bool) (ss : List ℕ) → is_assigned (assigned_by e c ss) s ≡ true → (is_data e ≡ true) × (among s ss ≡ true)
 assigned_data s None c ss h = (refl, sym (assigned_among s c ss) ∙ h)
 assigned_data s (Some extension.D) c ss h = (refl, sym (assigned_among s true ss) ∙ h)
-assigned_data s (Some extension.Clk) c ss h = absurd cc
-assigned_data s (Some extension.Oe) c ss h = absurd cc
-assigned_data s (Some extension.Ar) c ss h = absurd cc
-assigned_data s (Some extension.Sp) c ss h = absurd cc
-assigned_data s (Some extension.Q) c ss h = absurd cc
-assigned_data s (Some extension.Fb) c ss h = absurd cc
-assigned_data s (Some extension.Pin) c ss h = absurd cc
+assigned_data s _ c ss h = absurd cc
 
 -- what is assigned one after another
 pub one_of_two : (A : Type 0) (s : ℕ) (xs ys : List Assigned) → is_assigned (xs ++ ys) s ≡ true → (is_assigned xs s ≡ true → A) → (is_assigned ys s ≡ true → A) → A

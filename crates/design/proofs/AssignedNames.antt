@@ -1,6 +1,5 @@
 -- What the names of a module say of its assignments.
-use Rattle.std.proofs.Common.{◌≡◌, ℕ, zero, suc, ◌+◌, Bool, true, false, Some, List, [], ◌∷◌, ◌++◌, get_or, refl, sym, ap, ◌∙◌, arith}
-use Rattle.std.specs.Prelude.{slice_get}
+use Rattle.std.proofs.Common.{◌≡◌, ℕ, zero, suc, ◌+◌, Bool, true, false, Some, List, [], ◌∷◌, ◌++◌, get_or, refl, sym, ap, ◌∙◌, arith, slice_get}
 use Rattle.design.proofs.Common.{Flip, Table, Named, Assigned, meant, signals_of, named_after, named_of, is_assigned, sections_assign, Entry, is_signal, Tree, ModuleTree, declared_names, Design, design_of, name_at, no_name, Holds, holds_of, with_kind, with_kinds, names_of, term_of, among, bare_signals}
 use Rattle.declared_names.proofs.AssignedMarks.{is_no_target}
 use Rattle.design.proofs.NamedTerms.{IsWithin, same_signals, bare_among}

@@ -1,6 +1,6 @@
 -- A target of which nothing is refused is a signal's bare name, or a set of such.
-use Rattle.std.proofs.Common.{◌≡◌, ℕ, Bool, true, false, ◌&&◌, Option, None, Some, List, [], ◌∷◌, ◌++◌, if◌then◌else◌, length, map, refl, sym, ap, ap₂, ◌∙◌}
-use Rattle.design.proofs.Common.{and_parts, map-append, Place, without_extension, find, range_names, Tree, ANumber, ASpecial, AName, ASet, AParen, AUnary, ABinary, OneMember, SpanMember, Members, NoMember, MoreMembers, Context, targets_of, all_targets, some_signals, Term, Terms, Number, X, Pulse, Release, Read, Set, UnaryOf, BinaryOf, NoTerm, Before, term_named, term_of, terms_of, named_before, SignalUse, term_uses, all_term_uses, NotAnOutput, found_use, name_found, names_found, too_wide, names_signals, all_name_signals, no_signals, target_name, target_range, target_member, target_members, left_side, start_of, left_empty, right_empty, some_append, bare_signals, all_bare_signals}
+use Rattle.std.proofs.Common.{◌≡◌, ℕ, Bool, true, false, ◌&&◌, Option, None, List, [], ◌∷◌, ◌++◌, if◌then◌else◌, length, map, refl, sym, ap, ap₂, ◌∙◌}
+use Rattle.design.proofs.Common.{and_parts, map-append, Place, without_extension, find, range_names, Tree, AName, ASet, AParen, OneMember, SpanMember, Members, NoMember, MoreMembers, Context, targets_of, all_targets, some_signals, Term, Terms, Read, Set, NoTerm, Before, term_named, term_of, terms_of, named_before, SignalUse, term_uses, all_term_uses, NotAnOutput, found_use, name_found, names_found, too_wide, names_signals, all_name_signals, no_signals, target_name, target_range, target_member, target_members, left_side, start_of, left_empty, right_empty, some_append, bare_signals, all_bare_signals}
 use Rattle.design.proofs.GivenBlocks.{bare}
 
 -- ---- of which nothing is refused
@@ -25,15 +25,10 @@ module _ (d : Context) where
 
   mutual
     pub member_bare : (t : Tree) → (target_member d t).refusals ≡ [] → names_signals (term_of d.known t) ≡ true
-    member_bare (ANumber n) e = absurd cc
-    member_bare (ASpecial letter p) e = absurd cc
     member_bare (AName word None) e = name_bare word.place word.place word.text e
-    member_bare (AName word (Some x)) e = absurd cc
     member_bare (ASet p ms None) e = members_bare ms (left_empty (target_members d ms).refusals (too_wide p (length (target_members d ms).aims)) e)
-    member_bare (ASet p ms (Some x)) e = absurd cc
     member_bare (AParen p t) e = member_bare t e
-    member_bare (AUnary sign p t) e = absurd cc
-    member_bare (ABinary sign p t u) e = absurd cc
+    member_bare _ e = absurd cc
 
     members_bare : (ms : Members) → (target_members d ms).refusals ≡ [] → all_name_signals (terms_of d.known ms) ≡ true
     members_bare NoMember e = refl
@@ -49,11 +44,7 @@ module _ (d : Context) where
   pub left_bare : (p : Place) (t : Tree) → (left_side d p t).refusals ≡ [] → names_signals (term_of d.known (without_extension t)) ≡ true
   left_bare p (AName word x) e = name_bare word.place (start_of d p word) word.text e
   left_bare p (ASet q ms x) e = members_bare ms (left_empty (target_members d ms).refusals (too_wide q (length (target_members d ms).aims)) e)
-  left_bare p (ANumber n) e = member_bare (ANumber n) e
-  left_bare p (ASpecial letter q) e = member_bare (ASpecial letter q) e
-  left_bare p (AParen q t) e = member_bare (AParen q t) e
-  left_bare p (AUnary sign q t) e = member_bare (AUnary sign q t) e
-  left_bare p (ABinary sign q t u) e = member_bare (ABinary sign q t u) e
+  left_bare p t e = member_bare t e
 
 -- ---- what it reads and names
 
@@ -63,15 +54,9 @@ AreAlike ss bares uses = (some_signals ss ≡ bares) × (uses ≡ map bare (some
 
 mutual
   pub bare_alike : (t : Term) → names_signals t ≡ true → AreAlike (targets_of t) (bare_signals t) (term_uses t)
-  bare_alike (Number n) h = absurd cc
-  bare_alike X h = absurd cc
-  bare_alike Pulse h = absurd cc
-  bare_alike Release h = absurd cc
   bare_alike (Read s None) h = (refl, refl)
-  bare_alike (Read s (Some e)) h = absurd cc
   bare_alike (Set ts) h = all_alike ts h
-  bare_alike (UnaryOf sign t) h = absurd cc
-  bare_alike (BinaryOf sign t u) h = absurd cc
+  bare_alike _ h = absurd cc
 
   all_alike : (ts : Terms) → all_name_signals ts ≡ true → AreAlike (all_targets ts) (all_bare_signals ts) (all_term_uses ts)
   all_alike NoTerm h = (refl, refl)

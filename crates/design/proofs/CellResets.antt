@@ -1,7 +1,6 @@
 -- The resets of a netlist's cells are those of a design's signals.
-use Rattle.std.proofs.Common.{◌≡◌, ℕ, zero, suc, ◌+◌, ◌<◌, Bool, true, false, not, ◌||◌, List, [], ◌∷◌, length, map, get_or, Option, Some, None, refl, sym, ap, ◌∙◌, subst, inl, inr, arith}
-use Rattle.std.specs.Prelude.{All, is_none, IsSome}
-use Rattle.design.proofs.Common.{option_map, cases_Bool, and_parts, get_or-map, length-map, All-map, same_Some, Place, Table, CellWanted, Control, Leaf, Formula, Kind, APin, ANode, AConstant, ADeviceName, Entry, is_signal, is_stored, cell_on, control_of, control_if_stored, Context, Design, name_at, no_name, formulas, Wanted, plain_control, plain_wanted, given_formulas, leaf_of, names_if_any, is_one_of, HasNoSignalPath, Link, wanted_for, cell_of, and_cell, cells_from, inside, AreLinks, IsPlaced, AssignedHaveCells, is_sooner, IsResetAt, IsFirstPath, IsResetOf, LeadsNowhereAt, AnyPlace, IsFirstOf, AllLeadNowhere}
+use Rattle.std.proofs.Common.{◌≡◌, ℕ, zero, suc, ◌+◌, ◌<◌, Bool, true, List, [], ◌∷◌, length, map, get_or, Option, Some, None, refl, sym, ap, ◌∙◌, subst, inl, inr, arith, All, IsSome}
+use Rattle.design.proofs.Common.{option_map, cases_Bool, and_parts, get_or-map, length-map, All-map, same_Some, Place, CellWanted, Control, Leaf, Formula, APin, ADeviceName, Entry, is_stored, cell_on, control_of, control_if_stored, Context, Design, name_at, no_name, formulas, Wanted, plain_control, plain_wanted, given_formulas, leaf_of, names_if_any, is_one_of, HasNoSignalPath, Link, wanted_for, cell_of, and_cell, cells_from, inside, AreLinks, IsPlaced, AssignedHaveCells, is_sooner, IsResetAt, IsFirstPath, IsResetOf, LeadsNowhereAt, AnyPlace, IsFirstOf, AllLeadNowhere}
 use Rattle.abel_tree.specs.declared.words.Extension.TheVariants as extension
 use Rattle.abel_meaning.specs.Contributions as meant
 use Rattle.set_expr.specs.declared.contributions.Contribution.{Contribution}
@@ -112,8 +111,8 @@ module _ (d : Design) (fs : List Formula) (ns : List ℕ) (ls : List Link) (cs :
   -- the path from the first reset of a cell is that from the first reset of a signal
   pub first_leads : (p : Place) (path : List ℕ) → IsFirstOf fs ns ls ws (record { place = p; path = path }) → IsFirstPath d cs p path
   first_leads p path is =
-      let for : IsFor d 0 (plain_wanted fs is.cell) = subst (λ w. IsFor d 0 (plain_wanted fs w)) is.there (for_cell is.at is.cell is.within) in
-      let place : IsPlaced cs is.cell = subst (IsPlaced cs) is.there (placed is.at is.cell is.within) in
+      let for : IsFor d 0 (plain_wanted fs is.cell) = subst (λ w. IsFor d 0 (plain_wanted fs w)) is.there.2 (for_cell is.there.0 is.cell is.there.1) in
+      let place : IsPlaced cs is.cell = subst (IsPlaced cs) is.there.2 (placed is.there.0 is.cell is.there.1) in
       record {
         reset = is.cell.name;
         stands = place.reset is.path.reset is.path.is ∙ ap (λ q. Some q) (sym is.path.place);

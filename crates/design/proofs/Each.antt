@@ -1,6 +1,5 @@
 -- What holds of each element of a list, and what an empty list or a test of all says of each.
-use Rattle.std.proofs.Common.{◌≡◌, ℕ, zero, suc, Bool, true, false, cond, Some, List, [], ◌∷◌, ◌++◌, map, inl, inr, refl, subst}
-use Rattle.std.specs.Prelude.{filter, slice_get}
+use Rattle.std.proofs.Common.{◌≡◌, ℕ, zero, suc, Bool, true, false, cond, Some, List, [], ◌∷◌, ◌++◌, map, inl, inr, refl, subst, filter, slice_get}
 use Rattle.design.proofs.Common.{AllByRecursion, list_any, or_cases, or_parts, same_Some}
 
 module _ {A : Type 0} (P : A → Type 0) where

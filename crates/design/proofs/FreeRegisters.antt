@@ -1,15 +1,15 @@
 -- Where nothing is refused of the sections, the polarity of a free register may be chosen.
-use Rattle.std.proofs.Common.{◌≡◌, ℕ, ◌==◌, Bool, true, false, not, ◌&&◌, ◌||◌, if◌then◌else◌, Option, None, Some, List, [], ◌∷◌, inl, inr, refl, sym, ap, ◌∙◌}
-use Rattle.design.proofs.Common.{AllByRecursion, list_any, and_parts, cases_Bool, not-true, or_parts, true≢false, list_any-append, Formula, Flip, Table, Extension, signals_of, target_extension, without_extension, is_assigned, is_clocked_target, Entry, is_signal, is_stored, Tree, ModuleTree, is_data, is_raw, Contribution, is_the_control, is_control, control_by, declared_names, Design, design_of, name_at, formulas, is_data_to, is_raw_signal, Part, ATarget, AValue, sections_parts, read_in, part_reads, parts_read, held_by, held_of, is_shared, part_shares, is_held, is_buffer_by_default, is_registered, is_buffer, is_open, stays_free, words_with_kind, with_kind, given_formulas, term_of, HasNoEquation, among, PlacedUse, design_uses, FreeMayChoose, HaveBareHeaders}
+use Rattle.std.proofs.Common.{◌≡◌, ℕ, ◌==◌, Bool, true, false, not, ◌&&◌, if◌then◌else◌, Option, None, Some, List, [], ◌∷◌, inl, inr, refl, sym, ap, ◌∙◌}
+use Rattle.design.proofs.Common.{AllByRecursion, list_any, and_parts, cases_Bool, not-true, or_parts, true≢false, list_any-append, Formula, Flip, Table, Extension, signals_of, target_extension, without_extension, is_assigned, is_clocked_target, Entry, is_signal, is_stored, Tree, ModuleTree, is_data, is_raw, Contribution, is_the_control, is_control, control_by, declared_names, Design, design_of, name_at, formulas, is_data_to, is_raw_signal, Part, ATarget, AValue, sections_parts, read_in, part_reads, parts_read, held_by, held_of, is_shared, part_shares, is_held, is_buffer_by_default, is_registered, is_buffer, is_open, stays_free, words_with_kind, with_kind, given_formulas, term_of, HasNoEquation, among, FreeMayChoose, HaveBareHeaders}
 use Rattle.std.proofs.Math.Bool.{and-false}
-use Rattle.pld_device.specs.declared.flip.Flip.TheVariants.{Always, AfterRegister, BeforeRegister}
+use Rattle.pld_device.specs.declared.flip.Flip.TheVariants.{AfterRegister}
 use Rattle.abel_tree.specs.declared.words.Extension.TheVariants as extension
 use Rattle.abel_meaning.specs.Choices.{is_free}
 use Rattle.design.proofs.AssignedNames.{own_names, own_held, own_assigned, same_targets, declared_there, signal_there}
 use Rattle.design.proofs.BareTargets.{bare_alike}
 use Rattle.design.proofs.Each.{each_always, each_weaker, Misses, any_none, none_any, none_filtered}
-use Rattle.design.proofs.GivenSections.{IsBare, MayGive, sections_part}
-use Rattle.design.proofs.GivenSignals.{EachOwn, own_formulas, reset_extension, preset_extension}
+use Rattle.design.proofs.GivenSections.{IsBare, MayGive}
+use Rattle.design.proofs.GivenSignals.{EachOwn, own_given, control_extension}
 use Rattle.design.proofs.HeldTargets.{is_read}
 use Rattle.design.proofs.NamedTerms.{signals_in, without_alike}
 
@@ -17,23 +17,20 @@ use Rattle.design.proofs.NamedTerms.{signals_in, without_alike}
 
 -- the settled words say neither polarity only where the register stays free
 must_be_free : (stored buffer free : Bool) → (stored && (not (buffer && not free) && not (not buffer && not free))) ≡ true → free ≡ true
-must_be_free true true true h = refl
-must_be_free true false true h = refl
+must_be_free stored buffer true h = refl
 must_be_free true true false h = absurd cc
-must_be_free true false false h = absurd cc
-must_be_free false buffer free h = absurd cc
+must_be_free _ _ false h = absurd cc
 
 by_default : (flip : Flip) → is_buffer_by_default flip ≡ true → flip ≡ AfterRegister
-by_default Always h = absurd cc
 by_default AfterRegister h = refl
-by_default BeforeRegister h = absurd cc
+by_default _ h = absurd cc
 
 -- ---- controls
 
-shared_control : (e : Extension) → is_shared (Some e) ≡ true → ((o : Option Extension) → is_the_control e o ≡ true → o ≡ Some e) → (o : Option Extension) → is_shared o ≡ false → is_the_control e o ≡ false
-shared_control e shared same o other =
+shared_control : (e : Extension) → is_shared (Some e) ≡ true → (o : Option Extension) → is_shared o ≡ false → is_the_control e o ≡ false
+shared_control e shared o other =
     elim (cases_Bool (is_the_control e o)) [
-      | inl is ↦ absurd (true≢false (sym shared ∙ ap is_shared (sym (same o is)) ∙ other))
+      | inl is ↦ absurd (true≢false (sym shared ∙ ap is_shared (sym (control_extension e o is)) ∙ other))
       | inr differs ↦ differs
     ]
 
@@ -44,32 +41,23 @@ module _ (t : Table) (m : ModuleTree) (bare : AllByRecursion (IsBare (design_of 
   d = design_of t m
 
   -- what holds of the signals of each target holds of all that is contributed
-  module _ (K : Option Extension → ℕ → Type 0) (plain : (j : ℕ) → K None j) where
-    all_plain : (x : Tree) → AllByRecursion (K None) (signals_in (term_of d.context.known x))
-    all_plain x = each_always (K None) plain (signals_in (term_of d.context.known x))
-
-    abbrev OfPart : Part → Type 0
-    OfPart p = MayGive d.context (λ u. Unit {0}) K (λ e j k. plain j) 0 [] all_plain p
-
-    each_own : AllByRecursion OfPart (sections_parts m.sections) → EachOwn K (given_formulas d)
-    each_own parts =
-        own_formulas d (λ u. Unit {0}) K (λ e j k. plain j)
-        ((sections_part d.context (λ u. Unit {0}) K (λ e j k. plain j) 0 [] all_plain d.starts_dontcare 0 [] m.sections).good headers (each_always (λ (u : PlacedUse). Unit {0}) (λ u. tt) (design_uses d)) parts)
+  each_own : (K : Option Extension → ℕ → Type 0) (plain : (j : ℕ) → K None j) → AllByRecursion (MayGive d.context K) (sections_parts m.sections) → EachOwn K (given_formulas d)
+  each_own K plain parts = own_given d K (λ e j k. plain j) (λ x. each_always (K None) plain (signals_in (term_of d.context.known x))) headers parts
 
   -- ---- controls
 
   abbrev NotShared : Option Extension → ℕ → Type 0
   NotShared e j = is_shared e ≡ false
 
-  part_unshared : (p : Part) → part_shares p ≡ false → OfPart NotShared (λ j. refl) p
+  part_unshared : (p : Part) → part_shares p ≡ false → MayGive d.context NotShared p
   part_unshared (ATarget x) e = each_always (NotShared (target_extension x)) (λ j. e) (signals_in (term_of d.context.known x))
   part_unshared (AValue x) e = tt
 
-  none_given : (e : Extension) → ((x : Option Extension) → is_shared x ≡ false → is_the_control e x ≡ false) → (own_held t m).all ≡ false → HasNoEquation d e
-  none_given e other none s =
-      let parts = each_weaker (λ p. part_shares p ≡ false) (OfPart NotShared (λ j. refl)) part_unshared (sections_parts m.sections) (any_none part_shares (sections_parts m.sections) none) in
+  none_given : (e : Extension) → is_shared (Some e) ≡ true → (own_held t m).all ≡ false → HasNoEquation d e
+  none_given e shared none s =
+      let parts = each_weaker (λ p. part_shares p ≡ false) (MayGive d.context NotShared) part_unshared (sections_parts m.sections) (any_none part_shares (sections_parts m.sections) none) in
       ap (control_by (formulas d.context)) (none_filtered (is_control s e) (given_formulas d)
-      (each_weaker (λ (c : Contribution Formula). NotShared c.extension c.signal) (λ c. is_control s e c ≡ false) (λ c is. ap (λ b. (c.signal == s) && b) (other c.extension is) ∙ and-false (c.signal == s)) (given_formulas d)
+      (each_weaker (λ (c : Contribution Formula). NotShared c.extension c.signal) (λ c. is_control s e c ≡ false) (λ c is. ap (λ b. (c.signal == s) && b) (shared_control e shared c.extension is) ∙ and-false (c.signal == s)) (given_formulas d)
       (each_own NotShared (λ j. refl) parts)))
 
   -- ---- raw inputs
@@ -106,13 +94,13 @@ module _ (t : Table) (m : ModuleTree) (bare : AllByRecursion (IsBare (design_of 
         each_weaker (Misses (λ j. j == s)) (NotRaw e) (λ j other. ap (λ b. (b && is_data e) && is_raw e) other) (signals_in (term_of d.context.known x))
         (any_none (λ j. j == s) (signals_in (term_of d.context.known x)) (ap (among s) same ∙ none))
 
-    parts_free : (ps : List Part) → AllByRecursion (IsBare d.context) ps → among s (parts_read held ps) ≡ false → AllByRecursion (OfPart NotRaw raw_plain) ps
+    parts_free : (ps : List Part) → AllByRecursion (IsBare d.context) ps → among s (parts_read held ps) ≡ false → AllByRecursion (MayGive d.context NotRaw) ps
     parts_free [] clear free = tt
     parts_free (p ∷ ps) clear free =
         let parts = or_parts (among s (part_reads held p)) (among s (parts_read held ps)) (sym (list_any-append (λ j. j == s) (part_reads held p) (parts_read held ps)) ∙ free) in
         (part_free p clear.0 parts.0, parts_free ps clear.1 parts.1)
       where
-        part_free : (q : Part) → IsBare d.context q → among s (part_reads held q) ≡ false → OfPart NotRaw raw_plain q
+        part_free : (q : Part) → IsBare d.context q → among s (part_reads held q) ≡ false → MayGive d.context NotRaw q
         part_free (ATarget x) apart g = target_free x apart (is_raw (target_extension x)) refl g
         part_free (AValue x) apart g = tt
 
@@ -152,6 +140,6 @@ module _ (t : Table) (m : ModuleTree) (bare : AllByRecursion (IsBare (design_of 
       record {
         named = named s stay.1;
         behind = stay.0;
-        no_reset = none_given extension.Ar (shared_control extension.Ar refl reset_extension) clear;
-        no_preset = none_given extension.Sp (shared_control extension.Sp refl preset_extension) clear;
+        no_reset = none_given extension.Ar refl clear;
+        no_preset = none_given extension.Sp refl clear;
       }

@@ -1,7 +1,6 @@
 -- The netlist of a module, once its signals are checked.
-use Rattle.std.proofs.Common.{◌≡◌, ℕ, ◌<◌, List, [], ◌∷◌, map, length, get_or, refl, sym, ap, subst, ◌∙◌}
-use Rattle.std.specs.Prelude.{All}
-use Rattle.design.proofs.Common.{true≢false, All-cons, All-nil, IsDevice, Table, arena, Formula, entries_of, is_signal, ModuleTree, view_module, Context, Design, design_of, names_of, PlainNetlist, plain_netlist, plain_wanted, given_formulas, HasNoSignalLoop, HasNoSignalPath, no_pair, pair_of_pin, pair_of_cell, IsSoundNetlist, IsSound, known_of, given, view_contribution, Link, cells_from, gathered_from, netlist_of, inside, AreLinks, AreIdsIn, IsPlaced, IsAccepted, IsSignalOf, AreToNames, IsDesignFor, HasSoundSignals, IsSignalRefused, HasNoRefusal, IsDesignRefused, UnrefusedIsSound, AllLeadNowhere, AreSignals, IsLinkedDesign, IsChainTold}
+use Rattle.std.proofs.Common.{◌≡◌, ℕ, ◌<◌, List, [], ◌∷◌, map, length, get_or, refl, sym, ap, subst, ◌∙◌, All}
+use Rattle.design.proofs.Common.{true≢false, All-cons, All-nil, IsDevice, Table, arena, Formula, entries_of, is_signal, ModuleTree, view_module, Context, Design, design_of, names_of, PlainNetlist, plain_netlist, plain_wanted, given_formulas, HasNoSignalLoop, HasNoSignalPath, no_pair, pair_of_pin, pair_of_cell, IsSoundNetlist, IsSound, known_of, given, view_contribution, Link, cells_from, gathered_from, netlist_of, inside, AreLinks, AreIdsIn, IsPlaced, IsAccepted, IsSignalOf, AreToNames, UnrefusedIsTakeable, IsDesignFor, HasSoundSignals, IsSignalRefused, HasNoRefusal, IsDesignRefused, AllLeadNowhere, AreSignals, IsLinkedDesign, IsChainTold}
 use Rattle.bit_expr.specs.declared.netlist.Netlist.{Netlist}
 use Rattle.abel_tree.specs.declared.names.Names.{Names}
 use Rattle.abel_tree.specs.declared.sections.Module.{Module}
@@ -16,7 +15,8 @@ use Rattle.design_checks.specs.declared.fault.DesignFault.{DesignFault}
 use Rattle.design_checks.specs.declared.fault.DesignFault.TheVariants as fault
 use Rattle.design.proofs.CellResets.{none_leads, first_leads}
 use Rattle.design.proofs.LinkSizes.{are_signals}
-use Rattle.design.proofs.Unrefused.{had, unrefused}
+use Rattle.design.proofs.Unlisted.{had, unrefused}
+use Rattle.netlist_laws.specs.GatheredCorrect.{GatheredIsSound, GatheredMeansTheSame}
 
 pub record IsAnswer (t : Table) (m : ModuleTree) (fs : List Formula) (cs : List Contribution) (net : Netlist) : Type 0 where
   pub unrefused : HasNoRefusal (design_of t m) fs cs
@@ -52,14 +52,10 @@ module _ (t : Table) (laws : IsDevice t) (source : Module) (n : Names) (found : 
 
   -- a refusal of signals is one of the design
   pub by_signals : (f : DesignFault) → IsSignalRefused d (arena found.exprs) found.list f → IsDesignRefused d (arena found.exprs) found.list f
-  by_signals (fault.WrongKind p s) is = is
-  by_signals (fault.RegisteredNode p s) is = is
-  by_signals (fault.NoSuchControl p s) is = is
-  by_signals (fault.DontCareControl p s) is = is
-  by_signals (fault.NoReadPath p s) is = is
   by_signals (fault.Loop p chain) is = absurd is
   by_signals (fault.ResetReadsRegister p path) is = absurd is
   by_signals fault.OutOfMemory is = tt
+  by_signals _ is = is
 
   -- what is gathered, with its signals and links as slices have them
   module _ (r : Gathered) (ns : List ℕ) (ls : List Link) (plain : (e : Context) → IsContextOf t n e → plain_netlist r.net ≡ gathered_from e (given found))
@@ -98,19 +94,15 @@ module _ (t : Table) (laws : IsDevice t) (source : Module) (n : Names) (found : 
             (reset_had d accepted.names.known accepted.headers (arena found.exprs) found.list gives (had d (arena found.exprs) found.list sound)) p path is.1,
       )
       by_chains fault.OutOfMemory is = tt
-      by_chains (fault.WrongKind p s) is = absurd is
-      by_chains (fault.RegisteredNode p s) is = absurd is
-      by_chains (fault.NoSuchControl p s) is = absurd is
-      by_chains (fault.DontCareControl p s) is = absurd is
-      by_chains (fault.NoReadPath p s) is = absurd is
+      by_chains _ is = absurd is
 
       -- all that is said of the netlist, where there are no chains
-      pub answered : HasNoSignalLoop d → AllLeadNowhere (arena net.exprs) ns ls net.cells → UnrefusedIsSound → AreIdsIn net
+      pub answered : HasNoSignalLoop d → AllLeadNowhere (arena net.exprs) ns ls net.cells → UnrefusedIsTakeable → GatheredIsSound → GatheredMeansTheSame → AreIdsIn net
           → ((p : ℕ) → p < 25 → get_or net.pair_of_pin p no_pair ≡ pair_of_pin t p) → ((c : ℕ) → c < 25 → get_or net.pair_of_cell c no_pair ≡ pair_of_cell t c)
           → IsAnswer t (view_module source) (arena found.exprs) found.list net
-      answered no_loop nowhere law ids pins registers =
+      answered no_loop nowhere takeable is_sound means_the_same ids pins registers =
           let none : HasNoRefusal d (arena found.exprs) found.list = record { signals = sound; no_loop = no_loop; no_path = no_paths nowhere } in
-          let holds = law t (view_module source) (arena found.exprs) found.list laws accepted gives (unrefused d (arena found.exprs) found.list none) in
+          let take = takeable d (arena found.exprs) found.list laws accepted gives (unrefused d (arena found.exprs) found.list none) in
           record {
             unrefused = none;
             netlist = netlist_is;
@@ -119,7 +111,7 @@ module _ (t : Table) (laws : IsDevice t) (source : Module) (n : Names) (found : 
               cells = ids.cells;
               pins = pins;
               registers = registers;
-              sound = subst (IsSound t) (sym netlist_is) holds.0;
+              sound = subst (IsSound t) (sym netlist_is) (is_sound t (view_module source) laws take);
             };
-            same = subst (MeansTheSame t (view_module source)) (sym netlist_is) holds.1;
+            same = subst (MeansTheSame t (view_module source)) (sym netlist_is) (means_the_same t (view_module source) laws take.registers);
           }

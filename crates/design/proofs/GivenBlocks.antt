@@ -1,7 +1,6 @@
 -- What tables, diagrams and equations contribute, contribution by contribution, where their terms read what they may.
-use Rattle.std.proofs.Common.{◌≡◌, ℕ, zero, suc, ◌==◌, Bool, true, false, Option, None, Some, List, [], ◌∷◌, ◌++◌, map, reverse, length, if◌then◌else◌}
-use Rattle.std.specs.Prelude.{filter, replicate}
-use Rattle.design.proofs.Common.{AllByRecursion, list_any, Extension, RowTree, StateTree, Contribution, Gives, Guard, contribution, Context, registers_equal, is_state, goal_gives, in_state, is_other, once, first_of_each, state_matches, other_matches, given_each, literal, agrees, row_matches, match_of, outputs_given, rows_give, no_matches, targets_of, some_signals, Term, term_of, SignalUse, term_uses, reads_of_terms, is_kept}
+use Rattle.std.proofs.Common.{◌≡◌, ℕ, suc, ◌==◌, Bool, true, false, Option, None, Some, List, [], ◌∷◌, ◌++◌, map, reverse, length, if◌then◌else◌, filter, replicate}
+use Rattle.design.proofs.Common.{AllByRecursion, list_any, Extension, RowTree, StateTree, Contribution, Gives, Guard, Context, registers_equal, is_state, goal_gives, in_state, is_other, once, first_of_each, state_matches, other_matches, given_each, literal, agrees, row_matches, match_of, outputs_given, rows_give, no_matches, targets_of, some_signals, Term, term_of, SignalUse, term_uses, reads_of_terms, is_kept}
 use Rattle.abel_meaning.specs.Numbers.{width_of, digits}
 use Rattle.abel_meaning.specs.Rows.{entry_levels}
 use Rattle.abel_meaning.specs.Values.{constant_of}
@@ -49,26 +48,21 @@ module _ (d : Context) (P : SignalUse → Type 0) (K : Option Extension → ℕ 
   literal_reads false w h = h
 
   agrees_reads : (found w : List SignalUse) (xs : List Bool) (n : ℕ) (ls : List (Option Bool)) → Reads found → Reads w → Reads (agrees reads_of_terms found xs (replicate n w) ls)
-  agrees_reads found w [] n ls f h = f
-  agrees_reads found w (x ∷ xs) zero ls f h = f
-  agrees_reads found w (x ∷ xs) (suc n) [] f h = f
   agrees_reads found w (true ∷ xs) (suc n) (l ∷ ls) f h = agrees_reads found w xs n ls f h
   agrees_reads found w (false ∷ xs) (suc n) (None ∷ ls) f h = agrees_reads found w xs n ls f h
   agrees_reads found w (false ∷ xs) (suc n) (Some b ∷ ls) f h =
       agrees_reads (found ++ literal reads_of_terms b w) w xs n ls (each_append P found (literal reads_of_terms b w) f (literal_reads b w h)) h
+  agrees_reads found w _ _ _ f h = f
 
   match_good : (g : Guard (List SignalUse)) (c k : Bool) (s : ℕ) → Under g → K None s → IsGood (match_of d g c k s)
   match_good g c k s u q = record { own = q; reads = λ kept. u }
 
   outputs_good : (g : Guard (List SignalUse)) (k : Bool) (ss : List (Option ℕ)) (ls : List (Option Bool)) → Under g → Own ss → EachGood (outputs_given d g k ss ls)
-  outputs_good g k [] ls u q = tt
-  outputs_good g k (s ∷ ss) [] u q = tt
   outputs_good g k (None ∷ ss) (l ∷ ls) u q = outputs_good g k ss ls u q
-  outputs_good g k (Some s ∷ ss) (Some true ∷ ls) u q =
-      (record { own = q.0; reads = λ kept. u }, (match_good g false k s u q.0, outputs_good g k ss ls u q.1))
   outputs_good g k (Some s ∷ ss) (Some false ∷ ls) u q = (match_good g false k s u q.0, outputs_good g k ss ls u q.1)
-  outputs_good g k (Some s ∷ ss) (None ∷ ls) u q =
+  outputs_good g k (Some s ∷ ss) (_ ∷ ls) u q =
       (record { own = q.0; reads = λ kept. u }, (match_good g false k s u q.0, outputs_good g k ss ls u q.1))
+  outputs_good g k _ _ u q = tt
 
   pub rows_good : (g : Guard (List SignalUse)) (k : Bool) (inputs outputs : Term) (rows : List RowTree) → Reads (term_uses inputs) → Own (targets_of outputs) → EachGood (rows_give reads_of_terms d g k inputs outputs rows)
   rows_good g k inputs outputs [] h q = tt
@@ -88,11 +82,10 @@ module _ (d : Context) (P : SignalUse → Type 0) (K : Option Extension → ℕ 
   -- ---- diagrams
 
   equal_reads : (found : List SignalUse) (ss : List ℕ) (bs : List Bool) → Reads found → Reads (map bare ss) → Reads (registers_equal reads_of_terms found ss bs)
-  equal_reads found [] bs f r = f
-  equal_reads found (s ∷ ss) [] f r = f
   equal_reads found (s ∷ ss) (b ∷ bs) f r =
       let one : List SignalUse = bare s ∷ [] in
       equal_reads (found ++ literal reads_of_terms b one) ss bs (each_append P found (literal reads_of_terms b one) f (literal_reads b one (r.0, tt))) r.1
+  equal_reads found _ _ f r = f
 
   pub state_reads : (ss : List ℕ) (v : Term) → Reads (map bare ss) → Reads (is_state reads_of_terms d ss v)
   state_reads ss v r = equal_reads [] ss (digits (length ss) (constant_of d v).number) tt r

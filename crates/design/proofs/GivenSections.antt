@@ -1,6 +1,5 @@
 -- The sections of a design, part by part: what they contribute, and what holds of their targets where nothing is refused.
-use Rattle.std.proofs.Common.{◌≡◌, ℕ, Bool, true, false, Option, None, Some, List, [], ◌∷◌, ◌++◌, map, length, append_assoc, refl, sym, ap, subst, ◌∙◌, if◌then◌else◌}
-use Rattle.std.specs.Prelude.{filter, replicate}
+use Rattle.std.proofs.Common.{◌≡◌, ℕ, Bool, true, false, Option, None, Some, List, [], ◌∷◌, ◌++◌, map, length, append_assoc, refl, sym, ap, subst, ◌∙◌, if◌then◌else◌, filter, replicate}
 use Rattle.design.proofs.Common.{AllByRecursion, list_all, and_parts, Table, cell_at, Formula, Const, Extension, Named, Assigned, signals_of, target_extension, without_extension, is_clocked, assigned_each, statement_assigns, else_assigns, statements_assign, list_assigns, with_assigns, branch_assigns, other_assigns, choices_assign, branches_assign, states_assign, section_assigns, sections_assign, is_assigned, Tree, AParen, Statement, AnAssign, AWhen, AGroup, ADontCare, Otherwise, NoElse, AnElse, Statements, NoStatement, MoreStatements, statements_of, Branch, AGoal, AnIf, ACase, OtherBranch, NoBranch, ABranch, Choices, NoChoice, MoreChoices, StateTree, SectionTree, Declarations, Equations, ATable, ADiagram, SomeVectors, DontCareSection, Contribution, Guard, guarded, condition, Context, name_at, goal_gives, branch_gives, other_gives, choices_give, branches_give, in_state, states_give, is_other, first_of_each, other_matches, with_statements, Part, ATarget, AValue, statement_parts, else_parts, statements_parts, list_parts, with_parts, branch_parts, other_parts, choices_parts, branches_parts, states_parts, section_parts, sections_parts, sign_gives, statement_gives, else_gives, statements_give, rows_give, no_matches, targets_of, some_signals, term_of, cell_of, SignalUse, term_uses, reads_of_terms, is_kept, is_enabled_by_row, is_row, expression_found, Manner, names_signals, target_member, left_side, CountedUnit, units_refused, right_empty, side_positions, statement_manners, statements_manners, units_of_statement, units_of_else, units_of_statements, register_manners, state_guard, state_manners, branch_manners, units_of_branch, units_of_other, units_of_choices, units_of_branches, units_of_states, listed_after, section_manners, units_of_section, units_of_sections, among, PlacedUse, is_by_pin, is_cell_by_pin, is_enabled_by_pin, is_compared_by, is_compared, expression_uses, statement_uses, else_uses, statements_uses, with_uses, branch_uses, other_uses, choices_uses, branches_uses, states_uses, section_uses, sections_uses, HasBareHeader, HaveBareHeaders}
 use Rattle.pld_device.specs.declared.enable.Enable.{Enable}
 use Rattle.pld_device.specs.declared.enable.Enable.TheVariants.{Row, PinLow}
@@ -10,14 +9,12 @@ use Rattle.abel_meaning.specs.Directives.{after_section}
 use Rattle.abel_meaning.specs.Sections.{next_block, unguarded, section_gives, sections_give}
 use Rattle.state_diagrams.specs.DiagramUnits as diagram
 use Rattle.design_checks.proofs.UsesRead.{uses_read}
-use Rattle.design.proofs.AimedOutputs.{IsOutput, aimed_among, aimed_output}
+use Rattle.design.proofs.ClearTargets.{IsOutput, aimed_among, aimed_output, table_output, first_units, last_units, assign_clear, diagram_clear}
 use Rattle.design.proofs.AssignedData.{assigned_among, assigned_data, one_of_two, has_data, in_front, behind, each_data, each_matched}
 use Rattle.design.proofs.BareTargets.{bare_alike, left_bare}
 use Rattle.design.proofs.Each.{each_always, each_append, each_first, each_last, each_map}
 use Rattle.design.proofs.GivenBlocks.{bare, IsGood, EachGood, Under, given_good, rows_good, none_good, state_reads, goal_good, others_good}
 use Rattle.design.proofs.NamedTerms.{signals_in, IsWithin, without_within}
-use Rattle.design.proofs.TableOutputs.{table_output}
-use Rattle.design.proofs.UnrefusedParts.{first_units, last_units, assign_clear, diagram_clear}
 
 -- ---- what is compared, the netlist doesn't have
 
@@ -43,13 +40,7 @@ module _ (d : Context) (A : Type 0) where
   not_kept : (e : Option Extension) (js : List ℕ) → is_compared_by d e js ≡ true → AllByRecursion (IfKept e) js
   not_kept (Some extension.Clk) js is = each_always (IfKept (Some extension.Clk)) (λ j kept. absurd cc) js
   not_kept (Some extension.Oe) js is = no_enable js is
-  not_kept None js is = absurd cc
-  not_kept (Some extension.Ar) js is = absurd cc
-  not_kept (Some extension.Sp) js is = absurd cc
-  not_kept (Some extension.D) js is = absurd cc
-  not_kept (Some extension.Q) js is = absurd cc
-  not_kept (Some extension.Fb) js is = absurd cc
-  not_kept (Some extension.Pin) js is = absurd cc
+  not_kept _ js is = absurd cc
 
 bare_signals : (ss : List ℕ) → some_signals (map Some ss) ≡ ss
 bare_signals [] = refl
@@ -60,22 +51,22 @@ abbrev pub IsBare : Context → Part → Type 0
 IsBare d (ATarget t) = names_signals (term_of d.known (without_extension t)) ≡ true
 IsBare d (AValue t) = Unit {0}
 
+-- the signals of a target pass with its extension
+abbrev pub MayGive : Context → (Option Extension → ℕ → Type 0) → Part → Type 0
+MayGive d K (ATarget t) = AllByRecursion (K (target_extension t)) (signals_in (term_of d.known t))
+MayGive d K (AValue t) = Unit {0}
+
 -- reads pass P, what is given to a signal by an extension passes K, and what any target names by its names alone does
 module _ (d : Context) (P : SignalUse → Type 0) (K : Option Extension → ℕ → Type 0) (plain : (e : Option Extension) (j : ℕ) → K e j → K None j) (s : ℕ) (ks : List Named)
     (named : (t : Tree) → AllByRecursion (K None) (signals_in (term_of d.known t))) where
   abbrev EachUse : List PlacedUse → Type 0
   EachUse rs = AllByRecursion (λ (u : PlacedUse). P u.read) rs
 
-  -- the signals of a target pass with its extension
-  abbrev pub MayGive : Part → Type 0
-  MayGive (ATarget t) = AllByRecursion (K (target_extension t)) (signals_in (term_of d.known t))
-  MayGive (AValue t) = Unit {0}
-
   -- a part of the source, by its units, its uses, what it holds, what it assigns, and what it contributes: each
   -- contribution is good, given what is asked of what stands round it; the signal has data where it is assigned; and
   -- where nothing is refused, targets are bare, and the signal is a node or the pin of a cell where it is assigned
   pub record IsPart (H : Type 0) (us : List CountedUnit) (rs : List PlacedUse) (ps : List Part) (xs : List Assigned) (cs : List (Contribution (List SignalUse))) : Type 0 where
-    pub good : H → EachUse rs → AllByRecursion MayGive ps → EachGood d P K plain cs
+    pub good : H → EachUse rs → AllByRecursion (MayGive d K) ps → EachGood d P K plain cs
     pub given : IsWithin s ks d.known → is_assigned xs s ≡ true → has_data s cs ≡ true
     pub are_bare : units_refused us ≡ [] → AllByRecursion (IsBare d) ps
     pub output : IsWithin s ks d.known → units_refused us ≡ [] → is_assigned xs s ≡ true → IsOutput d s
@@ -91,8 +82,8 @@ module _ (d : Context) (P : SignalUse → Type 0) (K : Option Extension → ℕ 
       → IsPart H us rs ps xs cs → IsPart H vs qs os ys bs → IsPart H (us ++ vs) (rs ++ qs) (ps ++ os) (xs ++ ys) (cs ++ bs)
   both {us = us} {vs = vs} {rs = rs} {qs = qs} {ps = ps} {os = os} {xs = xs} {ys = ys} {cs = cs} {bs = bs} x y = record {
     good = λ h r p. each_append (IsGood d P K plain) cs bs
-        (x.good h (each_first (λ (u : PlacedUse). P u.read) rs qs r) (each_first MayGive ps os p))
-        (y.good h (each_last (λ (u : PlacedUse). P u.read) rs qs r) (each_last MayGive ps os p));
+        (x.good h (each_first (λ (u : PlacedUse). P u.read) rs qs r) (each_first (MayGive d K) ps os p))
+        (y.good h (each_last (λ (u : PlacedUse). P u.read) rs qs r) (each_last (MayGive d K) ps os p));
     given = λ within a. one_of_two (has_data s (cs ++ bs) ≡ true) s xs ys a (λ e. in_front s cs bs (x.given within e)) (λ e. behind s cs bs (y.given within e));
     are_bare = λ e. each_append (IsBare d) ps os (x.are_bare (first_units us vs e)) (y.are_bare (last_units us vs e));
     output = λ within e a. one_of_two (IsOutput d s) s xs ys a (x.output within (first_units us vs e)) (y.output within (last_units us vs e));

@@ -1,14 +1,13 @@
 -- Each contribution to a design is to a signal, and each control is one that its signal has.
-use Rattle.std.proofs.Common.{◌≡◌, ℕ, ◌==◌, Bool, true, false, not, ◌||◌, cond, Option, None, Some, List, [], ◌∷◌, map, refl, sym, ap, subst, ◌∙◌}
-use Rattle.std.specs.Prelude.{IsSome, filter, is_none}
-use Rattle.design.proofs.Common.{AllByRecursion, list_any, and_parts, eqb-true, Table, Formula, Extension, Kind, APin, ANode, AConstant, ADeviceName, Entry, is_signal, is_stored, Tree, Contribution, Evaluator, is_control, is_the_control, control_by, control_of, Design, name_at, formulas, is_data_to, Part, ATarget, AValue, sections_parts, given_formulas, targets_of, some_signals, known_of, term_of, view_contribution, lacking_controls, lacks_by, lacks_control, pin_lacks, SignalUse, given_uses, PlacedUse, design_uses, HaveBareHeaders, EachTarget, IsSignalOf, signal_targets}
+use Rattle.std.proofs.Common.{◌≡◌, ℕ, ◌==◌, Bool, true, false, not, ◌||◌, cond, Option, None, Some, List, [], ◌∷◌, map, refl, sym, ap, subst, ◌∙◌, IsSome, filter, is_none}
+use Rattle.design.proofs.Common.{AllByRecursion, list_any, and_parts, eqb-true, Table, Formula, Extension, Kind, APin, Entry, is_signal, is_stored, Tree, Contribution, Evaluator, is_control, is_the_control, control_by, control_of, Design, name_at, formulas, is_data_to, Part, ATarget, AValue, sections_parts, given_formulas, targets_of, some_signals, known_of, term_of, view_contribution, lacking_controls, lacks_by, lacks_control, pin_lacks, SignalUse, given_uses, PlacedUse, design_uses, HaveBareHeaders, EachTarget, IsSignalOf, signal_targets}
 use Rattle.abel_tree.specs.declared.words.Extension.TheVariants as extension
 use Rattle.abel_meaning.specs.Follows.{seen}
 use Rattle.set_expr.specs.declared.contributions.Contribution as code
 use Rattle.netlist_laws.proofs.SourcedFormulas.{Sourced, sourced_contributions, formulas_are, uses_are}
 use Rattle.design.proofs.AssignedData.{has_data}
 use Rattle.design.proofs.Each.{each_always, each_weaker, some_of}
-use Rattle.design.proofs.GivenBlocks.{IsGood, EachGood}
+use Rattle.design.proofs.GivenBlocks.{IsGood}
 use Rattle.design.proofs.GivenSections.{MayGive, sections_part}
 use Rattle.design.proofs.NamedTerms.{signals_in}
 use Rattle.design.proofs.Unlisted.{HasControl, controls_there}
@@ -30,12 +29,19 @@ data_seen : {U V W : Type 0} (s : ℕ) (h : U → V) (k : U → W) (cs : List (C
 data_seen s h k [] = refl
 data_seen s h k (c ∷ cs) = ap (λ b. is_data_to s c || b) (data_seen s h k cs)
 
+abbrev pub AnyUse : SignalUse → Type 0
+AnyUse u = Unit {0}
+
 module _ (d : Design) where
-  pub own_formulas : (P : SignalUse → Type 0) (K : Option Extension → ℕ → Type 0) (plain : (e : Option Extension) (s : ℕ) → K e s → K None s) → EachGood d.context P K plain (given_uses d) → EachOwn K (given_formulas d)
-  own_formulas P K plain good =
+  -- what holds of the signals of each target holds of all that is contributed
+  pub own_given : (K : Option Extension → ℕ → Type 0) → ((e : Option Extension) (s : ℕ) → K e s → K None s) → ((t : Tree) → AllByRecursion (K None) (signals_in (term_of d.context.known t)))
+      → HaveBareHeaders d.context d.sections → AllByRecursion (MayGive d.context K) (sections_parts d.sections) → EachOwn K (given_formulas d)
+  own_given K plain named headers parts =
+      let part = sections_part d.context AnyUse K plain 0 [] named d.starts_dontcare 0 [] d.sections in
+      let good = part.good headers (each_always (λ (u : PlacedUse). AnyUse u.read) (λ u. tt) (design_uses d)) parts in
       subst (EachOwn K) (formulas_are d)
       (own_seen K (λ (x : Sourced d.context). x.uses) (λ (x : Sourced d.context). x.formula) (sourced_contributions d)
-      (subst (EachOwn K) (sym (uses_are d)) (each_weaker (IsGood d.context P K plain) (λ c. K c.extension c.signal) (λ c is. is.own) (given_uses d) good)))
+      (subst (EachOwn K) (sym (uses_are d)) (each_weaker (IsGood d.context AnyUse K plain) (λ c. K c.extension c.signal) (λ c is. is.own) (given_uses d) good)))
 
   pub data_formulas : (s : ℕ) → has_data s (given_formulas d) ≡ has_data s (given_uses d)
   data_formulas s =
@@ -53,27 +59,12 @@ control_given ev test (c ∷ cs) f e = by (test c) (λ g. control_given ev test 
     by true more e = refl
     by false more e = more e
 
-pub reset_extension : (o : Option Extension) → is_the_control extension.Ar o ≡ true → o ≡ Some extension.Ar
-reset_extension (Some extension.Ar) is = refl
-reset_extension None is = absurd cc
-reset_extension (Some extension.Clk) is = absurd cc
-reset_extension (Some extension.Oe) is = absurd cc
-reset_extension (Some extension.Sp) is = absurd cc
-reset_extension (Some extension.D) is = absurd cc
-reset_extension (Some extension.Q) is = absurd cc
-reset_extension (Some extension.Fb) is = absurd cc
-reset_extension (Some extension.Pin) is = absurd cc
-
-pub preset_extension : (o : Option Extension) → is_the_control extension.Sp o ≡ true → o ≡ Some extension.Sp
-preset_extension (Some extension.Sp) is = refl
-preset_extension None is = absurd cc
-preset_extension (Some extension.Clk) is = absurd cc
-preset_extension (Some extension.Oe) is = absurd cc
-preset_extension (Some extension.Ar) is = absurd cc
-preset_extension (Some extension.D) is = absurd cc
-preset_extension (Some extension.Q) is = absurd cc
-preset_extension (Some extension.Fb) is = absurd cc
-preset_extension (Some extension.Pin) is = absurd cc
+-- a control is given by its own extension
+pub control_extension : (e : Extension) (o : Option Extension) → is_the_control e o ≡ true → o ≡ Some e
+control_extension extension.Oe (Some extension.Oe) is = refl
+control_extension extension.Ar (Some extension.Ar) is = refl
+control_extension extension.Sp (Some extension.Sp) is = refl
+control_extension _ _ is = absurd cc
 
 each_some : (Q : ℕ → Type 0) (ss : List (Option ℕ)) → EachTarget Q ss → AllByRecursion Q (some_signals ss)
 each_some Q [] all = tt
@@ -98,54 +89,45 @@ rowed : (t : Table) (x : Entry) (e : Extension) (row : Option ℕ) → ((stored 
 rowed t x e row own (APin pin negated) is signal has =
     let at = stored_row (is_stored x) row (sym (own (is_stored x)) ∙ has) in
     record { pin = pin; negated = negated; kind = is; stored = at.0; there = at.1 }
-rowed t x e row own (ANode n) is signal has = absurd cc
-rowed t x e row own (AConstant value) is signal has = absurd cc
-rowed t x e row own ADeviceName is signal has = absurd cc
+rowed t x e row own _ is signal has = absurd cc
 
 module _ (d : Design) (known : d.context.known ≡ known_of d.context.names) (headers : HaveBareHeaders d.context d.sections) where
-  abbrev AnyUse : SignalUse → Type 0
-  AnyUse u = Unit {0}
-
   abbrev ToSignal : Option Extension → ℕ → Type 0
   ToSignal e s = IsSignalOf d.context s
 
   targets : (t : Tree) → AllByRecursion (IsSignalOf d.context) (signals_in (term_of d.context.known t))
   targets t = each_some (IsSignalOf d.context) (targets_of (term_of d.context.known t)) (signal_targets d.context known t)
 
-  may_give : (p : Part) → MayGive d.context AnyUse ToSignal (λ e s is. is) 0 [] targets p
+  may_give : (p : Part) → MayGive d.context ToSignal p
   may_give (ATarget t) = targets t
   may_give (AValue t) = tt
 
   -- each contribution is to a signal
   pub given_signals : EachSignal (IsSignalOf d.context) (given_formulas d)
-  given_signals =
-      own_formulas d AnyUse ToSignal (λ e s is. is)
-      ((sections_part d.context AnyUse ToSignal (λ e s is. is) 0 [] targets d.starts_dontcare 0 [] d.sections).good headers
-      (each_always (λ (u : PlacedUse). AnyUse u.read) (λ u. tt) (design_uses d))
-      (each_always (MayGive d.context AnyUse ToSignal (λ e s is. is) 0 [] targets) may_give (sections_parts d.sections)))
+  given_signals = own_given d ToSignal (λ e s is. is) targets headers (each_always (MayGive d.context ToSignal) may_give (sections_parts d.sections))
 
   module _ (fs : List Formula) (cs : List code.Contribution) (same : map (view_contribution fs) cs ≡ given_formulas d) (controls : lacking_controls d.context.device d.context.names cs ≡ []) where
     -- a control with an equation is one that its signal has
-    had_by : (e : Extension) (s : ℕ) (f : Formula) → ((o : Option Extension) → is_the_control e o ≡ true → o ≡ Some e) → control_of (formulas d.context) (given_formulas d) s e ≡ Some f
+    had_by : (e : Extension) (s : ℕ) (f : Formula) → control_of (formulas d.context) (given_formulas d) s e ≡ Some f
         → (lacks_control d.context.device (name_at d.context s) (Some e) ≡ false) × IsSignalOf d.context s
-    had_by e s f extension_is is =
+    had_by e s f is =
         let some = control_given (formulas d.context) (is_control s e) (given_formulas d) f is in
         let there = subst (AllByRecursion (HasControl d.context fs)) same (controls_there d.context fs cs controls) in
         let c = some_of (HasControl d.context fs) (is_control s e) (given_formulas d) there some in
         let k = some_of (λ (x : Contribution Formula). IsSignalOf d.context x.signal) (is_control s e) (given_formulas d) given_signals some in
         let parts = and_parts (c.0.signal == s) (is_the_control e c.0.extension) c.2 in
         let to_same : c.0.signal ≡ s = eqb-true c.0.signal s parts.0 in (
-          sym (ap (λ o. lacks_control d.context.device (name_at d.context s) o) (extension_is c.0.extension parts.1))
+          sym (ap (λ o. lacks_control d.context.device (name_at d.context s) o) (control_extension e c.0.extension parts.1))
               ∙ sym (ap (λ n. lacks_control d.context.device (name_at d.context n) c.0.extension) to_same) ∙ c.1,
           subst (IsSignalOf d.context) (eqb-true k.0.signal s (and_parts (k.0.signal == s) (is_the_control e k.0.extension) k.2).0) k.1,
         )
 
     pub reset_had : (s : ℕ) (f : Formula) → control_of (formulas d.context) (given_formulas d) s extension.Ar ≡ Some f → IsRowed (name_at d.context s) d.context.device.reset
     reset_had s f is =
-        let own = had_by extension.Ar s f reset_extension is in
+        let own = had_by extension.Ar s f is in
         rowed d.context.device (name_at d.context s) extension.Ar d.context.device.reset (λ stored. refl) (name_at d.context s).kind refl own.1 own.0
 
     pub preset_had : (s : ℕ) (f : Formula) → control_of (formulas d.context) (given_formulas d) s extension.Sp ≡ Some f → IsRowed (name_at d.context s) d.context.device.preset
     preset_had s f is =
-        let own = had_by extension.Sp s f preset_extension is in
+        let own = had_by extension.Sp s f is in
         rowed d.context.device (name_at d.context s) extension.Sp d.context.device.preset (λ stored. refl) (name_at d.context s).kind refl own.1 own.0

@@ -1,21 +1,19 @@
 -- What a target names by its names alone is among what its names would read as Q.
-use Rattle.std.proofs.Common.{◌≡◌, ℕ, suc, ◌==◌, Bool, true, false, if◌then◌else◌, None, Some, List, [], ◌∷◌, ◌++◌, bytes_eq, refl, sym, ap, ◌∙◌}
-use Rattle.design.proofs.Common.{Named, signals_of_name, signals_of_names, signals_of, signals_of_members, signals_of_member, meant, named_after, named_of, Kind, APin, ANode, AConstant, ADeviceName, Entry, range_names, Tree, ANumber, ASpecial, AName, ASet, AParen, AUnary, ABinary, SetMember, OneMember, SpanMember, Members, NoMember, MoreMembers, Held, held_by, held_meant, held_after, held_of, read_names, read_in, read_in_members, read_in_member, among}
+use Rattle.std.proofs.Common.{◌≡◌, ℕ, suc, Bool, true, false, if◌then◌else◌, None, List, [], ◌∷◌, ◌++◌, bytes_eq, refl, sym, ap, ◌∙◌}
+use Rattle.design.proofs.Common.{Named, signals_of_name, signals_of_names, signals_of, signals_of_members, signals_of_member, meant, named_after, named_of, Kind, AConstant, ADeviceName, Entry, range_names, Tree, AName, ASet, AParen, SetMember, OneMember, SpanMember, Members, NoMember, MoreMembers, Held, held_by, held_meant, held_after, held_of, read_names, read_in, read_in_members, read_in_member, among}
 use Rattle.design.proofs.NamedTerms.{both_among}
 
 module _ (s : ℕ) where
   -- names one by one: what the one names, the other reads as Q
   abbrev Reads : List Named → List Held → Type 0
   Reads [] [] = Unit {0}
-  Reads [] (h ∷ hs) = ⊥
-  Reads (k ∷ ks) [] = ⊥
   Reads (k ∷ ks) (h ∷ hs) = (k.name ≡ h.name) × ((among s k.signals ≡ true → among s (h.signals true) ≡ true) × Reads ks hs)
+  Reads _ _ = ⊥
 
   reads_more : (ks : List Named) (hs : List Held) (k : Named) (h : Held) → Reads ks hs → k.name ≡ h.name → (among s k.signals ≡ true → among s (h.signals true) ≡ true) → Reads (ks ++ k ∷ []) (hs ++ h ∷ [])
   reads_more [] [] k h all n f = (n, (f, tt))
-  reads_more [] (g ∷ hs) k h all n f = absurd all
-  reads_more (l ∷ ks) [] k h all n f = absurd all
   reads_more (l ∷ ks) (g ∷ hs) k h all n f = (all.0, (all.1.0, reads_more ks hs k h all.1.1 n f))
+  reads_more _ _ k h all n f = absurd all
 
   name_read : (ks : List Named) (hs : List Held) → Reads ks hs → (w : List ℕ) → among s (signals_of_name ks w) ≡ true → among s (held_by hs w true) ≡ true
   name_read [] hs all w e = absurd cc
@@ -33,15 +31,10 @@ module _ (s : ℕ) where
 
     mutual
       target_read : (t : Tree) → among s (signals_of ks t) ≡ true → among s (read_in (held_by hs) true t) ≡ true
-      target_read (ANumber n) e = absurd cc
-      target_read (ASpecial letter p) e = absurd cc
       target_read (AName word None) e = name_read ks hs all word.text e
-      target_read (AName word (Some x)) e = absurd cc
       target_read (ASet p ms None) e = members_read ms e
-      target_read (ASet p ms (Some x)) e = absurd cc
       target_read (AParen p t) e = target_read t e
-      target_read (AUnary sign p t) e = absurd cc
-      target_read (ABinary sign p t u) e = absurd cc
+      target_read _ e = absurd cc
 
       members_read : (ms : Members) → among s (signals_of_members ks ms) ≡ true → among s (read_in_members (held_by hs) true ms) ≡ true
       members_read NoMember e = absurd cc
@@ -52,10 +45,9 @@ module _ (s : ℕ) where
       member_read (SpanMember first last) e = names_read (range_names first.text last.text) e
 
     meant_read : (n : ℕ) (kind : Kind) → among s (meant ks n kind) ≡ true → among s (held_meant hs n kind true) ≡ true
-    meant_read n (APin pin negated) e = e
-    meant_read n (ANode number) e = e
     meant_read n (AConstant value) e = target_read value e
     meant_read n ADeviceName e = absurd cc
+    meant_read n _ e = e
 
   after_read : (ks : List Named) (hs : List Held) → Reads ks hs → (n : ℕ) (es : List Entry) → Reads (named_after ks n es) (held_after hs n es)
   after_read ks hs all n [] = all

@@ -1,10 +1,9 @@
-pub mod AimedOutputs
 pub mod AssignedData
 pub mod AssignedNames
 pub mod BareTargets
 mod CellResets
+pub mod ClearTargets
 pub mod Common
-pub mod DesignNames
 pub mod Each
 mod Firsts
 pub mod FreeRegisters
@@ -16,8 +15,5 @@ pub mod HeldTargets
 mod LinkSizes
 pub mod NamedTerms
 pub mod SoundModules
-pub mod TableOutputs
 mod Takes
 pub mod Unlisted
-pub mod Unrefused
-pub mod UnrefusedParts

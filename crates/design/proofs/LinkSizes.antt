@@ -1,7 +1,6 @@
 -- The links of a design are few, and each leaf has a number that leaves may have.
-use Rattle.std.proofs.Common.{◌≡◌, ◌≢◌, ℕ, zero, suc, ◌+◌, ◌<◌, ◌≤◌, Bool, true, false, eqb, List, [], ◌∷◌, length, map, get_or, Option, Some, None, refl, sym, ap, ◌∙◌, subst, inl, inr, arith, if◌then◌else◌}
-use Rattle.std.specs.Prelude.{is_some}
-use Rattle.design.proofs.Common.{IsDistinct, option_map, true≢false, cases_lt, eqb-true, eq-eqb, ne_eqb, get_or-map, length-map, position-Some, none-some, same_Some, has, few, place_of, IsDevice, cell_at, no_cell, Leaf, IsLeaf, Kind, APin, ANode, AConstant, ADeviceName, Entry, is_stored, Tree, cell_on, is_pin, Design, name_at, no_name, given_formulas, settles, leaf_by, PinsApart, NodesAreFew, Link, is_linked, IsLinkOf, AreLinks, AreSignals}
+use Rattle.std.proofs.Common.{◌≡◌, ◌≢◌, ℕ, zero, suc, ◌+◌, ◌<◌, ◌≤◌, Bool, true, false, ◌||◌, eqb, List, [], ◌∷◌, length, map, get_or, Option, Some, None, refl, sym, ap, ◌∙◌, subst, inl, inr, arith, if◌then◌else◌, is_some}
+use Rattle.design.proofs.Common.{IsDistinct, option_map, cases_lt, eqb-true, eq-eqb, ne_eqb, get_or-map, length-map, position-Some, none-some, same_Some, has, few, place_of, IsDevice, Table, cell_at, no_cell, Leaf, IsLeaf, Kind, APin, ANode, Entry, is_stored, cell_on, is_pin, Design, name_at, no_name, given_formulas, settles, leaf_by, PinsApart, NodesAreFew, cell_by, Link, is_linked, IsLinkOf, AreLinks, AreSignals, is_node_kind}
 use Rattle.std.proofs.lemmas.Map.Keys.{IsDistinct-from_apart}
 use Rattle.bit_expr.specs.declared.node.Leaf.TheVariants as leaf
 use Rattle.netlist_laws.proofs.CellsFound.{has_pin}
@@ -15,9 +14,7 @@ use Rattle.gathering.proofs.LinkFacts.{Facts, facts}
 
 next_low : (n : ℕ) (kind : Kind) → n ≤ next_number n kind
 next_low n (ANode m) = omega arith
-next_low n (APin pin negated) = omega arith
-next_low n (AConstant value) = omega arith
-next_low n ADeviceName = omega arith
+next_low n _ = omega arith
 
 number_here : (n m : ℕ) (x : Entry) (xs : List Entry) → AreNumbered n (x ∷ xs) → x.kind ≡ ANode m → m ≡ n
 number_here n m x xs all is = rw is at all.0
@@ -43,6 +40,10 @@ number_of (ANode n) = n
 number_of (APin pin negated) = 128 + pin
 number_of _ = 0
 
+-- a name of a kind is a node or assigned on a cell
+abbrev is_linked_by : Table → Entry → Kind → Bool
+is_linked_by t x kind = is_node_kind kind || is_some (cell_by t x kind)
+
 leaf_past : (ls : List Link) (v : ℕ) → length ls ≤ v → leaf_in ls v ≡ None
 leaf_past [] v far = refl
 leaf_past (l ∷ ls) zero far = absurd (omega (arith, far))
@@ -56,8 +57,8 @@ module _ (d : Design) (laws : IsDevice d.context.device) (nodes : NodesAreFew d.
       let signal = (laws.cells c no_cell at.0).pin in
       (omega (arith, at.0, laws.sizes.few_cells), omega (arith, same, signal.high, laws.sizes.pins_high))
 
-  pin_small : (x : Entry) (pin : ℕ) (negated : Bool) → x.kind ≡ APin pin negated → is_linked d.context.device x ≡ true → pin < 32
-  pin_small x pin negated kind linked = by x.assigned (cell_on d.context.device pin) refl (rw kind at linked)
+  pin_small : (x : Entry) (pin : ℕ) (negated : Bool) → is_linked_by d.context.device x (APin pin negated) ≡ true → pin < 32
+  pin_small x pin negated linked = by x.assigned (cell_on d.context.device pin) refl linked
     where
       by : (b : Bool) (o : Option ℕ) → cell_on d.context.device pin ≡ o → is_some (if b then o else None) ≡ true → pin < 32
       by true (Some c) on is = (cell_small pin c on).1
@@ -66,32 +67,23 @@ module _ (d : Design) (laws : IsDevice d.context.device) (nodes : NodesAreFew d.
 
   leaf_of_pin : (x : Entry) (pin : ℕ) (l : Leaf) (stored settled : Bool) (o : Option ℕ) → cell_on d.context.device pin ≡ o → pin < 32 → (if stored then option_map leaf.Q o else if settled then Some (leaf.Pin pin) else None) ≡ Some l → IsLeaf l
   leaf_of_pin x pin l true settled (Some c) on low is = subst IsLeaf (same_Some (leaf.Q c) l is) (cell_small pin c on).0
-  leaf_of_pin x pin l true settled None on low is = absurd cc
   leaf_of_pin x pin l false true o on low is = subst IsLeaf (same_Some (leaf.Pin pin) l is) low
-  leaf_of_pin x pin l false false o on low is = absurd cc
+  leaf_of_pin x pin l _ _ _ on low is = absurd cc
 
-  leaf_small : (s : ℕ) (kind : Kind) (l : Leaf) → (name_at d.context s).kind ≡ kind → is_linked d.context.device (name_at d.context s) ≡ true → leaf_by d.context (name_at d.context s) kind ≡ Some l → IsLeaf l
+  leaf_small : (s : ℕ) (kind : Kind) (l : Leaf) → (name_at d.context s).kind ≡ kind → is_linked_by d.context.device (name_at d.context s) kind ≡ true → leaf_by d.context (name_at d.context s) kind ≡ Some l → IsLeaf l
   leaf_small s (APin pin negated) l kind linked is =
-      leaf_of_pin (name_at d.context s) pin l (is_stored (name_at d.context s)) (settles (name_at d.context s)) (cell_on d.context.device pin) refl (pin_small (name_at d.context s) pin negated kind linked) is
+      leaf_of_pin (name_at d.context s) pin l (is_stored (name_at d.context s)) (settles (name_at d.context s)) (cell_on d.context.device pin) refl (pin_small (name_at d.context s) pin negated linked) is
   leaf_small s (ANode n) l kind linked is = subst IsLeaf (same_Some (leaf.Node n) l is) (nodes s n kind)
-  leaf_small s (AConstant value) l kind linked is = absurd cc
-  leaf_small s ADeviceName l kind linked is = absurd cc
+  leaf_small s _ l kind linked is = absurd cc
 
-  number_small : (s : ℕ) (kind : Kind) → (name_at d.context s).kind ≡ kind → is_linked d.context.device (name_at d.context s) ≡ true → number_of kind < 256
-  number_small s (APin pin negated) kind linked = omega (arith, pin_small (name_at d.context s) pin negated kind linked)
+  number_small : (s : ℕ) (kind : Kind) → (name_at d.context s).kind ≡ kind → is_linked_by d.context.device (name_at d.context s) kind ≡ true → number_of kind < 256
+  number_small s (APin pin negated) kind linked = omega (arith, pin_small (name_at d.context s) pin negated linked)
   number_small s (ANode n) kind linked = omega (arith, nodes s n kind)
-  number_small s (AConstant value) kind linked = omega arith
-  number_small s ADeviceName kind linked = omega arith
-
-  constant_unlinked : (x : Entry) (value : Tree) → x.kind ≡ AConstant value → is_linked d.context.device x ≡ true → ⊥
-  constant_unlinked x value is linked = true≢false (sym (rw is at linked))
-
-  device_unlinked : (x : Entry) → x.kind ≡ ADeviceName → is_linked d.context.device x ≡ true → ⊥
-  device_unlinked x is linked = true≢false (sym (rw is at linked))
+  number_small s _ kind linked = omega arith
 
   module _ (numbered : AreNumbered 0 d.context.names) (apart : PinsApart d.context) where
     -- two linked names have two numbers
-    unlike : (s r : ℕ) (one other : Kind) → s < r → (name_at d.context s).kind ≡ one → (name_at d.context r).kind ≡ other → is_linked d.context.device (name_at d.context s) ≡ true → is_linked d.context.device (name_at d.context r) ≡ true → number_of one ≢ number_of other
+    unlike : (s r : ℕ) (one other : Kind) → s < r → (name_at d.context s).kind ≡ one → (name_at d.context r).kind ≡ other → is_linked_by d.context.device (name_at d.context s) one ≡ true → is_linked_by d.context.device (name_at d.context r) other ≡ true → number_of one ≢ number_of other
     unlike s r (ANode a) (ANode b) less one other linked too same = absurd (omega (arith, rising 0 d.context.names s r a b numbered less one other, same))
     unlike s r (ANode a) (APin q negated) less one other linked too same = absurd (omega (arith, nodes s a one, same))
     unlike s r (APin p negated) (ANode b) less one other linked too same = absurd (omega (arith, nodes r b other, same))
@@ -99,10 +91,7 @@ module _ (d : Design) (laws : IsDevice d.context.device) (nodes : NodesAreFew d.
         let pins : q ≡ p = omega (arith, same) in
         let e = apart p s r (ap (is_pin p) one ∙ eq-eqb p p refl) (ap (is_pin p) other ∙ eq-eqb q p pins) in
         absurd (omega (arith, less, e))
-    unlike s r (AConstant value) other less is_one is_other linked too same = absurd (constant_unlinked (name_at d.context s) value is_one linked)
-    unlike s r ADeviceName other less is_one is_other linked too same = absurd (device_unlinked (name_at d.context s) is_one linked)
-    unlike s r one (AConstant value) less is_one is_other linked too same = absurd (constant_unlinked (name_at d.context r) value is_other too)
-    unlike s r one ADeviceName less is_one is_other linked too same = absurd (device_unlinked (name_at d.context r) is_other too)
+    unlike s r _ _ less one other linked too same = absurd cc
 
     module _ (ns : List ℕ) (ls : List Link) (are : AreLinks d.context (given_formulas d) ns ls) where
       known : Facts d.context (given_formulas d) 0 d.context.names ns ls
@@ -111,20 +100,18 @@ module _ (d : Design) (laws : IsDevice d.context.device) (nodes : NodesAreFew d.
       abbrev up : ℕ → ℕ
       up v = get_or ns v 0
 
-      linked_up : (v : ℕ) → v < length ls → is_linked d.context.device (name_at d.context (up v)) ≡ true
-      linked_up v low =
+      link_at : (v : ℕ) → v < length ls → IsLinkOf d.context (given_formulas d) (up v) (name_at d.context (up v)) (get_or ls v no_link) × (is_linked d.context.device (name_at d.context (up v)) ≡ true)
+      link_at v low =
           let at = known.here v no_link low in
           let same : at.0 ≡ up v = omega (arith, at.2) in
-          subst (λ n. is_linked d.context.device (name_at d.context n) ≡ true) same at.4
+          subst (λ n. IsLinkOf d.context (given_formulas d) (up v) (name_at d.context n) (get_or ls v no_link) × (is_linked d.context.device (name_at d.context n) ≡ true)) same (at.3, at.4)
 
       -- ---- leaves
 
       leaf_by_link : (v : ℕ) (l : Leaf) → v < length ls → leaf_in ls v ≡ Some l → IsLeaf l
       leaf_by_link v l low is =
-          let at = known.here v no_link low in
-          let same : at.0 ≡ up v = omega (arith, at.2) in
-          let of : IsLinkOf d.context (given_formulas d) (up v) (name_at d.context (up v)) (get_or ls v no_link) = subst (λ n. IsLinkOf d.context (given_formulas d) (up v) (name_at d.context n) (get_or ls v no_link)) same at.3 in
-          leaf_small (up v) (name_at d.context (up v)).kind l refl (linked_up v low) (sym of.leaf ∙ sym (leaf_there ls v no_link low) ∙ is)
+          let of = link_at v low in
+          leaf_small (up v) (name_at d.context (up v)).kind l refl of.1 (sym of.0.leaf ∙ sym (leaf_there ls v no_link low) ∙ is)
 
       are_leaves : AreLeaves ls
       are_leaves v l is =
@@ -151,14 +138,14 @@ module _ (d : Design) (laws : IsDevice d.context.device) (nodes : NodesAreFew d.
           let low : j < length ls = omega (arith, long, within) in
           let lower : i < length ls = omega (arith, less, low) in
           ne_eqb (get_or numbers i z) (get_or numbers j z)
-          (λ e. unlike (up i) (up j) (name_at d.context (up i)).kind (name_at d.context (up j)).kind (known.rises i j less low) refl refl (linked_up i lower) (linked_up j low)
+          (λ e. unlike (up i) (up j) (name_at d.context (up i)).kind (name_at d.context (up j)).kind (known.rises i j less low) refl refl (link_at i lower).1 (link_at j low).1
           (sym (number_at i z lower) ∙ e ∙ number_at j z low)))
 
       inside : (v : ℕ) → has numbers v ≡ true → v < 256
       inside v there =
           let at = place_of numbers v there in
           let low : at.0 < length ls = omega (arith, long, at.1) in
-          let small = number_small (up at.0) (name_at d.context (up at.0)).kind refl (linked_up at.0 low) in
+          let small = number_small (up at.0) (name_at d.context (up at.0)).kind refl (link_at at.0 low).1 in
           omega (arith, small, number_at at.0 0 low, at.2)
 
       pub are_signals : AreSignals ns ls

@@ -1,7 +1,6 @@
 -- A target names by its names alone the signals of its term that have no extension.
-use Rattle.std.proofs.Common.{◌≡◌, ℕ, suc, ◌==◌, Bool, true, false, if◌then◌else◌, Option, None, Some, List, [], ◌∷◌, ◌++◌, map, bytes_eq, append_assoc, inl, inr, refl, sym, ap, ap₂, ◌∙◌}
-use Rattle.std.specs.Prelude.{codes}
-use Rattle.design.proofs.Common.{or_left, or_right, or_cases, map-append, list_any-append, Extension, Named, signals_of_name, signals_of_names, signals_of, signals_of_members, signals_of_member, meant, named_after, named_of, without_extension, Kind, APin, ANode, AConstant, ADeviceName, Entry, range_names, Tree, ANumber, ASpecial, AName, ASet, AParen, AUnary, ABinary, SetMember, OneMember, SpanMember, Members, NoMember, MoreMembers, targets_of, all_targets, some_signals, Term, Terms, Number, X, Pulse, Release, Read, Set, UnaryOf, BinaryOf, NoTerm, Before, Known, term_named, extended, extended_each, extended_if, named_before, member_before, special_term, term_of, terms_of, term_meant, known_after, known_of, some_append, extended_targets, among, bare_signals, all_bare_signals}
+use Rattle.std.proofs.Common.{◌≡◌, ℕ, suc, ◌==◌, Bool, true, false, if◌then◌else◌, Option, None, Some, List, [], ◌∷◌, ◌++◌, map, bytes_eq, append_assoc, inl, inr, refl, sym, ap, ap₂, ◌∙◌, codes}
+use Rattle.design.proofs.Common.{or_left, or_right, or_cases, map-append, list_any-append, Extension, Named, signals_of_name, signals_of_names, signals_of, signals_of_members, signals_of_member, meant, named_after, named_of, without_extension, Kind, AConstant, Entry, range_names, Tree, ASpecial, AName, ASet, AParen, SetMember, OneMember, SpanMember, Members, NoMember, MoreMembers, targets_of, all_targets, some_signals, Term, Terms, X, Pulse, Release, Read, Set, NoTerm, Before, Known, term_named, extended, extended_each, extended_if, named_before, member_before, special_term, term_of, terms_of, term_meant, known_after, known_of, some_append, extended_targets, among, bare_signals, all_bare_signals}
 
 -- a name with the bare signals of what it stands for
 abbrev as_named : Known → Named
@@ -23,15 +22,9 @@ name_alike (k ∷ ks) w = by (bytes_eq w k.name) (name_alike ks w)
 -- with an extension nothing is bare
 mutual
   extended_bare : (e : Extension) (t : Term) → [] ≡ bare_signals (extended e t)
-  extended_bare e (Number n) = refl
-  extended_bare e X = refl
-  extended_bare e Pulse = refl
-  extended_bare e Release = refl
   extended_bare e (Read s None) = refl
-  extended_bare e (Read s (Some f)) = refl
   extended_bare e (Set ts) = each_bare e ts
-  extended_bare e (UnaryOf sign t) = refl
-  extended_bare e (BinaryOf sign t u) = refl
+  extended_bare e _ = refl
 
   each_bare : (e : Extension) (ts : Terms) → [] ≡ all_bare_signals (extended_each e ts)
   each_bare e NoTerm = refl
@@ -56,15 +49,13 @@ module _ (ks : List Known) where
 
   mutual
     target_alike : (t : Tree) → signals_of (as_names ks) t ≡ bare_signals (term_of ks t)
-    target_alike (ANumber n) = refl
     target_alike (ASpecial letter p) = special_alike letter
     target_alike (AName word None) = name_alike ks word.text
     target_alike (AName word (Some e)) = extended_bare e (term_named ks word.text)
     target_alike (ASet p ms None) = members_alike ms
     target_alike (ASet p ms (Some e)) = extended_bare e (Set (terms_of ks ms))
     target_alike (AParen p t) = target_alike t
-    target_alike (AUnary sign p t) = refl
-    target_alike (ABinary sign p t u) = refl
+    target_alike _ = refl
 
     members_alike : (ms : Members) → signals_of_members (as_names ks) ms ≡ all_bare_signals (terms_of ks ms)
     members_alike NoMember = refl
@@ -75,10 +66,8 @@ module _ (ks : List Known) where
     member_alike (SpanMember first last) ts = range_alike (range_names first.text last.text) ts
 
   meant_alike : (s : ℕ) (kind : Kind) → meant (as_names ks) s kind ≡ bare_signals (term_meant ks s kind)
-  meant_alike s (APin pin negated) = refl
-  meant_alike s (ANode number) = refl
   meant_alike s (AConstant value) = target_alike value
-  meant_alike s ADeviceName = refl
+  meant_alike s _ = refl
 
 -- ---- all names
 
@@ -112,15 +101,9 @@ both_among s xs ys zs ws f g h =
 
 mutual
   pub bare_among : (s : ℕ) (t : Term) → among s (bare_signals t) ≡ true → among s (signals_in t) ≡ true
-  bare_among s (Number n) h = absurd cc
-  bare_among s X h = absurd cc
-  bare_among s Pulse h = absurd cc
-  bare_among s Release h = absurd cc
   bare_among s (Read j None) h = h
-  bare_among s (Read j (Some f)) h = absurd cc
   bare_among s (Set ts) h = all_among s ts h
-  bare_among s (UnaryOf sign t) h = absurd cc
-  bare_among s (BinaryOf sign t u) h = absurd cc
+  bare_among s _ h = absurd cc
 
   all_among : (s : ℕ) (ts : Terms) → among s (all_bare_signals ts) ≡ true → among s (signals_in_all ts) ≡ true
   all_among s NoTerm h = absurd cc
@@ -139,11 +122,7 @@ extended_alike (Some e) t = ap some_signals (extended_targets e t)
 pub without_alike : (known : List Known) (t : Tree) → signals_in (term_of known t) ≡ signals_in (term_of known (without_extension t))
 without_alike known (AName word e) = extended_alike e (term_named known word.text)
 without_alike known (ASet p ms e) = extended_alike e (Set (terms_of known ms))
-without_alike known (ANumber n) = refl
-without_alike known (ASpecial letter p) = refl
-without_alike known (AParen p t) = refl
-without_alike known (AUnary sign p t) = refl
-without_alike known (ABinary sign p t u) = refl
+without_alike known _ = refl
 
 -- also where an equation's target names it
 pub without_within : (s : ℕ) (ks : List Named) (known : List Known) → IsWithin s ks known → (t : Tree) → among s (signals_of ks (without_extension t)) ≡ true → among s (signals_in (term_of known t)) ≡ true

@@ -1,7 +1,6 @@
--- A module is accepted whose declarations and sections are.
-use Rattle.std.proofs.Common.{◌≡◌, ℕ, ◌+◌, ◌==◌, Bool, true, false, ◌||◌, cond, Option, None, Some, List, [], ◌∷◌, ◌++◌, length, refl, sym, subst, ◌∙◌}
-use Rattle.std.specs.Prelude.{IsSome}
-use Rattle.design.proofs.Common.{AllByRecursion, list_any, position_from, Cell, Table, arena, Extension, Tree, SectionTree, Declarations, Equations, ATable, ADiagram, SomeVectors, DontCareSection, ModuleTree, cell_on, Context, Design, design_of, sections_parts, term_of, SignalUse, given_uses, design_uses, constants_refused, Manner, is_cell_pin, is_output_kind, units_refused, all_refused, limit_refused, right_empty, section_manners, units_of_section, units_of_sections, AssignedAreOnCells, AssignedHaveData, HasBareHeader, HaveBareHeaders, IsAccepted, AreGiven, HasSoundSections, HasSoundDeclarations}
+-- A module is accepted whose declarations and sections are, and so are the names that are declared of it.
+use Rattle.std.proofs.Common.{◌≡◌, ℕ, ◌+◌, ◌==◌, Bool, true, false, ◌||◌, cond, Option, None, Some, List, [], ◌∷◌, ◌++◌, length, refl, sym, subst, ◌∙◌, ◌<◌, take, get_or, ap, inl, inr, IsSome, slice_get}
+use Rattle.design.proofs.Common.{AllByRecursion, list_any, position_from, Cell, Table, arena, Extension, Tree, SectionTree, ADiagram, ModuleTree, cell_on, Context, Design, design_of, sections_parts, term_of, SignalUse, given_uses, design_uses, constants_refused, Manner, is_cell_pin, is_output_kind, units_refused, all_refused, limit_refused, right_empty, section_manners, units_of_section, units_of_sections, AssignedAreOnCells, AssignedHaveData, HasBareHeader, HaveBareHeaders, IsAccepted, AreGiven, HasSoundSections, HasSoundDeclarations, cases_lt, get_or_past, slice_get-get_or, ANode, ADeviceName, Entry, no_name, names_of, NamesAreAccepted}
 use Rattle.std.proofs.lemmas.Iterator.Adapters.{position_from-zero}
 use Rattle.source_sections.specs.SectionAnswers.{source_units}
 use Rattle.design.proofs.AssignedNames.{own_names, own_assigned, names_within, by_sections, signal_there}
@@ -11,7 +10,9 @@ use Rattle.design.proofs.FreeRegisters.{free_may_choose}
 use Rattle.design.proofs.GivenSections.{IsPart, sections_part}
 use Rattle.design.proofs.GivenSignals.{data_formulas}
 use Rattle.design.proofs.NamedTerms.{signals_in}
-use Rattle.design.proofs.UnrefusedParts.{first_units, last_units, diagram_clear}
+use Rattle.design.proofs.ClearTargets.{first_units, last_units, diagram_clear}
+use Rattle.abel_tree.specs.SoundNames.{IsSoundKind}
+use Rattle.declared_names.specs.AcceptedNames.{PinsAreApart, BuffersAreAllowed}
 
 -- ---- cells
 
@@ -29,12 +30,8 @@ cell_there t pin h = subst IsSome (sym (position_from-zero (λ (c : Cell). c.pin
 -- ---- sections
 
 header_bare : (d : Context) (before : List Manner) (x : SectionTree) → units_refused (units_of_section d before x) ≡ [] → HasBareHeader d x
-header_bare d before (Declarations ds) h = tt
-header_bare d before (Equations xs) h = tt
-header_bare d before (ATable place inputs k outputs rows) h = tt
 header_bare d before (ADiagram place registers states) h = member_bare d registers (diagram_clear d before place registers states h).0.0
-header_bare d before (SomeVectors _ place inputs outputs rows) h = tt
-header_bare d before (DontCareSection directive) h = tt
+header_bare d before _ h = tt
 
 headers_bare : (d : Context) (before : List Manner) (ss : List SectionTree) → units_refused (units_of_sections d before ss) ≡ [] → HaveBareHeaders d ss
 headers_bare d before [] h = tt
@@ -89,3 +86,25 @@ all_accepted t m n r =
       data_given = data_there t m;
       headers = headers;
     }
+
+-- ---- names
+
+no_node : (n : ℕ) → ADeviceName ≡ ANode n → ⊥
+no_node n e = absurd cc
+
+-- the number of a node that is sound
+node_below : (pins : ℕ) (es : List Entry) → ((k : ℕ) (e : Entry) → slice_get es k ≡ Some e → IsSoundKind pins (take k es) e.kind) → (s n : ℕ) → (get_or es s no_name).kind ≡ ANode n → n < 128
+node_below pins es sound s n kind =
+    elim (cases_lt s (length es)) [
+      | inl within ↦ subst (IsSoundKind pins (take s es)) kind (sound s (get_or es s no_name) (slice_get-get_or es s no_name within))
+      | inr past ↦ absurd (no_node n (sym (ap (λ (e : Entry). e.kind) (get_or_past es s no_name past)) ∙ kind))
+    ]
+
+pub names_accepted : NamesAreAccepted
+names_accepted t m names same sound apart allowed = record {
+  known = refl;
+  pins = subst PinsAreApart same apart;
+  nodes = node_below t.pins (names_of t m) (subst (λ es. (k : ℕ) (e : Entry) → slice_get es k ≡ Some e → IsSoundKind t.pins (take k es) e.kind) same sound.kinds);
+  signals = signal_there t m;
+  buffers = subst (BuffersAreAllowed t) same allowed;
+}

@@ -1,7 +1,6 @@
 -- A device can take the netlist of a design of which nothing is refused.
-use Rattle.std.proofs.Common.{◌≡◌, ◌≢◌, ℕ, ◌==◌, Bool, true, false, not, ◌&&◌, ◌||◌, Option, None, Some, List, [], ◌∷◌, map, refl, sym, ap, subst, ◌∙◌, if◌then◌else◌, inl, inr}
-use Rattle.std.specs.Prelude.{slice_get, IsSome, is_none}
-use Rattle.design.proofs.Common.{AllByRecursion, cases_Bool, and_from, and_parts, eqb-true, true≢false, All-get_or, list_any_at, position-Some, get_or_from_slice_get, Leaf, Formula, Cell, IsCell, IsDevice, Table, cell_at, no_cell, Extension, Kind, APin, ANode, AConstant, ADeviceName, Entry, is_signal, is_stored, Tree, cell_on, is_data, Design, name_at, no_name, is_data_to, given_formulas, MayRegister, Part, ATarget, AValue, sections_parts, term_of, view_contribution, is_wrong_kind, is_wrong_cell, has_wrong_kind, has_wrong_kind_by, has_wrong_kind_on, lacks_by, is_registered_by, cell_by, SignalUse, use_reads, uses_read, given_uses, HasColumns, IsAllowedOn, ControlIsThere, IsTakeable, PlacedUse, is_missing, is_unread, design_uses, IsAccepted, UnrefusedIsTakeable, IsUnrefused}
+use Rattle.std.proofs.Common.{◌≡◌, ◌≢◌, ℕ, ◌==◌, Bool, true, false, ◌&&◌, Option, None, Some, List, [], ◌∷◌, map, refl, sym, ap, subst, ◌∙◌, if◌then◌else◌, inl, inr, slice_get, IsSome}
+use Rattle.design.proofs.Common.{AllByRecursion, cases_Bool, and_from, and_parts, eqb-true, true≢false, All-get_or, list_any_at, position-Some, get_or_from_slice_get, Leaf, Formula, Cell, IsCell, IsDevice, cell_at, no_cell, Extension, Kind, APin, ANode, AConstant, ADeviceName, Entry, is_signal, is_stored, Tree, cell_on, is_data, Design, name_at, no_name, is_data_to, given_formulas, MayRegister, Part, ATarget, AValue, sections_parts, term_of, view_contribution, is_wrong_kind, is_wrong_cell, has_wrong_kind, has_wrong_kind_by, has_wrong_kind_on, is_registered_by, cell_by, SignalUse, use_reads, uses_read, given_uses, HasColumns, IsAllowedOn, ControlIsThere, IsTakeable, PlacedUse, is_missing, is_unread, design_uses, IsAccepted, UnrefusedIsTakeable, IsUnrefused}
 use Rattle.pld_device.specs.declared.kinds.Kinds.{Kinds}
 use Rattle.pld_device.specs.declared.kinds.Kinds.TheVariants.{Combinational, Registered, Either}
 use Rattle.abel_tree.specs.declared.words.Extension.TheVariants as extension
@@ -89,9 +88,7 @@ module _ (uses_have_columns : UsesHaveColumns) (d : Design) (fs : List Formula) 
       on_cell : (b : Bool) (o : Option ℕ) → (if b then o else None) ≡ Some c → (b ≡ true) × (o ≡ Some c)
       on_cell true o e = (refl, e)
       on_cell false o e = absurd cc
-  allowed s c (ANode n) kind on = absurd cc
-  allowed s c (AConstant value) kind on = absurd cc
-  allowed s c ADeviceName kind on = absurd cc
+  allowed s c _ kind on = absurd cc
 
   -- ---- reads
 
@@ -104,7 +101,7 @@ module _ (uses_have_columns : UsesHaveColumns) (d : Design) (fs : List Formula) 
   all_named : (t : Tree) → AllByRecursion (AnyOwn None) (signals_in (term_of d.context.known t))
   all_named t = each_always (AnyOwn None) (λ s. tt) (signals_in (term_of d.context.known t))
 
-  may_give : (p : Part) → MayGive d.context Carried AnyOwn (λ e s own. tt) 0 [] all_named p
+  may_give : (p : Part) → MayGive d.context AnyOwn p
   may_give (ATarget t) = all_named t
   may_give (AValue t) = tt
 
@@ -116,7 +113,7 @@ module _ (uses_have_columns : UsesHaveColumns) (d : Design) (fs : List Formula) 
   given_good =
       (sections_part d.context Carried AnyOwn (λ e s own. tt) 0 [] all_named d.starts_dontcare 0 [] d.sections).good accepted.headers
       (carried (design_uses d) (filtered_none (is_missing d.context) (design_uses d) unrefused.missing) (filtered_none (is_unread d.context) (design_uses d) unrefused.unread))
-      (each_always (MayGive d.context Carried AnyOwn (λ e s own. tt) 0 [] all_named) may_give (sections_parts d.sections))
+      (each_always (MayGive d.context AnyOwn) may_give (sections_parts d.sections))
 
   some_carried : (us : List SignalUse) (l : Leaf) → AllByRecursion Carried us → uses_read d.context us l ≡ true → HasColumns d.context l
   some_carried us l all is = let u = some_of Carried (use_reads d.context l) us all is in u.1 l u.2

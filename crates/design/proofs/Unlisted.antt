@@ -1,9 +1,10 @@
--- What an empty list of refusals says of each contribution and each name.
-use Rattle.std.proofs.Common.{◌≡◌, ℕ, zero, suc, Bool, true, false, ◌&&◌, Some, List, [], ◌∷◌, map, refl, subst}
-use Rattle.std.specs.Prelude.{slice_get}
-use Rattle.design.proofs.Common.{AllByRecursion, same_Some, Formula, Entry, is_data, Context, name_at, view_contribution, left_empty, right_empty, is_lacking, is_wrong_target, lacking_controls, targets_refused, wrong_kinds, has_wrong_kind, is_registered_node, lacks_control, node_refused, registered_nodes, told_if}
+-- What an empty list of refusals says of each contribution, of each name and of a design.
+use Rattle.std.proofs.Common.{◌≡◌, ℕ, zero, suc, Bool, true, false, ◌&&◌, Some, List, [], ◌∷◌, ◌++◌, map, refl, subst, slice_get}
+use Rattle.design.proofs.Common.{AllByRecursion, same_Some, Formula, Entry, is_data, Context, Design, name_at, view_contribution, left_empty, right_empty, is_lacking, is_wrong_target, lacking_controls, targets_refused, wrong_kinds, has_wrong_kind, is_registered_node, lacks_control, node_refused, registered_nodes, missing_uses, unread_uses, other_levels, target_controls, HasSoundSignals, HasNoRefusal, IsUnrefused}
+use Rattle.design_checks.specs.UsesRefused.{told_if, told}
 use Rattle.abel_meaning.specs.Contributions as meant
 use Rattle.set_expr.specs.declared.contributions.Contribution.{Contribution}
+use Rattle.design_checks.specs.Written.{unwritten}
 use Rattle.design_checks.specs.declared.refused.RefusedUse.{RefusedUse}
 
 not_refused : (b : Bool) (r : RefusedUse) → told_if b r ≡ [] → b ≡ false
@@ -42,3 +43,28 @@ no_registered s (y ∷ xs) e zero x is =
     subst (λ z. is_registered_node z ≡ false) (same_Some y x is) (not_refused (is_registered_node y) (record { place = y.place; name = s }) (left_empty (node_refused s y) (registered_nodes (suc s) xs) e))
 no_registered s (y ∷ xs) e (suc k) x is =
     no_registered (suc s) xs (right_empty (node_refused s y) (registered_nodes (suc s) xs) e) k x is
+
+-- ---- a design of whose signals nothing is refused, and that has no chains
+
+mapped_empty : {X Y : Type 0} (f : X → Y) (xs : List X) → map f xs ≡ [] → xs ≡ []
+mapped_empty f [] e = refl
+mapped_empty f (x ∷ xs) e = absurd cc
+
+module _ (d : Design) (fs : List Formula) (cs : List Contribution) where
+  controls_empty : HasSoundSignals d fs cs → target_controls d.context.device fs d.context.names cs ≡ []
+  controls_empty sound = left_empty (target_controls d.context.device fs d.context.names cs) (unwritten d ++ map told (missing_uses d)) sound.uses.controls.controls
+
+  -- no target names what its signal doesn't have
+  pub had : HasSoundSignals d fs cs → lacking_controls d.context.device d.context.names cs ≡ []
+  had sound = left_empty (lacking_controls d.context.device d.context.names cs) (other_levels d.context.device fs d.context.names cs) (controls_empty sound)
+
+  pub unrefused : HasNoRefusal d fs cs → IsUnrefused d cs
+  unrefused none = record {
+    kinds = none.signals.kinds.kinds;
+    nodes = none.signals.kinds.nodes;
+    controls = had none.signals;
+    missing = mapped_empty told (missing_uses d) (right_empty (unwritten d) (map told (missing_uses d)) (right_empty (target_controls d.context.device fs d.context.names cs) (unwritten d ++ map told (missing_uses d)) none.signals.uses.controls.controls));
+    unread = mapped_empty told (unread_uses d) none.signals.uses.paths;
+    no_loop = none.no_loop;
+    no_path = none.no_path;
+  }

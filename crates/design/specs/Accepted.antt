@@ -1,7 +1,6 @@
 -- What the names and the sections of a design are accepted for (this project's rule).
-use Rattle.std.specs.Prelude.{◌≡◌, ◌≢◌, ℕ, Bool, true, IsSome, List, [], ◌∷◌}
-use Rattle.design.specs.Prelude.{APin, is_signal, is_stored, follows_q, SectionTree, ADiagram, Context, Design, name_at, given_formulas, known_of, term_of, PinsApart, NodesAreFew, MayChoose}
-use Rattle.std.specs.List.{list_any}
+use Rattle.std.specs.Prelude.{◌≡◌, ◌≢◌, ℕ, Bool, true, IsSome, List}
+use Rattle.design.specs.Prelude.{APin, is_signal, is_stored, follows_q, SectionTree, ADiagram, Context, Design, name_at, given_formulas, known_of, term_of, PinsApart, NodesAreFew, MayChoose, AllByRecursion, list_any}
 use Rattle.pld_device.specs.declared.flip.Flip.TheVariants.{AfterRegister}
 use Rattle.pld_device.specs.Pins.{cell_on}
 use Rattle.abel_meaning.specs.Choices.{is_free}
@@ -51,8 +50,7 @@ HasBareHeader d (ADiagram place registers states) = names_signals (term_of d.kno
 HasBareHeader d _ = Unit {0}
 
 abbrev pub HaveBareHeaders : Context → List SectionTree → Type 0
-HaveBareHeaders d [] = Unit {0}
-HaveBareHeaders d (s ∷ ss) = HasBareHeader d s × HaveBareHeaders d ss
+HaveBareHeaders d ss = AllByRecursion (HasBareHeader d) ss
 
 -- what the phases before accept
 pub record IsAccepted (d : Design) : Type 0 where

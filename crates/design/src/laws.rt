@@ -1,9 +1,8 @@
 //! Laws of designs, as the contracts of calls that do nothing.
 
-ghost use Rattle.design.specs.{UnrefusedIsTakeable, TargetsNameAlike, AssignedAreGiven, AssignedHaveCells, SoundModulesAreAccepted, UnrefusedIsSound, NamesAreAccepted};
+ghost use Rattle.design.specs.{UnrefusedIsTakeable, TargetsNameAlike, AssignedAreGiven, AssignedHaveCells, SoundModulesAreAccepted, NamesAreAccepted};
 
 use design_checks::uses_have_columns;
-use netlist_laws::{netlist_is_sound, netlist_means_the_same};
 
 /// The names that are declared of a module are accepted as those of its design. Does nothing.
 pub fn names_are_accepted()
@@ -39,14 +38,4 @@ pub fn unrefused_is_takeable()
     ensures { UnrefusedIsTakeable }
 {
     uses_have_columns();
-}
-
-/// Where nothing is refused of an accepted design, its netlist is sound for the device, and means the same as the
-/// module. Does nothing.
-pub(crate) fn unrefused_is_sound()
-    ensures { UnrefusedIsSound }
-{
-    unrefused_is_takeable();
-    netlist_is_sound();
-    netlist_means_the_same();
 }

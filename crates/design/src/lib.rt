@@ -4,7 +4,6 @@
 mod chains;
 mod laws;
 mod netlist;
-mod resets;
 
 pub use design_checks::DesignFault;
 pub use laws::{

@@ -1,49 +1,26 @@
 //! The netlist of a module, or the first refusal of its design.
 
 ghost use Rattle.std.specs.Prelude.{◌≡◌, All, IfOk, IfErr, length};
-ghost use Rattle.design.specs.Prelude.{arena, entries_of, Design, design_of, names_of, plain_netlist, HasNoSignalLoop, given_formulas, IsCellIn, IsSoundNetlist, MeansTheSame, given, netlist_of};
+ghost use Rattle.design.specs.Prelude.{arena, entries_of, design_of, names_of, plain_netlist, given_formulas, IsSoundNetlist, given};
+ghost use Rattle.netlist_laws.specs.FittedCorrect.{MeansTheSame};
+ghost use Rattle.netlist_laws.specs.Gathered.{netlist_of};
 ghost use Rattle.abel_tree.specs.View.{view_module};
 ghost use Rattle.gathering.specs.Parts.{AllLieIn};
 ghost use Rattle.gathering.specs.Placed.{IsPlaced};
-ghost use Rattle.design.specs.{IsAccepted, HasNoRefusal, IsDesignRefused, AllLeadNowhere, AreSignals, IsLinkedDesign, IsChainTold};
+ghost use Rattle.design.specs.{IsAccepted, HasNoRefusal, IsDesignRefused};
 
-use crate::chains::check_loop;
-use crate::laws::unrefused_is_sound;
-use crate::resets::check_resets;
+use crate::chains::check_chains;
+use crate::laws::unrefused_is_takeable;
 use abel_tree::Names;
 use bit_expr::Netlist;
 use design_checks::{DesignFault, check_signals};
-use gathering::{Gathered, Link, gather_up};
+use gathering::{Gathered, gather_up};
 use name_uses::ModuleParts;
+use netlist_laws::{netlist_is_sound, netlist_means_the_same};
 use pld_device::Device;
 use section_targets::SectionScope;
 use set_expr::Contributions;
 use std::alloc::Global;
-
-/// Refused for a loop of signals, else for a path from a reset to a register.
-fn check_chains(
-    alloc: Global,
-    names: &Names,
-    net: &Netlist,
-    signals: &[u32],
-    links: &[Link],
-) -> Result<(), DesignFault>
-    requires signals { AreSignals signals.now links.now }
-    requires linked { (d : Design) × IsLinkedDesign (entries_of names.now) signals.now links.now d }
-    requires inside { All (IsCellIn (length (arena net.now.exprs))) net.now.cells }
-    ensures no_loop { IfOk result (λ _. (d : Design)
-        → IsLinkedDesign (entries_of names.now) signals.now links.now d → HasNoSignalLoop d) }
-    ensures no_path { IfOk result (λ _.
-        AllLeadNowhere (arena net.now.exprs) signals.now links.now net.now.cells) }
-    ensures err { IfErr result (λ f. (d : Design)
-        → IsLinkedDesign (entries_of names.now) signals.now links.now d
-        → IsChainTold d (arena net.now.exprs) signals.now links.now net.now.cells f) }
-{
-    match check_loop(alloc, names, signals, links) {
-        Err(fault) => Err(fault),
-        Ok(()) => check_resets(alloc, &net.exprs, signals, links, net.cells.as_slice()),
-    }
-}
 
 /// The netlist of a module for a device, by what its sections contribute, or the first refusal of the design. Kinds of
 /// refusals come in the order of `DesignFault`, those of one kind by place; nothing of the contributions comes back.
@@ -74,7 +51,9 @@ pub fn gather<D: Device>(
     ensures refused { IfErr result (λ f. IsDesignRefused
         (design_of D.table (view_module source.now)) (arena found.exprs) found.list f) }
 {
-    unrefused_is_sound();
+    unrefused_is_takeable();
+    netlist_is_sound();
+    netlist_means_the_same();
     let names = scope.scope().names();
     match check_signals::<D>(alloc, source, scope, &found) {
         Err(fault) => Err(fault),

@@ -44,6 +44,6 @@ returns-in-Ok-check_chains g c =
     (c.in-Ok-check_chains.ensures.no_loop d
     (is_linked g.D.Device.table g.met.D.Device.sound c.args.source.now c.names-names.result.now c.args.found (ap entries_of (c.names-names.ensures ∙ c.scope.ensures) ∙ c.requires.names) c.requires.accepted c.requires.gives
     c.in_ok-net-in-Ok.field-0 c.as_slice.result.now c.as_slice-in-Ok.result.now c.in_ok-net-in-Ok.ensures.netlist c.in_ok-net-in-Ok.ensures.links (cc) (cc)))
-    c.in-Ok-check_chains.ensures.no_path c.unrefused_is_sound.ensures c.in_ok-net-in-Ok.ensures.ids c.in_ok-net-in-Ok.ensures.pins c.in_ok-net-in-Ok.ensures.registers
+    c.in-Ok-check_chains.ensures.no_path c.unrefused_is_takeable.ensures c.netlist_is_sound.ensures c.netlist_means_the_same.ensures c.in_ok-net-in-Ok.ensures.ids c.in_ok-net-in-Ok.ensures.pins c.in_ok-net-in-Ok.ensures.registers
     in
     record { unrefused = is.unrefused; netlist = is.netlist; sound = is.sound; same = is.same; places = c.in_ok-net-in-Ok.ensures.places; refused = tt }

@@ -1,14 +1,19 @@
--- Private: paths from the resets of a netlist's cells to registers (this project's rule).
-use Rattle.std.specs.Prelude.{◌≡◌, ℕ, ◌<◌, ◌≤◌, true, Option, None, Some, List, All, length, get_or}
-use Rattle.design.specs.Prelude.{Place, CellWanted, Formula, Ranks, Design, plain_control, given_formulas, IsSignalPath, HasNoSignalPath, Link, AreLinks, AssignedHaveCells, DesignFault}
+-- Private: what is told of a design's chains: loops of signals, and paths from the resets of a netlist's cells to
+-- registers (this project's rule).
+use Rattle.std.specs.Prelude.{◌≡◌, ℕ, ◌≤◌, true, Option, None, Some, List, All, length}
+use Rattle.design.specs.Prelude.{Contains, Place, Formula, Ranks, Entry, Design, plain_control, given_formulas, HasNoSignalLoop, IsSignalPath, HasNoSignalPath, DesignFault}
+use Rattle.bit_expr.specs.declared.netlist.CellWanted.{CellWanted}
+use Rattle.gathering.specs.declared.link.Link.{Link}
+use Rattle.gathering.specs.Linked.{AreLinks}
+use Rattle.gathering.specs.Resets.{AssignedHaveCells}
 use Rattle.bit_expr.specs.declared.netlist.Control.{Control}
 use Rattle.abel_tree.specs.declared.words.Extension.TheVariants as extension
 use Rattle.abel_meaning.specs.Controls.{control_of}
 use Rattle.abel_meaning.specs.FormulaBits.{formulas}
 use Rattle.gathering.specs.Links.{AreLeaves}
 use Rattle.design_checks.specs.declared.fault.DesignFault.TheVariants as fault
-use Rattle.design.specs.declared.resets.ResetPath.{ResetPath}
-use Rattle.design.specs.Answers.{is_sooner}
+use Rattle.design.specs.declared.chains.ResetPath.{ResetPath}
+use Rattle.design.specs.Answers.{IsFirstLoop, is_sooner}
 
 -- wherever it stands
 abbrev pub AnyPlace : Place → Type 0
@@ -51,12 +56,10 @@ module _ (fs : List Formula) (ns : List ℕ) (ls : List Link) where
   IsFoundOf w None = LeadsNowhereAt AnyPlace w
   IsFoundOf w (Some p) = IsPathOf w p
 
-  -- the path is that of a cell, and from no reset of a cell that stands before it there is one
+  -- the path is that of one of the cells, and from no reset of a cell that stands before it there is one
   pub record IsFirstOf (ws : List CellWanted) (p : ResetPath) : Type 0 where
-    pub at : ℕ
-    pub within : at < length ws
     pub cell : CellWanted
-    pub there : get_or ws at cell ≡ cell
+    pub there : Contains ws cell
     pub path : IsPathOf cell p
     pub first : All (LeadsNowhereAt (Before p.place)) ws
 
@@ -68,12 +71,20 @@ module _ (fs : List Formula) (ns : List ℕ) (ls : List Link) where
   IsFirstFound ws None = AllLeadNowhere ws
   IsFirstFound ws (Some p) = IsFirstOf ws p
 
-  -- what is told of them
-  abbrev pub IsPathTold : List CellWanted → DesignFault → Type 0
-  IsPathTold ws (fault.ResetReadsRegister p path) = IsFirstOf ws (record { place = p; path = path })
-  IsPathTold ws fault.OutOfMemory = Unit {0}
-  IsPathTold ws _ = ⊥
-
 -- paths in order of their resets
 abbrev pub path_order : Ranks ResetPath
 path_order = record { place = λ p. p.place; rank = λ p. 0 }
+
+-- a design of these names and links, each of whose assigned pins is that of a cell
+pub record IsLinkedDesign (xs : List Entry) (ns : List ℕ) (ls : List Link) (d : Design) : Type 0 where
+  pub names : d.context.names ≡ xs
+  pub cells : AssignedHaveCells d.context
+  pub links : AreLinks d.context (given_formulas d) ns ls
+
+-- what is told of a loop; and where there is none, of the path from the reset that stands first
+abbrev pub IsChainTold : Design → List Formula → List ℕ → List Link → List CellWanted → DesignFault → Type 0
+IsChainTold d fs ns ls ws (fault.Loop p chain) = IsFirstLoop d p chain
+IsChainTold d fs ns ls ws (fault.ResetReadsRegister p path) =
+    HasNoSignalLoop d × IsFirstOf fs ns ls ws (record { place = p; path = path })
+IsChainTold d fs ns ls ws fault.OutOfMemory = Unit {0}
+IsChainTold d fs ns ls ws _ = ⊥

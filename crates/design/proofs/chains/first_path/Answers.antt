@@ -1,7 +1,7 @@
 use Rattle.std.proofs.Common.{subst, take, sym, ◌+◌}
 use Rattle.design.proofs.Common.{take_all, arena, IsFirstFound}
 use Rattle.design.proofs.Firsts.{first_more, none_yet}
-use Rattle.design.proofs.resets.first_path.Goals as goal
+use Rattle.design.proofs.chains.first_path.Goals as goal
 
 pub loop-wanted-init : goal.loop-wanted-init
 loop-wanted-init c = none_yet (arena c.args.exprs.now) c.args.signals.now c.args.links.now

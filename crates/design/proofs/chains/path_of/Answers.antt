@@ -1,7 +1,7 @@
 use Rattle.std.proofs.Common.{ℕ, Some, length, sym, ap, subst, ◌∙◌}
 use Rattle.design.proofs.Common.{arena, Design, plain_control, given_formulas, names_if_any, HasNoSignalPath, IsControlIn, AreLinks, AssignedHaveCells, reset_names}
 use Rattle.bit_expr.specs.Reading.{AreReads}
-use Rattle.design.proofs.resets.path_of.Goals as goal
+use Rattle.design.proofs.chains.path_of.Goals as goal
 
 pub reads-requires : goal.reads-requires
 reads-requires c =
