@@ -1,6 +1,6 @@
 -- The design of accepted names and sections is accepted.
 use Rattle.compile_phases.proofs.Common.{arena, view_module, design_of}
-use Rattle.design.proofs.Unrefused.{unrefused}
+use Rattle.design.proofs.Unlisted.{unrefused}
 use Rattle.compile_phases.proofs.phases.netlist_of.Goals as goal
 
 pub gather-requires-clause-accepted : goal.gather-requires-clause-accepted
