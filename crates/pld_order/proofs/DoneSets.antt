@@ -1,11 +1,6 @@
 -- Lists of vertices and the sets of the same vertices: one more in both, and what a test of sets says of lists.
 use Rattle.std.proofs.Common.{◌≡◌, ℕ, ◌<◌, ◌≤◌, Bool, true, false, not, ◌&&◌, ◌||◌, ◌==◌, List, [], ◌∷◌, ◌++◌, length, get_or, refl, ap, sym, ◌∙◌, arith, inl, inr}
-use Rattle.std.proofs.lemmas.Bool.{cases_lt, true≢false, or_right, and_parts, and_cases, not-false, not-true}
-use Rattle.std.proofs.lemmas.List.{get_or_default}
-use Rattle.pld_base.specs.Bits.{is_on}
-use Rattle.pld_order.specs.Graphs.{has}
-use Rattle.pld_order.specs.Search.{IsDone, IsSetOf, IsReady, IsStuck, IsReadyBy, NoneIsReady}
-use Rattle.pld_order.specs.Sets.{IsWith, IsWithin, reads_of}
+use Rattle.pld_order.proofs.Common.{cases_lt, true≢false, or_right, and_parts, and_cases, not-false, not-true, get_or_default, is_on, has, IsDone, IsSetOf, IsReady, IsStuck, IsReadyBy, NoneIsReady, IsWith, IsWithin, reads_of}
 use Rattle.pld_order.proofs.OneOfBoth.{search_below}
 
 swap : (a b c : Bool) → (a || (b || c)) ≡ (b || (a || c))

@@ -1,14 +1,6 @@
 -- Lists of vertices that lead to ends, and the paths through them.
 use Rattle.std.proofs.Common.{◌≡◌, ◌⊎◌, ℕ, ◌+◌, ◌<◌, ◌≤◌, Bool, true, false, ◌&&◌, eqb, List, [], ◌∷◌, ◌++◌, length, get_or, refl, ap, sym, ◌∙◌, subst, arith, inl, inr}
-use Rattle.std.specs.List.{IsDistinct}
-use Rattle.std.proofs.lemmas.Bool.{cases_Bool, cases_lt, true≢false, false_from_ne_true, and_parts, and_from, or_left, or_right}
-use Rattle.std.proofs.lemmas.List.{length_push, get_or_push, get_or_append_left}
-use Rattle.std.proofs.lemmas.List.Folds.{list_any_at}
-use Rattle.std.proofs.lemmas.Map.Keys.{apart_from_distinct}
-use Rattle.pld_base.specs.Bits.{is_on}
-use Rattle.pld_order.specs.Graphs.{has, IsChain, IsPath, HasNoPath}
-use Rattle.pld_order.specs.Search.{IsSetOf, AreLeading, IsClosed, LeadsInto, NoneLeadsInto, HasNoneOf}
-use Rattle.pld_order.specs.Sets.{AreApart, reads_of}
+use Rattle.pld_order.proofs.Common.{IsDistinct, cases_Bool, cases_lt, true≢false, false_from_ne_true, and_parts, and_from, or_left, or_right, length_push, get_or_push, get_or_append_left, list_any_at, apart_from_distinct, is_on, has, IsChain, IsPath, HasNoPath, IsSetOf, AreLeading, IsClosed, LeadsInto, NoneLeadsInto, HasNoneOf, AreApart, reads_of}
 use Rattle.pld_order.proofs.Lists.{eqb_same, has_push, place_of, few, inside_push, once_push}
 use Rattle.pld_order.proofs.OneOfBoth.{search_below}
 use Rattle.pld_order.proofs.Walks.{chain_push}

@@ -1,3 +1,4 @@
+pub mod Common
 pub mod DoneSets
 pub mod LeadLists
 pub mod Lists

@@ -1,11 +1,8 @@
 -- Lists of vertices: what they have, each once, and how long they can be.
 use Rattle.std.proofs.Common.{◌≡◌, ◌⊎◌, ℕ, zero, suc, ◌<◌, ◌≤◌, true, false, eqb, List, [], ◌∷◌, ◌++◌, length, drop, get_or, refl, sym, ◌∙◌, subst, arith, inl, inr, eqb-true, ne_eqb}
-use Rattle.std.specs.List.{IsDistinct}
+use Rattle.pld_order.proofs.Common.{IsDistinct, true≢false, cases_eq, eq-eqb, or_cases, or_left, or_right, IsDistinct-push, IsDistinct-tail, has}
 use Rattle.std.specs.Cmp.{nat_eq_equiv}
-use Rattle.std.proofs.lemmas.Bool.{true≢false, cases_eq, eq-eqb, or_cases, or_left, or_right}
-use Rattle.std.proofs.lemmas.Map.Keys.{IsDistinct-push, IsDistinct-tail}
 use Rattle.std.proofs.lemmas.Map.Steps.{length-le_from_distinct_below}
-use Rattle.pld_order.specs.Graphs.{has}
 
 -- a number is equal to itself, and equality has no side
 pub eqb_same : (n : ℕ) → eqb n n ≡ true

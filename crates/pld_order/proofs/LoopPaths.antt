@@ -1,13 +1,7 @@
 -- A path from what a vertex reads back to it is a loop, and where there is no such path the vertex is on no loop.
 use Rattle.std.proofs.Common.{◌≡◌, ℕ, ◌-◌, ◌<◌, Bool, true, eqb, List, [], ◌∷◌, ◌++◌, length, take, drop, get_or, refl, ap, sym, ◌∙◌, subst, arith, inl, inr, add-zero, get_or-drop, length-drop}
-use Rattle.std.specs.List.{IsDistinct}
+use Rattle.pld_order.proofs.Common.{IsDistinct, true≢false, false_from_ne_true, or_left, or_right, length_push, get_or_append_left, IsPermutation-append_comm, list_any-IsPermutation, IsDistinct-IsPermutation, has, IsChain, IsLoop, IsPath, HasNoPath, HasLoop, IsOnNoLoop}
 use Rattle.std.proofs.Math.Seq.{take-append_seam, get_or-append_seam}
-use Rattle.std.proofs.lemmas.Bool.{true≢false, false_from_ne_true, or_left, or_right}
-use Rattle.std.proofs.lemmas.List.{length_push, get_or_append_left}
-use Rattle.std.proofs.lemmas.List.Sorted.{IsPermutation-append_comm, list_any-IsPermutation}
-use Rattle.std.proofs.lemmas.Map.Keys.{IsDistinct-IsPermutation}
-use Rattle.pld_order.specs.Graphs.{has, IsChain, IsLoop, IsPath, HasNoPath, HasLoop}
-use Rattle.pld_order.specs.Search.{IsOnNoLoop}
 use Rattle.pld_order.proofs.Lists.{eqb_same, eqb_flips, has_push, place_of}
 use Rattle.pld_order.proofs.Turns.{loop_turn}
 

@@ -1,9 +1,6 @@
 -- A graph has an order or a loop, and never both.
 use Rattle.std.proofs.Common.{◌≡◌, ◌⊎◌, ℕ, zero, suc, ◌+◌, ◌<◌, ◌≤◌, Bool, true, false, eqb, List, [], ◌∷◌, ◌++◌, length, drop, get_or, refl, sym, ◌∙◌, ap, subst, arith, inl, inr, eqb-true, not, ◌&&◌}
-use Rattle.std.proofs.lemmas.Bool.{cases_Bool, cases_lt, true≢false, or_cases, or_left, or_right, and_parts, and_cases, not-false, not-true}
-use Rattle.std.proofs.lemmas.List.{length_push}
-use Rattle.pld_order.specs.Graphs.{has, IsChain, IsLoop, IsOrder, HasOrder, HasLoop}
-use Rattle.pld_order.specs.Search.{IsOrderSoFar, IsReady, IsStuck, WaitsForOther}
+use Rattle.pld_order.proofs.Common.{cases_Bool, cases_lt, true≢false, or_cases, or_left, or_right, and_parts, and_cases, not-false, not-true, length_push, has, IsChain, IsLoop, IsOrder, HasOrder, HasLoop, IsOrderSoFar, IsReady, IsStuck, WaitsForOther}
 use Rattle.pld_order.proofs.Lists.{eqb_same, place_of}
 use Rattle.pld_order.proofs.Walks.{IsWalk, walk_none, walk_more, walk_short, loop_at}
 use Rattle.pld_order.proofs.Orders.{order_none, order_more, order_short, order_of_all}

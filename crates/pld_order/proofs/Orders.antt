@@ -1,12 +1,6 @@
 -- Orders of some of the vertices, made longer one by one, and what makes such a one an order of all.
 use Rattle.std.proofs.Common.{◌≡◌, ℕ, ◌+◌, ◌<◌, ◌≤◌, Bool, true, false, eqb, List, [], ◌∷◌, ◌++◌, length, take, get_or, ap, sym, ◌∙◌, subst, arith, inl, inr}
-use Rattle.std.specs.List.{IsDistinct}
-use Rattle.std.proofs.lemmas.Bool.{cases_Bool, cases_lt, true≢false}
-use Rattle.std.proofs.lemmas.List.{length_push, get_or_push, take-append-le, take_at, get_or_append_left, get_or-take, length-take-le}
-use Rattle.std.proofs.lemmas.List.Folds.{list_any_at}
-use Rattle.std.proofs.lemmas.Map.Keys.{apart_from_distinct}
-use Rattle.pld_order.specs.Search.{IsReady, IsOrderSoFar}
-use Rattle.pld_order.specs.Graphs.{has, IsOrder}
+use Rattle.pld_order.proofs.Common.{IsDistinct, cases_Bool, cases_lt, true≢false, length_push, get_or_push, take-append-le, take_at, get_or_append_left, get_or-take, length-take-le, list_any_at, apart_from_distinct, IsReady, IsOrderSoFar, has, IsOrder}
 use Rattle.pld_order.proofs.Lists.{eqb_same, place_of, few, inside_push, once_push}
 
 -- one vertex more in the order

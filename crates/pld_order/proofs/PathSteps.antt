@@ -1,7 +1,6 @@
 -- Paths of one vertex, with one more before them, and from a vertex that is a start.
 use Rattle.std.proofs.Common.{◌≡◌, ℕ, ◌<◌, Bool, true, false, eqb, List, [], ◌∷◌, ◌++◌, get_or, refl, ap, sym, subst, inl, inr, eqb-true}
-use Rattle.std.proofs.lemmas.Bool.{or_cases, true≢false}
-use Rattle.pld_order.specs.Graphs.{has, IsPath}
+use Rattle.pld_order.proofs.Common.{or_cases, true≢false, has, IsPath}
 
 pub path_from : (count : ℕ) (reads : ℕ → ℕ → Bool) (starts ends : ℕ → Bool) (v : ℕ) (path : List ℕ) → starts v ≡ true → IsPath count reads (eqb v) ends path → IsPath count reads starts ends path
 path_from count reads starts ends v path start is = record {

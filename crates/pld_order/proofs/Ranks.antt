@@ -1,7 +1,6 @@
 -- Where there is no loop, each vertex has a rank above those that it reads; and where there are ranks, there is no loop.
 use Rattle.std.proofs.Common.{◌≡◌, ◌≤◌, ℕ, suc, ◌<◌, Bool, true, false, ◌==◌, if◌then◌else◌, List, [], ◌∷◌, length, get_or, refl, sym, ◌∙◌, subst, arith, inl, inr}
-use Rattle.std.proofs.lemmas.Bool.{cases_Bool, cases_lt, eqb-true, or_cases, or_left, or_right, true≢false}
-use Rattle.pld_order.specs.Graphs.{has, IsChain, IsOrder, HasNoLoop}
+use Rattle.pld_order.proofs.Common.{cases_Bool, cases_lt, eqb-true, or_cases, or_left, or_right, true≢false, has, IsChain, IsOrder, HasNoLoop}
 use Rattle.pld_order.proofs.Lists.{eqb_same, few}
 use Rattle.pld_order.proofs.OneOfBoth.{one_or_other}
 

@@ -1,9 +1,6 @@
 -- Two graphs whose vertices read the same have the same orders, loops and paths.
 use Rattle.std.proofs.Common.{◌≡◌, ℕ, ◌<◌, Bool, true, List, [], ◌∷◌, length, get_or, refl, ap, sym, ◌∙◌, subst, arith, eqb}
-use Rattle.std.proofs.lemmas.Bool.{or_left, or_right}
-use Rattle.std.proofs.lemmas.List.{length_push}
-use Rattle.std.proofs.lemmas.List.Folds.{list_any_at}
-use Rattle.pld_order.specs.Graphs.{has, IsOrder, IsChain, IsLoop, IsLeastLoop, HasNoLoop, IsPath, HasNoPath}
+use Rattle.pld_order.proofs.Common.{or_left, or_right, length_push, list_any_at, has, IsOrder, IsChain, IsLoop, IsLeastLoop, HasNoLoop, IsPath, HasNoPath}
 use Rattle.pld_order.proofs.DoneSets.{has_more}
 use Rattle.pld_order.proofs.Lists.{eqb_same}
 

@@ -1,10 +1,7 @@
 -- A loop begun with another of its vertices.
 use Rattle.std.proofs.Common.{◌≡◌, ℕ, ◌<◌, Bool, eqb, List, [], ◌∷◌, ◌++◌, length, take, drop, get_or, ap, sym, ◌∙◌, subst, arith, length-drop}
+use Rattle.pld_order.proofs.Common.{append-nil, length-append, take-append-drop, IsPermutation-append_comm, list_any-IsPermutation, IsDistinct-IsPermutation, has, IsChain, IsLoop}
 use Rattle.std.specs.List.Sorted.{IsPermutation}
-use Rattle.std.proofs.lemmas.List.{append-nil, length-append, take-append-drop}
-use Rattle.std.proofs.lemmas.List.Sorted.{IsPermutation-append_comm, list_any-IsPermutation}
-use Rattle.std.proofs.lemmas.Map.Keys.{IsDistinct-IsPermutation}
-use Rattle.pld_order.specs.Graphs.{has, IsChain, IsLoop}
 use Rattle.pld_order.proofs.Lists.{eqb_flips}
 
 -- the two parts of a chain are chains, and two that meet are one

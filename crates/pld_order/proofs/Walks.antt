@@ -1,9 +1,6 @@
 -- Walks: where a list of vertices leads, and the loop that one has made which comes back.
 use Rattle.std.proofs.Common.{◌≡◌, ℕ, zero, suc, ◌+◌, ◌<◌, ◌≤◌, Bool, true, false, eqb, List, [], ◌∷◌, ◌++◌, length, drop, get_or, ap, sym, ◌∙◌, subst, arith, add-zero, get_or-drop, length-drop}
-use Rattle.std.specs.List.{IsDistinct}
-use Rattle.std.proofs.lemmas.Bool.{true≢false}
-use Rattle.std.proofs.lemmas.List.{length_push}
-use Rattle.pld_order.specs.Graphs.{has, IsChain, IsLoop}
+use Rattle.pld_order.proofs.Common.{IsDistinct, true≢false, length_push, has, IsChain, IsLoop}
 use Rattle.pld_order.proofs.Lists.{has_drop, few, inside_push, once_push, once_drop}
 
 -- a walk goes on, and a later part of it

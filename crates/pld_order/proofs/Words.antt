@@ -1,12 +1,7 @@
 -- Two numbers of 128 bits as one set of 256 places.
 use Rattle.std.proofs.Common.{◌≡◌, ℕ, ◌+◌, ◌-◌, ◌<◌, ◌≤◌, ◌^◌, Bool, true, false, ◌&&◌, ◌==◌, bit_and, ◌++◌, length, set, refl, ap, sym, ◌∙◌, subst, arith, inl, inr, ne_eqb, get_or-set_same, get_or-set_other}
+use Rattle.pld_order.proofs.Common.{cases_Bool, cases_eq, cases_lt, true≢false, and_parts, and_from, eqb-true, eq-eqb, length-append, get_or_append_left, get_or-append_right, set-append_left, set-append_right, get_or_past, bit_at-lt, same_from_bits_below, bits, is_on, length-bits, is_on-bits, is_on-and, is_on-zero, members, IsWith, IsWithin, AreApart}
 use Rattle.std.specs.Int.{bit_at}
-use Rattle.std.proofs.lemmas.Bool.{cases_Bool, cases_eq, cases_lt, true≢false, and_parts, and_from, eqb-true, eq-eqb}
-use Rattle.std.proofs.lemmas.List.{length-append, get_or_append_left, get_or-append_right, set-append_left, set-append_right, get_or_past}
-use Rattle.std.proofs.lemmas.Nat.Bits.{bit_at-lt, same_from_bits_below}
-use Rattle.pld_base.specs.Bits.{bits, is_on}
-use Rattle.pld_base.proofs.BitLemmas.{length-bits, is_on-bits, is_on-and, is_on-zero}
-use Rattle.pld_order.specs.Sets.{members, IsWith, IsWithin, AreApart}
 
 pub on_low : (low high v : ℕ) → v < 128 → is_on (members low high) v ≡ is_on (bits 128 low) v
 on_low low high v below = get_or_append_left (bits 128 low) (bits 128 high) false v (subst (λ n. v < n) (sym (length-bits 128 low)) below)

@@ -1,7 +1,5 @@
 use Rattle.std.proofs.Common.{◌≡◌, ◌≤◌, ◌+◌, length, sym, ◌∙◌, ap, arith}
-use Rattle.std.proofs.lemmas.List.{length_push}
-use Rattle.pld_base.specs.Bits.{is_on}
-use Rattle.pld_order.specs.Sets.{reads_of}
+use Rattle.pld_order.proofs.Common.{length_push, is_on, reads_of}
 use Rattle.pld_order.proofs.DoneSets.{set_more}
 use Rattle.pld_order.proofs.LeadLists.{lead_none, lead_more, lead_short}
 use Rattle.pld_order.proofs.leading.leading.Goals as goal

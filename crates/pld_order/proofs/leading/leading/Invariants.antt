@@ -1,7 +1,5 @@
 use Rattle.std.proofs.Common.{◌-◌, length}
-use Rattle.pld_base.specs.Bits.{is_on}
-use Rattle.pld_order.specs.Search.{AreLeading, IsSetOf}
-use Rattle.pld_order.specs.Sets.{reads_of}
+use Rattle.pld_order.proofs.Common.{is_on, AreLeading, IsSetOf, reads_of}
 use Rattle.pld_order.proofs.leading.leading.Given as goal
 
 abbrev pub invariant-loop-list : goal.invariant-loop-list

@@ -1,6 +1,5 @@
 use Rattle.std.proofs.Common.{◌≡◌, ℕ, ◌<◌, false, [], get_or}
-use Rattle.pld_base.specs.Bits.{is_on}
-use Rattle.pld_order.specs.Sets.{AreApart}
+use Rattle.pld_order.proofs.Common.{is_on, AreApart}
 use Rattle.pld_order.proofs.leading.next_leading.Given as goal
 
 abbrev pub invariant-loop-v : goal.invariant-loop-v

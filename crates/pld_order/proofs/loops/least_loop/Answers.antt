@@ -1,6 +1,5 @@
 use Rattle.std.proofs.Common.{length, get_or, sym, ◌∙◌, arith, inl, inr}
-use Rattle.std.proofs.lemmas.Bool.{cases_lt, true≢false}
-use Rattle.pld_order.specs.Sets.{reads_of}
+use Rattle.pld_order.proofs.Common.{cases_lt, true≢false, reads_of}
 use Rattle.pld_order.proofs.LoopPaths.{no_loop_at_all}
 use Rattle.pld_order.proofs.loops.least_loop.Goals as goal
 

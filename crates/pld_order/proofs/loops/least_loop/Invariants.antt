@@ -1,6 +1,5 @@
 use Rattle.std.proofs.Common.{ℕ, ◌<◌, length}
-use Rattle.pld_order.specs.Search.{IsOnNoLoop}
-use Rattle.pld_order.specs.Sets.{reads_of}
+use Rattle.pld_order.proofs.Common.{IsOnNoLoop, reads_of}
 use Rattle.pld_order.proofs.loops.least_loop.Given as goal
 
 abbrev pub invariant-loop-v : goal.invariant-loop-v

@@ -1,8 +1,5 @@
 use Rattle.std.proofs.Common.{◌≡◌, ℕ, Bool, List, true, false, ◌==◌, length, sym, ◌∙◌, subst, inl, inr, eqb-true}
-use Rattle.std.proofs.lemmas.Bool.{or_cases, or_left, true≢false}
-use Rattle.pld_base.specs.Bits.{is_on}
-use Rattle.pld_order.specs.Graphs.{IsPath, HasNoPath}
-use Rattle.pld_order.specs.Sets.{IsWith, reads_of}
+use Rattle.pld_order.proofs.Common.{or_cases, or_left, true≢false, is_on, IsPath, HasNoPath, IsWith, reads_of}
 use Rattle.pld_order.proofs.DoneSets.{set_at}
 use Rattle.pld_order.proofs.Lists.{eqb_same}
 use Rattle.pld_order.proofs.LoopPaths.{loop_of, last_is, path_some, on_no_loop}

@@ -1,5 +1,5 @@
 use Rattle.std.proofs.Common.{◌≡◌, ℕ, ◌<◌, true}
-use Rattle.pld_base.specs.Bits.{is_on}
+use Rattle.pld_order.proofs.Common.{is_on}
 use Rattle.pld_order.proofs.ordering.all_done.Given as goal
 
 abbrev pub invariant-loop-v : goal.invariant-loop-v

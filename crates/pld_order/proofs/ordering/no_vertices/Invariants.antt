@@ -1,6 +1,5 @@
-use Rattle.std.proofs.Common.{◌≡◌, ℕ, ◌&&◌}
-use Rattle.std.specs.Prelude.{nat_le, nat_lt}
-use Rattle.pld_base.specs.Bits.{is_on}
+use Rattle.std.proofs.Common.{◌≡◌, ℕ, ◌&&◌, nat_le, nat_lt}
+use Rattle.pld_order.proofs.Common.{is_on}
 use Rattle.pld_order.proofs.ordering.no_vertices.Given as goal
 
 abbrev pub invariant-loop-v : goal.invariant-loop-v

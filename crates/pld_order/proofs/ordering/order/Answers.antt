@@ -1,7 +1,5 @@
 use Rattle.std.proofs.Common.{◌≡◌, ◌+◌, ◌≤◌, length, ap, sym, ◌∙◌, arith}
-use Rattle.std.proofs.lemmas.Bool.{true≢false}
-use Rattle.std.proofs.lemmas.List.{length_push}
-use Rattle.pld_order.specs.Sets.{reads_of}
+use Rattle.pld_order.proofs.Common.{true≢false, length_push, reads_of}
 use Rattle.pld_order.proofs.DoneSets.{done_more, ready_of, stuck_of}
 use Rattle.pld_order.proofs.OneOfBoth.{not_both, stuck_loop}
 use Rattle.pld_order.proofs.Orders.{order_none, order_more, order_short, order_of_all}

@@ -1,6 +1,5 @@
 use Rattle.std.proofs.Common.{◌-◌, length}
-use Rattle.pld_order.specs.Search.{IsOrderSoFar, IsDone}
-use Rattle.pld_order.specs.Sets.{reads_of}
+use Rattle.pld_order.proofs.Common.{IsOrderSoFar, IsDone, reads_of}
 use Rattle.pld_order.proofs.ordering.order.Given as goal
 
 abbrev pub invariant-loop-v : goal.invariant-loop-v

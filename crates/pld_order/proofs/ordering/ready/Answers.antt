@@ -1,7 +1,5 @@
 use Rattle.std.proofs.Common.{◌≡◌, false, [], get_or, refl, sym, ◌∙◌, subst, below_more}
-use Rattle.std.proofs.lemmas.Bool.{false≢true}
-use Rattle.pld_base.specs.Bits.{is_on}
-use Rattle.pld_order.specs.Sets.{IsWithin}
+use Rattle.pld_order.proofs.Common.{false≢true, is_on, IsWithin}
 use Rattle.pld_order.proofs.DoneSets.{set_at}
 use Rattle.pld_order.proofs.ordering.ready.Goals as goal
 use Rattle.pld_order.proofs.ordering.ready.Goals.{else-not-contains-via-then-not-contains+else-is_within, else-not-contains-via-else-not-contains}

@@ -1,7 +1,5 @@
 use Rattle.std.proofs.Common.{◌≡◌, true, false, length, get_or, sym, ◌∙◌, subst, arith}
-use Rattle.std.proofs.lemmas.Bool.{true≢false}
-use Rattle.pld_base.specs.Bits.{is_on}
-use Rattle.pld_order.specs.Sets.{reads_of}
+use Rattle.pld_order.proofs.Common.{true≢false, is_on, reads_of}
 use Rattle.pld_order.proofs.DoneSets.{set_at}
 use Rattle.pld_order.proofs.Lists.{few}
 use Rattle.pld_order.proofs.LeadLists.{followed_none, followed_more, followed_path, path_once, reads_earlier, first_earlier, in_list}

@@ -1,4 +1,4 @@
-use Rattle.pld_order.specs.Sets.{reads_of}
+use Rattle.pld_order.proofs.Common.{reads_of}
 use Rattle.pld_order.proofs.LeadLists.{IsFollowed}
 use Rattle.pld_order.proofs.paths.followed.Given as goal
 

@@ -1,7 +1,5 @@
 use Rattle.std.proofs.Common.{◌≡◌, true, length, get_or, subst}
-use Rattle.pld_base.specs.Bits.{is_on}
-use Rattle.pld_order.specs.Search.{HasNoneOf}
-use Rattle.pld_order.specs.Sets.{reads_of}
+use Rattle.pld_order.proofs.Common.{is_on, HasNoneOf, reads_of}
 use Rattle.pld_order.proofs.LeadLists.{no_path}
 use Rattle.pld_order.proofs.PathSteps.{path_from}
 use Rattle.pld_order.proofs.paths.path.Goals as goal

@@ -1,5 +1,5 @@
 use Rattle.std.proofs.Common.{◌≡◌, ℕ, ◌<◌, false, get_or}
-use Rattle.pld_base.specs.Bits.{is_on}
+use Rattle.pld_order.proofs.Common.{is_on}
 use Rattle.pld_order.proofs.vertices.place_in.Given as goal
 
 abbrev pub invariant-loop-i : goal.invariant-loop-i

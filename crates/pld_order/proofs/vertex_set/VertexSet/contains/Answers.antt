@@ -1,6 +1,5 @@
 use Rattle.std.proofs.Common.{◌-◌, sym, ◌∙◌, arith}
-use Rattle.std.proofs.lemmas.Nat.Bits.{shr_and_one}
-use Rattle.pld_base.proofs.BitLemmas.{is_on-bits}
+use Rattle.pld_order.proofs.Common.{shr_and_one, is_on-bits}
 use Rattle.pld_order.proofs.Words.{on_low, on_high}
 use Rattle.pld_order.proofs.vertex_set.VertexSet.contains.Goals as goal
 

@@ -1,6 +1,5 @@
 use Rattle.std.proofs.Common.{◌++◌, true, ap, sym, ◌∙◌, subst, arith}
-use Rattle.pld_base.specs.Bits.{bits}
-use Rattle.pld_order.specs.Sets.{members, IsWith}
+use Rattle.pld_order.proofs.Common.{bits, members, IsWith}
 use Rattle.pld_order.proofs.Words.{set_low, set_high, set_on}
 use Rattle.pld_order.proofs.vertex_set.VertexSet.insert.Goals as goal
 

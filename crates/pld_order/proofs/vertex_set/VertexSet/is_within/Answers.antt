@@ -1,5 +1,5 @@
 use Rattle.std.proofs.Common.{sym, eqb-true, eq-eqb}
-use Rattle.std.specs.Int.Bits.{and_lt}
+use Rattle.pld_order.proofs.Common.{and_lt}
 use Rattle.pld_order.proofs.Words.{within, low_within, high_within}
 use Rattle.pld_order.proofs.vertex_set.VertexSet.is_within.Goals as goal
 

@@ -1,6 +1,5 @@
 use Rattle.std.proofs.Common.{not, ap, sym, eqb-true, eq-eqb}
-use Rattle.std.specs.Int.Bits.{and_lt}
-use Rattle.std.proofs.lemmas.Bool.{not-false}
+use Rattle.pld_order.proofs.Common.{and_lt, not-false}
 use Rattle.pld_order.proofs.Words.{apart, low_apart, high_apart}
 use Rattle.pld_order.proofs.vertex_set.VertexSet.meets.Goals as goal
 

@@ -1,6 +1,5 @@
 use Rattle.std.proofs.Common.{◌-◌, arith, inl, inr, ◌∙◌}
-use Rattle.std.proofs.lemmas.Bool.{cases_lt}
-use Rattle.pld_base.proofs.BitLemmas.{is_on-zero}
+use Rattle.pld_order.proofs.Common.{cases_lt, is_on-zero}
 use Rattle.pld_order.proofs.Words.{on_low, on_high, on_past}
 use Rattle.pld_order.proofs.vertex_set.VertexSet.new.Goals as goal
 
