@@ -1,14 +1,6 @@
 -- A device that a source allows at each point, with the source's nodes valued there, does what the source does.
 use Rattle.std.proofs.Common.{◌≡◌, ℕ, ◌<◌, Bool, true, false, List, [], ◌∷◌, refl, sym, ◌∙◌, subst}
-use Rattle.std.proofs.lemmas.Bool.{true≢false}
-use Rattle.pld_base.specs.Bits.{bits, is_on}
-use Rattle.pld_base.specs.Points.{Levels, IsPoint}
-use Rattle.pld_base.specs.Logic.{Logic}
-use Rattle.pld_base.proofs.BitLemmas.{length-bits, is_on-zero}
-use Rattle.pld_machine.specs.Comparison.{NodeValues, IsValuedOf, SameEnables, IsShownAs, HasValuedRunsOf, AllowsOne, HasNoDontCare, DoesTheSame, RefinesValued}
-use Rattle.pld_machine.specs.Rest.{AtRest}
-use Rattle.pld_machine.specs.Steps.{RestsOnce, RunsOnce}
-use Rattle.pld_machine.specs.Through.{AllowsAt, RefinesThrough, AreSeen}
+use Rattle.pld_machine.proofs.Common.{true≢false, bits, is_on, Levels, IsPoint, Logic, length-bits, is_on-zero, NodeValues, IsValuedOf, SameEnables, IsShownAs, HasValuedRunsOf, AllowsOne, HasNoDontCare, DoesTheSame, RefinesValued, AtRest, RestsOnce, RunsOnce, AllowsAt, RefinesThrough, AreSeen}
 use Rattle.pld_machine.proofs.ThroughRuns.{run_through}
 
 -- ---- one of two values

@@ -1,6 +1,5 @@
 -- What refines another still does so with the same cells exchanged in both.
-use Rattle.pld_machine.specs.ExchangeLaws.{ExchangedRefines, ExchangedValues}
-use Rattle.pld_machine.specs.Exchanged.{exchanged_at, in_sense}
+use Rattle.pld_machine.proofs.Common.{ExchangedRefines, ExchangedValues, exchanged_at, in_sense}
 use Rattle.pld_machine.proofs.ExchangedPoints.{point_exchanged}
 
 pub exchanged_refines : ExchangedRefines

@@ -1,15 +1,6 @@
 -- Look-ups in order stay so with cells exchanged.
 use Rattle.std.proofs.Common.{◌≡◌, ℕ, Bool, true, false, ◌||◌, ◌==◌, List, [], ◌∷◌, refl, sym, ap, ◌∙◌}
-use Rattle.pld_base.specs.Bits.{same_level}
-use Rattle.pld_base.specs.Points.{Levels}
-use Rattle.pld_machine.specs.declared.logic.Slot.{Slot}
-use Rattle.pld_machine.specs.declared.logic.Slot.TheVariants.{Cell, Node}
-use Rattle.pld_machine.specs.Lookups.{Lookups, logic_of, sets_pin}
-use Rattle.pld_machine.specs.Order.{DifferOnlyIn, InRange, IsOrdered, ReadsNone}
-use Rattle.pld_machine.specs.Refines.{Refines}
-use Rattle.pld_machine.specs.Rest.{IsSettled}
-use Rattle.pld_machine.specs.ExchangeLaws.{ExchangedLookups}
-use Rattle.pld_machine.specs.Exchanged.{exchanged, exchanged_at, exchanged_lookups, exchanged_qs, in_sense}
+use Rattle.pld_machine.proofs.Common.{same_level, Levels, Slot, Cell, Node, Lookups, logic_of, sets_pin, DifferOnlyIn, InRange, IsOrdered, ReadsNone, Refines, IsSettled, ExchangedLookups, exchanged, exchanged_at, exchanged_lookups, exchanged_qs, in_sense}
 use Rattle.pld_machine.proofs.ExchangedPoints.{point_exchanged}
 
 module _ (x : ℕ → Bool) (m : Lookups) where

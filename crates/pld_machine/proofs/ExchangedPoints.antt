@@ -1,9 +1,6 @@
 -- Points whose Qs are complemented at some cells.
 use Rattle.std.proofs.Common.{◌≡◌, ℕ, zero, suc, ◌+◌, ◌<◌, Bool, true, false, List, [], ◌∷◌, length, refl, sym, ap, ap₂, ◌∙◌, arith, inl, inr}
-use Rattle.std.proofs.lemmas.Bool.{cases_Bool}
-use Rattle.pld_base.specs.Bits.{is_on}
-use Rattle.pld_base.specs.Points.{IsPoint, Levels}
-use Rattle.pld_machine.specs.Exchanged.{exchanged_at, exchanged_from, exchanged_qs, in_sense}
+use Rattle.pld_machine.proofs.Common.{cases_Bool, is_on, IsPoint, Levels, exchanged_at, exchanged_from, exchanged_qs, in_sense}
 
 pub complement_back : (b q : Bool) → in_sense b (in_sense b q) ≡ q
 complement_back true true = refl

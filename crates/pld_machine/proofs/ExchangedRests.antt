@@ -1,12 +1,6 @@
 -- A rest of an exchanged logic is one of the logic, with the Qs exchanged.
 use Rattle.std.proofs.Common.{◌≡◌, ℕ, ◌<◌, Bool, not, ◌&&◌, List, length, refl, sym, ap, ◌∙◌, subst, inl, inr}
-use Rattle.std.proofs.lemmas.Bool.{cases_Bool}
-use Rattle.pld_base.specs.Bits.{is_on}
-use Rattle.pld_base.specs.Logic.{Logic, is_register}
-use Rattle.pld_base.specs.Points.{Levels}
-use Rattle.pld_machine.specs.Rest.{AtRest, IsSettled, q_at_rest}
-use Rattle.pld_machine.specs.ExchangeLaws.{ExchangedRests, MayExchange}
-use Rattle.pld_machine.specs.Exchanged.{exchanged, exchanged_at, exchanged_qs, in_sense}
+use Rattle.pld_machine.proofs.Common.{cases_Bool, is_on, Logic, is_register, Levels, AtRest, IsSettled, q_at_rest, ExchangedRests, MayExchange, exchanged, exchanged_at, exchanged_qs, in_sense}
 use Rattle.pld_machine.proofs.ExchangedPoints.{point_back, point_exchanged, q_exchanged, complement_back}
 
 module _ (x : ℕ → Bool) (m : Logic) (may : MayExchange x m) where

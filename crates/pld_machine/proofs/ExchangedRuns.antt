@@ -1,13 +1,6 @@
 -- Steps and runs of an exchanged logic are those of the logic, with the Qs exchanged.
 use Rattle.std.proofs.Common.{◌≡◌, ℕ, ◌<◌, Bool, true, ◌==◌, List, [], ◌∷◌, length, sym, ap, ◌∙◌, subst, inl, inr}
-use Rattle.std.proofs.lemmas.Bool.{cases_Bool, MatchBool-at_true, MatchBool-at_false}
-use Rattle.pld_base.specs.Bits.{is_on}
-use Rattle.pld_base.specs.Logic.{Logic}
-use Rattle.pld_base.specs.Points.{Levels}
-use Rattle.pld_machine.specs.Rest.{AtRest}
-use Rattle.pld_machine.specs.Steps.{ClockedStep, Step, Steps, allows_q, clock_held}
-use Rattle.pld_machine.specs.ExchangeLaws.{ExchangedRuns, ExchangedSteps, MayExchange, RunFrom, all_exchanged}
-use Rattle.pld_machine.specs.Exchanged.{exchanged, exchanged_at, exchanged_qs, in_sense}
+use Rattle.pld_machine.proofs.Common.{cases_Bool, MatchBool-at_true, MatchBool-at_false, is_on, Logic, Levels, AtRest, ClockedStep, Step, Steps, allows_q, clock_held, ExchangedRuns, ExchangedSteps, MayExchange, RunFrom, all_exchanged, exchanged, exchanged_at, exchanged_qs, in_sense}
 use Rattle.pld_machine.proofs.ExchangedRests.{rest_to}
 use Rattle.pld_machine.proofs.ExchangedPoints.{length_from, q_exchanged}
 

@@ -1,17 +1,6 @@
 -- The settled point is the one at rest.
 use Rattle.std.proofs.Common.{◌≡◌, ◌≢◌, ℕ, suc, zero, ◌<◌, Bool, true, false, not, ◌&&◌, if◌then◌else◌, nat_lt, List, [], ◌∷◌, length, take, slice_get, Some, refl, ap, sym, ◌∙◌, subst, arith, inl, inr, IfSome}
-use Rattle.std.proofs.lemmas.Bool.{cases_Bool, cond-true, cond-false}
-use Rattle.pld_base.specs.Bits.{is_on, same_level}
-use Rattle.pld_base.specs.Points.{Levels, IsPoint}
-use Rattle.pld_base.specs.Logic.{is_register}
-use Rattle.pld_machine.specs.Lookups.{Lookups, sets_pin, sets_node, logic_of}
-use Rattle.pld_machine.specs.Order.{IsOrdered}
-use Rattle.pld_machine.specs.Rest.{IsSettled, q_at_rest}
-use Rattle.pld_machine.specs.Settling.{settle_slot, settle, start, settled_of}
-use Rattle.pld_machine.specs.Steps.{IsTheRest}
-use Rattle.pld_base.proofs.BitLemmas.{length-bits, is_on-zero, same_levels}
-use Rattle.pld_machine.specs.declared.logic.Slot.{Slot}
-use Rattle.pld_machine.specs.declared.logic.Slot.TheVariants.{Cell, Node}
+use Rattle.pld_machine.proofs.Common.{cases_Bool, cond-true, cond-false, is_on, same_level, Levels, IsPoint, is_register, Lookups, sets_pin, sets_node, logic_of, IsOrdered, IsSettled, q_at_rest, settle_slot, settle, start, settled_of, IsTheRest, length-bits, is_on-zero, same_levels, Slot, Cell, Node}
 use Rattle.pld_machine.proofs.Settles.{SettledAt, AllSettled, unchanged, settled_point, settles, only}
 use Rattle.pld_machine.proofs.Settled.{same_true, all_settled, settled_differ}
 use Rattle.pld_machine.proofs.Ordered.{setter_of_node, setter_of_pin, in_order, cell_slot}

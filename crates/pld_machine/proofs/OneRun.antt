@@ -1,17 +1,9 @@
 -- A logic in order has one point at rest, one result of each step, and one run.
 use Rattle.std.proofs.Common.{◌≡◌, ◌≢◌, ℕ, ◌<◌, Bool, true, false, not, ◌&&◌, ◌==◌, List, [], ◌∷◌, length, refl, ap, sym, ◌∙◌, subst, inl, inr, zero-add, length-set}
+use Rattle.pld_machine.proofs.Common.{cases_Bool, eqb-false, is_on, Levels, IsPoint, is_register, Lookups, logic_of, IsOrdered, AtRest, q_at_rest, settled_of, filled, q_at_edge, rest_of, clocked_of, between_of, step_of, steps_of, run_of, rises, clock_held, Steps, Run, power_up, IsTheRest, IsTheStep, IsTheRun, IsWide, RestsOnce, RunsOnce, IsDetermined}
 use Rattle.std.specs.List.{All}
-use Rattle.std.proofs.lemmas.Bool.{cases_Bool, eqb-false}
 use Rattle.std.proofs.lemmas.List.Elements.{All-head, All-tail}
 use Rattle.std.proofs.lemmas.List.FromFn.{length-map-range_with_len, get_or-map-range_with_len}
-use Rattle.pld_base.specs.Bits.{is_on}
-use Rattle.pld_base.specs.Points.{Levels, IsPoint}
-use Rattle.pld_base.specs.Logic.{is_register}
-use Rattle.pld_machine.specs.Lookups.{Lookups, logic_of}
-use Rattle.pld_machine.specs.Order.{IsOrdered}
-use Rattle.pld_machine.specs.Rest.{AtRest, q_at_rest}
-use Rattle.pld_machine.specs.Settling.{settled_of, filled, q_at_edge, rest_of, clocked_of, between_of, step_of, steps_of, run_of}
-use Rattle.pld_machine.specs.Steps.{rises, clock_held, Steps, Run, power_up, IsTheRest, IsTheStep, IsTheRun, IsWide, RestsOnce, RunsOnce, IsDetermined}
 use Rattle.pld_machine.proofs.OneRest.{is_the_rest, settled_is_point}
 use Rattle.pld_machine.proofs.OneStep.{one_step}
 

@@ -1,14 +1,6 @@
 -- A step of a logic with a clock has one result.
 use Rattle.std.proofs.Common.{◌≡◌, ◌≢◌, ℕ, ◌<◌, Bool, true, false, not, ◌&&◌, ◌||◌, if◌then◌else◌, List, length, refl, ap, sym, ◌∙◌, subst, inl, inr, ne_eqb}
-use Rattle.std.proofs.lemmas.Bool.{cases_Bool}
-use Rattle.pld_base.specs.Bits.{is_on, same_level}
-use Rattle.pld_base.specs.Points.{Levels}
-use Rattle.pld_base.specs.Logic.{is_register}
-use Rattle.pld_machine.specs.Lookups.{Lookups, logic_of}
-use Rattle.pld_machine.specs.Rest.{AtRest}
-use Rattle.pld_machine.specs.Settling.{q_at_edge}
-use Rattle.pld_machine.specs.Steps.{clock_held, allows_q, rises, ClockedStep, IsTheRest, IsTheStep}
-use Rattle.pld_base.proofs.BitLemmas.{same_levels}
+use Rattle.pld_machine.proofs.Common.{cases_Bool, is_on, same_level, Levels, is_register, Lookups, logic_of, AtRest, q_at_edge, clock_held, allows_q, rises, ClockedStep, IsTheRest, IsTheStep, same_levels}
 
 -- a register's new Q is the only one that is allowed, by the tests that decide it
 allowed_at : (register reset preset next q : Bool) → (if register then (if reset then not q else (if preset then q else same_level q next)) else not q) ≡ true → q ≡ (register && (not reset && (preset || next)))

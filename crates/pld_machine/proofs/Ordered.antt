@@ -1,10 +1,6 @@
 -- What the order of the slots gives.
 use Rattle.std.proofs.Common.{◌≡◌, ℕ, suc, zero, ◌+◌, ◌<◌, true, ◌==◌, List, [], ◌∷◌, drop, slice_get, Some, None, refl, ap, sym, ◌∙◌, subst, arith, inl, inr, zero-add, suc-add, add-zero, drop-drop}
-use Rattle.std.proofs.lemmas.Bool.{or_left, or_right, or_cases, true≢false, eqb-true, eq-eqb, false_from_ne_true}
-use Rattle.pld_machine.specs.declared.logic.Slot.{Slot}
-use Rattle.pld_machine.specs.declared.logic.Slot.TheVariants.{Cell, Node}
-use Rattle.pld_machine.specs.Lookups.{Lookups, sets_pin, sets_node}
-use Rattle.pld_machine.specs.Order.{ReadsNone, HasPins, HasSlots, IsOrdered}
+use Rattle.pld_machine.proofs.Common.{or_left, or_right, or_cases, true≢false, eqb-true, eq-eqb, false_from_ne_true, Slot, Cell, Node, Lookups, sets_pin, sets_node, ReadsNone, HasPins, HasSlots, IsOrdered}
 use Rattle.pld_machine.proofs.Settles.{IsFresh, InOrder}
 
 some_same : (a b : Slot) → Some a ≡ Some b → a ≡ b

@@ -1,10 +1,6 @@
 -- A device that does what a source says does what any other one says that allows the same.
 use Rattle.std.proofs.Common.{◌≡◌, ◌<◌, Bool, true, false, List, [], ◌∷◌, refl, sym, ◌∙◌, subst}
-use Rattle.pld_base.specs.Points.{Levels}
-use Rattle.pld_base.specs.Logic.{Logic}
-use Rattle.pld_machine.specs.Comparison.{NodeValues, IsValuedOf, ValuesOnce, SameValues, IsShownAs, AllowsOne, HasNoDontCare, DoesTheSame}
-use Rattle.pld_machine.specs.Refines.{Refines}
-use Rattle.pld_machine.specs.Through.{SameCells, AreSeen}
+use Rattle.pld_machine.proofs.Common.{Levels, Logic, NodeValues, IsValuedOf, ValuesOnce, SameValues, IsShownAs, AllowsOne, HasNoDontCare, DoesTheSame, Refines, SameCells, AreSeen}
 use Rattle.pld_machine.proofs.Refined.{run_refines}
 use Rattle.pld_machine.proofs.SameRuns.{same_run}
 

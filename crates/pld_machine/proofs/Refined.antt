@@ -1,12 +1,6 @@
 -- A logic that allows no more than another has only rests, steps and runs of the other: each point is seen as itself.
 use Rattle.std.proofs.Common.{◌≡◌, ℕ, ◌<◌, Bool, true, false, List, [], ◌∷◌, refl, sym, ◌∙◌, subst}
-use Rattle.pld_base.specs.Bits.{is_on}
-use Rattle.pld_base.specs.Points.{Levels, IsPoint}
-use Rattle.pld_base.specs.Logic.{Logic}
-use Rattle.pld_machine.specs.Rest.{AtRest}
-use Rattle.pld_machine.specs.Steps.{Step, Run}
-use Rattle.pld_machine.specs.Through.{AllowsAt, IsSeenBy, RefinesThrough, AreSeen}
-use Rattle.pld_machine.specs.Refines.{Refines}
+use Rattle.pld_machine.proofs.Common.{is_on, Levels, IsPoint, Logic, AtRest, Step, Run, AllowsAt, IsSeenBy, RefinesThrough, AreSeen, Refines}
 use Rattle.pld_machine.proofs.ThroughRuns.{rest_through, step_through, step_sees, run_through}
 
 -- the point itself, with nodes that the logic allows

@@ -1,8 +1,6 @@
 -- Two logics that allow no more than each other rest and run the same, so where one has exactly one rest or
 -- run the other has it too.
-use Rattle.pld_base.specs.Logic.{Logic}
-use Rattle.pld_machine.specs.Refines.{Refines}
-use Rattle.pld_machine.specs.Steps.{RestsOnce, RunsOnce}
+use Rattle.pld_machine.proofs.Common.{Logic, Refines, RestsOnce, RunsOnce}
 use Rattle.pld_machine.proofs.Refined.{rest_refines, run_refines}
 
 module _ (d s : Logic) (down : Refines d s) (up : Refines s d) where

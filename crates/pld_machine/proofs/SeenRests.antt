@@ -1,12 +1,6 @@
 -- A point at rest of a logic, seen as a point where another allows no less, is at rest there.
 use Rattle.std.proofs.Common.{◌≡◌, ◌⊎◌, ℕ, ◌<◌, Bool, true, false, not, if◌then◌else◌, nat_lt, List, refl, ap, sym, ◌∙◌, subst, inl, inr, ltb-true}
-use Rattle.std.proofs.lemmas.Bool.{cases_Bool, and_parts}
-use Rattle.pld_base.specs.Bits.{is_on}
-use Rattle.pld_base.specs.Points.{Levels}
-use Rattle.pld_base.specs.Logic.{Logic, is_register}
-use Rattle.pld_machine.specs.Rest.{IsSettled, AtRest, q_at_rest}
-use Rattle.pld_machine.specs.Steps.{allows_q}
-use Rattle.pld_machine.specs.Through.{SameCells, AllowsAt, IsSeenBy}
+use Rattle.pld_machine.proofs.Common.{cases_Bool, and_parts, is_on, Levels, Logic, is_register, IsSettled, AtRest, q_at_rest, allows_q, SameCells, AllowsAt, IsSeenBy}
 
 -- the value after an edge, where more data are allowed
 clocked : (reset preset a b q : Bool) → (a ≡ true → b ≡ true) → (if reset then not q else (if preset then q else a)) ≡ true → (if reset then not q else (if preset then q else b)) ≡ true

@@ -1,14 +1,7 @@
 -- What holds at every settled point: each slot has its value, and what no slot sets is as outside.
 use Rattle.std.proofs.Common.{◌≡◌, ◌≢◌, ℕ, ◌+◌, ◌<◌, ◌≤◌, Bool, true, false, not, List, [], ◌∷◌, drop, slice_get, Some, refl, ap, sym, ◌∙◌, subst, inl, inr}
-use Rattle.std.proofs.lemmas.Bool.{cases_Bool, cases_lt, true≢false, cond-true, cond-false}
+use Rattle.pld_machine.proofs.Common.{cases_Bool, cases_lt, true≢false, cond-true, cond-false, is_on, same_level, Levels, IsPoint, IsSettled, Lookups, sets_pin, sets_node, logic_of, DifferOnlyIn, HasPins, HasSlots, Slot, Cell, Node}
 use Rattle.std.proofs.lemmas.List.{get_or_past}
-use Rattle.pld_base.specs.Bits.{is_on, same_level}
-use Rattle.pld_base.specs.Points.{Levels, IsPoint}
-use Rattle.pld_machine.specs.Rest.{IsSettled}
-use Rattle.pld_machine.specs.Lookups.{Lookups, sets_pin, sets_node, logic_of}
-use Rattle.pld_machine.specs.Order.{DifferOnlyIn, HasPins, HasSlots}
-use Rattle.pld_machine.specs.declared.logic.Slot.{Slot}
-use Rattle.pld_machine.specs.declared.logic.Slot.TheVariants.{Cell, Node}
 use Rattle.pld_machine.proofs.Settles.{SettledAt, AllSettled}
 use Rattle.pld_machine.proofs.Ordered.{node_set, pin_set, at_drop, next_drop, cell_slot}
 

@@ -1,13 +1,6 @@
 -- Slots that are settled one after another leave a point where each has its value, and the only one.
 use Rattle.std.proofs.Common.{◌≡◌, ◌≢◌, ◌⊎◌, ℕ, ◌<◌, Bool, true, false, ◌||◌, ◌==◌, if◌then◌else◌, List, [], ◌∷◌, length, refl, ap, sym, ◌∙◌, subst, inl, inr, length-set, get_or-set_same, get_or-set_other}
-use Rattle.std.proofs.lemmas.Bool.{cases_Bool, or_parts, cond-true, cond-false, true≢false, eqb-false, eqb-true, eq-eqb}
-use Rattle.pld_base.specs.Bits.{is_on}
-use Rattle.pld_base.specs.Points.{Levels, IsPoint}
-use Rattle.pld_machine.specs.Lookups.{Lookups, sets_pin, sets_node}
-use Rattle.pld_machine.specs.Order.{DifferOnlyIn, SameAt, ReadsNone}
-use Rattle.pld_machine.specs.Settling.{with_pin, settle_slot, settle}
-use Rattle.pld_machine.specs.declared.logic.Slot.{Slot}
-use Rattle.pld_machine.specs.declared.logic.Slot.TheVariants.{Cell, Node}
+use Rattle.pld_machine.proofs.Common.{cases_Bool, or_parts, cond-true, cond-false, true≢false, eqb-false, eqb-true, eq-eqb, is_on, Levels, IsPoint, Lookups, sets_pin, sets_node, DifferOnlyIn, SameAt, ReadsNone, with_pin, settle_slot, settle, Slot, Cell, Node}
 
 -- the slot's place is not that of one of these
 abbrev pub IsFresh : Lookups → Slot → List Slot → Type 0

@@ -1,10 +1,6 @@
 -- The tests' shift register is a logic in order.
 use Rattle.std.proofs.Common.{◌≡◌, ℕ, suc, zero, ◌+◌, ◌<◌, true, not, drop, slice_get, Some, None, refl, ap, sym, ◌∙◌, subst, arith}
-use Rattle.pld_base.specs.Bits.{is_on}
-use Rattle.pld_machine.specs.declared.logic.Slot.{Slot}
-use Rattle.pld_machine.specs.declared.logic.Slot.TheVariants.{Cell, Node}
-use Rattle.pld_machine.specs.Lookups.{sets_pin}
-use Rattle.pld_machine.specs.Order.{InRange, ReadsNone, HasPins, HasSlots, ReadsEarlier, ResetsWithoutQ, IsOrdered}
+use Rattle.pld_machine.proofs.Common.{is_on, Slot, Cell, Node, sets_pin, InRange, ReadsNone, HasPins, HasSlots, ReadsEarlier, ResetsWithoutQ, IsOrdered}
 use Rattle.pld_machine.specs.Shifter.{shifter, shifter_slots}
 
 -- what holds of the four slots holds of each that is found

@@ -1,11 +1,6 @@
 -- The pins that are shown as driven, cell by cell.
 use Rattle.std.proofs.Common.{◌≡◌, ◌≢◌, ℕ, ◌+◌, ◌<◌, Bool, false, List, length, set, sym, ◌∙◌, subst, arith, inl, inr, get_or-set_same, get_or-set_other}
-use Rattle.std.proofs.lemmas.Bool.{cases_eq}
-use Rattle.pld_base.specs.Bits.{bits, is_on}
-use Rattle.pld_base.specs.Points.{Levels}
-use Rattle.pld_machine.specs.Lookups.{Lookups}
-use Rattle.pld_machine.specs.Order.{HasPins}
-use Rattle.pld_base.proofs.BitLemmas.{is_on-zero}
+use Rattle.pld_machine.proofs.Common.{cases_eq, bits, is_on, Levels, Lookups, HasPins, is_on-zero}
 
 -- the pins of the cells below i show whether these are enabled, and the others show nothing
 pub record ShownBelow (m : Lookups) (at : Levels) (driven : List Bool) (i : ℕ) : Type 0 where

@@ -1,13 +1,7 @@
 -- A logic that allows no more than another at the points that are seen in place of its own has only runs that are
 -- seen as runs of the other.
 use Rattle.std.proofs.Common.{◌≡◌, Bool, not, ◌&&◌, ◌==◌, List, [], ◌∷◌, ap, sym, ◌∙◌, subst, inl, inr, set}
-use Rattle.std.proofs.lemmas.Bool.{cases_Bool, MatchBool-at_true, MatchBool-at_false}
-use Rattle.pld_base.specs.Bits.{is_on}
-use Rattle.pld_base.specs.Points.{Levels}
-use Rattle.pld_base.specs.Logic.{Logic}
-use Rattle.pld_machine.specs.Rest.{AtRest}
-use Rattle.pld_machine.specs.Steps.{rises, clock_held, ClockedStep, Step, Steps, Run, power_up}
-use Rattle.pld_machine.specs.Through.{RefinesThrough, AreSeen}
+use Rattle.pld_machine.proofs.Common.{cases_Bool, MatchBool-at_true, MatchBool-at_false, is_on, Levels, Logic, AtRest, rises, clock_held, ClockedStep, Step, Steps, Run, power_up, RefinesThrough, AreSeen}
 use Rattle.pld_machine.proofs.SeenRests.{same_q, rest_seen}
 
 module _ (d s : Logic) (Sees : Levels → Levels → Type 0) (r : RefinesThrough d s Sees) where

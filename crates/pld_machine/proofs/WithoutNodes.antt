@@ -1,14 +1,6 @@
 -- Where neither logic has nodes, a point with its nodes valued is the point itself.
 use Rattle.std.proofs.Common.{◌≡◌, ◌<◌, Bool, List, [], ◌∷◌, refl, sym, ◌∙◌, subst, inl, inr, ◌==◌}
-use Rattle.std.proofs.lemmas.Bool.{cases_Bool, MatchBool-at_true, MatchBool-at_false}
-use Rattle.pld_base.specs.Points.{Levels}
-use Rattle.pld_base.specs.Logic.{Logic}
-use Rattle.pld_base.proofs.BitLemmas.{same_levels}
-use Rattle.pld_machine.specs.Comparison.{NodeValues, HasNoNodes, IsShownAs, DoesTheSame}
-use Rattle.pld_machine.specs.Refines.{HasRunsOf}
-use Rattle.pld_machine.specs.Rest.{AtRest}
-use Rattle.pld_machine.specs.Steps.{ClockedStep, Step, Steps, Run, power_up}
-use Rattle.pld_machine.specs.Through.{AreSeen}
+use Rattle.pld_machine.proofs.Common.{cases_Bool, MatchBool-at_true, MatchBool-at_false, Levels, Logic, same_levels, NodeValues, HasNoNodes, IsShownAs, DoesTheSame, HasRunsOf, AtRest, ClockedStep, Step, Steps, Run, power_up, AreSeen}
 use Rattle.pld_machine.proofs.OneRest.{levels_equal}
 
 module _ (d s : Logic) (values : NodeValues) (d_plain : HasNoNodes d) (s_plain : HasNoNodes s) where

@@ -1,14 +1,6 @@
 -- Resets that read only unset pins, and slots that do so in turn, depend on no Q.
 use Rattle.std.proofs.Common.{◌≡◌, ℕ, suc, zero, ◌<◌, Bool, true, false, List, length, slice_get, Some, sym, ◌∙◌, subst, arith, inl, inr}
-use Rattle.std.proofs.lemmas.Bool.{cases_lt}
-use Rattle.pld_base.specs.Bits.{is_on}
-use Rattle.pld_base.specs.Points.{Levels, IsPoint}
-use Rattle.pld_base.specs.Logic.{is_register}
-use Rattle.pld_machine.specs.Rest.{IsSettled}
-use Rattle.pld_machine.specs.declared.logic.Slot.{Slot}
-use Rattle.pld_machine.specs.declared.logic.Slot.TheVariants.{Cell, Node}
-use Rattle.pld_machine.specs.Lookups.{Lookups, sets_pin, sets_node, logic_of}
-use Rattle.pld_machine.specs.Order.{SameAt, HasPins, HasSlots, ResetsWithoutQ}
+use Rattle.pld_machine.proofs.Common.{cases_lt, is_on, Levels, IsPoint, is_register, IsSettled, Slot, Cell, Node, Lookups, sets_pin, sets_node, logic_of, SameAt, HasPins, HasSlots, ResetsWithoutQ}
 use Rattle.pld_machine.proofs.Settles.{SettledAt, same_value}
 use Rattle.pld_machine.proofs.Settled.{slot_settled, unset_pins, unset_nodes}
 

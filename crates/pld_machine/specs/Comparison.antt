@@ -1,9 +1,7 @@
 -- What it is for a device to do what a source says: a logic without nodes against one that may have nodes and
 -- don't-cares (the main statement of any compiler of sources for devices).
 use Rattle.std.specs.Prelude.{◌≡◌, ◌≢◌, ℕ, ◌<◌, Bool, true, false, List}
-use Rattle.pld_base.specs.Bits.{is_on}
-use Rattle.pld_base.specs.Points.{Levels, IsPoint}
-use Rattle.pld_base.specs.Logic.{Logic}
+use Rattle.pld_machine.specs.Prelude.{is_on, Levels, IsPoint, Logic}
 use Rattle.pld_machine.specs.Steps.{Run, RestsOnce, RunsOnce}
 use Rattle.pld_machine.specs.Through.{SameCells, AllowsAt, AreSeen}
 

@@ -1,8 +1,7 @@
 -- What a logic some of whose registers store the complement is to the logic itself (this project's rule; laws.rt states
 -- the laws).
 use Rattle.std.specs.Prelude.{◌≡◌, ℕ, Bool, true, false, List, [], ◌∷◌, length}
-use Rattle.pld_base.specs.Points.{Levels}
-use Rattle.pld_base.specs.Logic.{Logic, is_register}
+use Rattle.pld_machine.specs.Prelude.{Levels, Logic, is_register}
 use Rattle.pld_machine.specs.Lookups.{Lookups, logic_of}
 use Rattle.pld_machine.specs.Order.{IsOrdered}
 use Rattle.pld_machine.specs.Refines.{Refines}

@@ -1,7 +1,6 @@
 -- Logics some of whose registers store the complement of what they stand for (this project's rule).
 use Rattle.std.specs.Prelude.{ℕ, suc, Bool, true, false, not, List, [], ◌∷◌}
-use Rattle.pld_base.specs.Points.{Levels}
-use Rattle.pld_base.specs.Logic.{Logic}
+use Rattle.pld_machine.specs.Prelude.{Levels, Logic}
 use Rattle.pld_machine.specs.Comparison.{NodeValues}
 use Rattle.pld_machine.specs.Lookups.{Lookups}
 

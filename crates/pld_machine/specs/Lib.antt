@@ -1,8 +1,9 @@
 pub mod Comparison
-pub mod Exchanged
 pub mod ExchangeLaws
+pub mod Exchanged
 pub mod Lookups
 pub mod Order
+pub mod Prelude
 pub mod Refines
 pub mod Rest
 pub mod Settling

@@ -1,8 +1,6 @@
 -- What the trait `Logic` answers: a logic that allows one value of each (this project's rule).
 use Rattle.std.specs.Prelude.{ℕ, Bool, false, ◌||◌, ◌==◌, List, [], ◌∷◌}
-use Rattle.pld_base.specs.Bits.{same_level}
-use Rattle.pld_base.specs.Points.{Levels}
-use Rattle.pld_base.specs.Logic.{Logic}
+use Rattle.pld_machine.specs.Prelude.{same_level, Levels, Logic}
 use Rattle.pld_machine.specs.declared.logic.Slot.{Slot}
 use Rattle.pld_machine.specs.declared.logic.Slot.TheVariants.{Cell, Node}
 

@@ -1,8 +1,6 @@
 -- The condition under which a logic can be settled slot by slot (this project's rule).
 use Rattle.std.specs.Prelude.{◌≡◌, ℕ, ◌<◌, ◌≤◌, ◌≢◌, Bool, true, false, List, drop, slice_get, Some}
-use Rattle.pld_base.specs.Bits.{is_on}
-use Rattle.pld_base.specs.Points.{Levels, IsPoint}
-use Rattle.pld_base.specs.Logic.{is_register}
+use Rattle.pld_machine.specs.Prelude.{is_on, Levels, IsPoint, is_register}
 use Rattle.pld_machine.specs.declared.logic.Slot.{Slot}
 use Rattle.pld_machine.specs.declared.logic.Slot.TheVariants.{Cell, Node}
 use Rattle.pld_machine.specs.Rest.{IsSettled}

@@ -1,7 +1,6 @@
 -- A logic that allows no more than another (this project's rule).
 use Rattle.std.specs.Prelude.{◌≡◌, ℕ, ◌<◌, Bool, true, List}
-use Rattle.pld_base.specs.Points.{Levels, IsPoint}
-use Rattle.pld_base.specs.Logic.{Logic}
+use Rattle.pld_machine.specs.Prelude.{Levels, IsPoint, Logic}
 use Rattle.pld_machine.specs.Rest.{AtRest}
 use Rattle.pld_machine.specs.Steps.{Step, Run}
 use Rattle.pld_machine.specs.Through.{SameCells, AllowsAt}

@@ -1,8 +1,6 @@
 -- Points at rest: levels, Qs and values that agree with what a logic asks there (this project's rule).
 use Rattle.std.specs.Prelude.{◌≡◌, ◌≢◌, ℕ, ◌<◌, Bool, true, false, not, ◌&&◌, List}
-use Rattle.pld_base.specs.Bits.{is_on}
-use Rattle.pld_base.specs.Points.{Levels, IsPoint}
-use Rattle.pld_base.specs.Logic.{Logic, is_register}
+use Rattle.pld_machine.specs.Prelude.{is_on, Levels, IsPoint, Logic, is_register}
 
 -- an enabled cell's pin has an allowed level, every other pin its outside level, a node an allowed
 -- value, and an entry that belongs to no node is 0

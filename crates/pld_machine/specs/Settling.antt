@@ -1,12 +1,9 @@
 -- How the one point at rest is computed, one slot after another. These are private helpers: no public
 -- clause cites them.
 use Rattle.std.specs.Prelude.{ℕ, Bool, not, ◌&&◌, ◌||◌, nat_lt, if◌then◌else◌, List, [], ◌∷◌, set, map, ◌==◌}
-use Rattle.std.specs.List.{range_with_len}
-use Rattle.pld_base.specs.Bits.{bits}
-use Rattle.pld_base.specs.Points.{Levels}
+use Rattle.pld_machine.specs.Prelude.{range_with_len, bits, Levels, Logic}
 use Rattle.pld_machine.specs.declared.logic.Slot.{Slot}
 use Rattle.pld_machine.specs.declared.logic.Slot.TheVariants.{Cell, Node}
-use Rattle.pld_base.specs.Logic.{Logic}
 use Rattle.pld_machine.specs.Lookups.{Lookups, logic_of}
 use Rattle.pld_machine.specs.Rest.{q_at_rest}
 use Rattle.pld_machine.specs.Steps.{IsTheRest, rises, clock_held, power_up}

@@ -1,6 +1,6 @@
 -- A shift register of two cells with a pin that may be released and a node: the logic that the tests run.
 use Rattle.std.specs.Prelude.{◌+◌, true, false, not, ◌&&◌, ◌==◌, if◌then◌else◌, List, [], ◌∷◌}
-use Rattle.pld_base.specs.Bits.{is_on}
+use Rattle.pld_machine.specs.Prelude.{is_on}
 use Rattle.pld_machine.specs.declared.logic.Slot.{Slot}
 use Rattle.pld_machine.specs.declared.logic.Slot.TheVariants.{Cell, Node}
 use Rattle.pld_machine.specs.Lookups.{Lookups}

@@ -1,8 +1,6 @@
 -- What a point shows: each cell's pin as driven with its level, or released (this project's rule).
 use Rattle.std.specs.Prelude.{◌≡◌, ◌≢◌, ℕ, ◌<◌, Bool, false, ◌&&◌, List}
-use Rattle.pld_base.specs.Bits.{is_on}
-use Rattle.pld_base.specs.Points.{Levels}
-use Rattle.pld_base.specs.Logic.{Logic}
+use Rattle.pld_machine.specs.Prelude.{is_on, Levels, Logic}
 
 -- a cell's pin is driven where the cell is enabled, no other pin is, and a level is shown at driven
 -- pins alone

@@ -2,10 +2,7 @@
 -- edge comes after all other pins have changed, so that data see the clock's old level); and what it is for a logic to have
 -- exactly one point at rest, one step and one run.
 use Rattle.std.specs.Prelude.{◌≡◌, ℕ, ◌<◌, Bool, true, false, not, ◌&&◌, ◌==◌, if◌then◌else◌, List, [], ◌∷◌, length, set, replicate, MatchBool, ◌≢◌}
-use Rattle.std.specs.List.{All}
-use Rattle.pld_base.specs.Bits.{is_on}
-use Rattle.pld_base.specs.Points.{Levels}
-use Rattle.pld_base.specs.Logic.{Logic, is_register}
+use Rattle.pld_machine.specs.Prelude.{All, is_on, Levels, Logic, is_register}
 use Rattle.pld_machine.specs.Rest.{AtRest}
 
 -- the clock goes from 0 to 1

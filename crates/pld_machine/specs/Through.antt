@@ -1,9 +1,7 @@
 -- A logic that allows no more than another does at the points that are seen in place of its own (this project's
 -- rule).
 use Rattle.std.specs.Prelude.{◌≡◌, ℕ, ◌<◌, Bool, true, false, List, [], ◌∷◌}
-use Rattle.pld_base.specs.Bits.{is_on}
-use Rattle.pld_base.specs.Points.{Levels, IsPoint}
-use Rattle.pld_base.specs.Logic.{Logic}
+use Rattle.pld_machine.specs.Prelude.{is_on, Levels, IsPoint, Logic}
 use Rattle.pld_machine.specs.Rest.{AtRest}
 
 -- as many cells, with the same pins, the same of them registers, and the same clock

@@ -1,9 +1,8 @@
 //! Laws of all logics, as the contracts of calls that do nothing.
 
-ghost use Rattle.pld_base.specs.Logic.{Logic};
+ghost use Rattle.pld_machine.specs.Prelude.{Logic};
 ghost use Rattle.pld_machine.specs.Comparison.{DoesTheSame, RefinesValued, NodeValues, HasNoNodes, SameValues};
-ghost use Rattle.pld_machine.specs.ExchangeLaws.{ExchangedLookups, ExchangedRefines, ExchangedValues};
-ghost use Rattle.pld_machine.specs.ExchangeLaws.{ExchangedRests, ExchangedRuns, ExchangedSteps};
+ghost use Rattle.pld_machine.specs.ExchangeLaws.{ExchangedLookups, ExchangedRefines, ExchangedValues, ExchangedRests, ExchangedRuns, ExchangedSteps};
 ghost use Rattle.pld_machine.specs.Lookups.{Lookups, logic_of};
 ghost use Rattle.pld_machine.specs.Order.{IsOrdered};
 ghost use Rattle.pld_machine.specs.Refines.{Refines, HasRestsOf, HasStepsOf, HasRunsOf};

@@ -1,7 +1,7 @@
 //! A logic by its look-ups at a point.
 
 ghost use Rattle.std.specs.Prelude.{◌≡◌, ◌<◌, length, slice_get, Some, IsTrue};
-ghost use Rattle.pld_base.specs.Points.{levels_of};
+ghost use Rattle.pld_machine.specs.Prelude.{levels_of};
 ghost use Rattle.pld_machine.specs.Lookups.{Lookups, sets_node};
 
 use pld_base::Point;

@@ -1,8 +1,7 @@
 //! The one point at rest.
 
 ghost use Rattle.std.specs.Prelude.{◌≡◌, ◌<◌, ℕ};
-ghost use Rattle.pld_base.specs.Bits.{bits, is_on};
-ghost use Rattle.pld_base.specs.Points.{levels_of};
+ghost use Rattle.pld_machine.specs.Prelude.{bits, is_on, levels_of};
 ghost use Rattle.pld_machine.specs.Lookups.{logic_of};
 ghost use Rattle.pld_machine.specs.Order.{HasPins, IsOrdered};
 ghost use Rattle.pld_machine.specs.Rest.{q_at_rest};

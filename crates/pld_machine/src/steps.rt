@@ -1,8 +1,7 @@
 //! The one point after a step.
 
 ghost use Rattle.std.specs.Prelude.{◌≢◌, true, false, ◌≡◌, ◌<◌, ℕ};
-ghost use Rattle.pld_base.specs.Bits.{bits, is_on};
-ghost use Rattle.pld_base.specs.Points.{levels_of};
+ghost use Rattle.pld_machine.specs.Prelude.{bits, is_on, levels_of};
 ghost use Rattle.pld_machine.specs.Lookups.{logic_of};
 ghost use Rattle.pld_machine.specs.Order.{HasPins, IsOrdered};
 ghost use Rattle.pld_machine.specs.Settling.{RestsFor, q_at_edge};

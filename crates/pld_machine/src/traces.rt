@@ -1,7 +1,6 @@
 //! What a point shows.
 
-ghost use Rattle.pld_base.specs.Bits.{bits};
-ghost use Rattle.pld_base.specs.Points.{levels_of};
+ghost use Rattle.pld_machine.specs.Prelude.{bits, levels_of};
 ghost use Rattle.pld_machine.specs.Shows.{Shows};
 ghost use Rattle.pld_machine.specs.Lookups.{logic_of};
 ghost use Rattle.pld_machine.specs.Order.{HasPins};

@@ -1,8 +1,5 @@
 use Rattle.std.proofs.Common.{ap, ◌∙◌}
-use Rattle.pld_base.specs.Bits.{bits}
-use Rattle.pld_machine.specs.Rest.{q_at_rest}
-use Rattle.pld_machine.specs.Lookups.{logic_of}
-use Rattle.pld_base.proofs.BitLemmas.{length-bits}
+use Rattle.pld_machine.proofs.Common.{bits, q_at_rest, logic_of, length-bits}
 use Rattle.pld_machine.proofs.OneRest.{is_the_rest}
 use Rattle.pld_machine.proofs.rests.rest.Goals as goal
 

@@ -1,9 +1,5 @@
 use Rattle.std.proofs.Common.{◌<◌, arith}
-use Rattle.pld_base.specs.Bits.{bits}
-use Rattle.pld_base.specs.Points.{levels_of}
-use Rattle.pld_machine.specs.Rest.{q_at_rest}
-use Rattle.pld_machine.specs.Lookups.{logic_of}
-use Rattle.pld_base.proofs.BitLemmas.{length-bits}
+use Rattle.pld_machine.proofs.Common.{bits, levels_of, q_at_rest, logic_of, length-bits}
 use Rattle.pld_machine.proofs.Fills.{filled_none, filled_more}
 use Rattle.pld_machine.proofs.rests.resting_q.Goals as goal
 

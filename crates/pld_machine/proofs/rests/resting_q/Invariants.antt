@@ -1,7 +1,4 @@
-use Rattle.pld_base.specs.Bits.{bits}
-use Rattle.pld_base.specs.Points.{levels_of}
-use Rattle.pld_machine.specs.Rest.{q_at_rest}
-use Rattle.pld_machine.specs.Lookups.{logic_of}
+use Rattle.pld_machine.proofs.Common.{bits, levels_of, q_at_rest, logic_of}
 use Rattle.pld_machine.proofs.Fills.{FilledBelow}
 use Rattle.pld_machine.proofs.rests.resting_q.Given as goal
 

@@ -1,4 +1,4 @@
-use Rattle.pld_machine.specs.declared.logic.Slot.TheVariants.{Cell, Node}
+use Rattle.pld_machine.proofs.Common.{Cell, Node}
 use Rattle.pld_machine.proofs.Ordered.{node_set}
 use Rattle.pld_machine.proofs.settling.settle_at.Goals as goal
 

@@ -1,7 +1,5 @@
 use Rattle.std.proofs.Common.{◌≡◌, take}
-use Rattle.pld_base.specs.Bits.{bits}
-use Rattle.pld_base.specs.Points.{levels_of}
-use Rattle.pld_machine.specs.Settling.{settle, start}
+use Rattle.pld_machine.proofs.Common.{bits, levels_of, settle, start}
 use Rattle.pld_machine.proofs.settling.settled.Given as goal
 
 abbrev pub invariant-loop-index : goal.invariant-loop-index

@@ -1,9 +1,5 @@
 use Rattle.std.proofs.Common.{◌≡◌, not, ◌&&◌, set, subst, sym, ◌∙◌}
-use Rattle.pld_base.specs.Bits.{bits, is_on}
-use Rattle.pld_base.specs.Points.{levels_of}
-use Rattle.pld_machine.specs.Lookups.{logic_of}
-use Rattle.pld_machine.specs.Steps.{rises, IsTheRest}
-use Rattle.pld_base.proofs.BitLemmas.{length-bits}
+use Rattle.pld_machine.proofs.Common.{bits, is_on, levels_of, logic_of, rises, IsTheRest, length-bits}
 use Rattle.pld_machine.proofs.OneStep.{one_step}
 use Rattle.pld_machine.proofs.steps.clocked_step.Goals as goal
 

@@ -1,8 +1,5 @@
 use Rattle.std.proofs.Common.{◌<◌, arith}
-use Rattle.pld_base.specs.Bits.{bits}
-use Rattle.pld_base.specs.Points.{levels_of}
-use Rattle.pld_machine.specs.Settling.{q_at_edge}
-use Rattle.pld_base.proofs.BitLemmas.{length-bits}
+use Rattle.pld_machine.proofs.Common.{bits, levels_of, q_at_edge, length-bits}
 use Rattle.pld_machine.proofs.Fills.{filled_none, filled_more}
 use Rattle.pld_machine.proofs.steps.edge_q.Goals as goal
 

@@ -1,6 +1,4 @@
-use Rattle.pld_base.specs.Bits.{bits}
-use Rattle.pld_base.specs.Points.{levels_of}
-use Rattle.pld_machine.specs.Settling.{q_at_edge}
+use Rattle.pld_machine.proofs.Common.{bits, levels_of, q_at_edge}
 use Rattle.pld_machine.proofs.Fills.{FilledBelow}
 use Rattle.pld_machine.proofs.steps.edge_q.Given as goal
 

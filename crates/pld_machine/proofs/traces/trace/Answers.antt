@@ -1,7 +1,5 @@
 use Rattle.std.proofs.Common.{◌≡◌, ◌<◌, sym, subst, arith}
-use Rattle.pld_base.specs.Bits.{bits}
-use Rattle.pld_base.specs.Points.{levels_of}
-use Rattle.pld_base.proofs.BitLemmas.{length-bits, is_on-and}
+use Rattle.pld_machine.proofs.Common.{bits, levels_of, length-bits, is_on-and}
 use Rattle.pld_machine.proofs.Shown.{shown_none, shown_more}
 use Rattle.pld_machine.proofs.traces.trace.Goals as goal
 

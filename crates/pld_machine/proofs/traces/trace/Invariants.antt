@@ -1,5 +1,4 @@
-use Rattle.pld_base.specs.Bits.{bits}
-use Rattle.pld_base.specs.Points.{levels_of}
+use Rattle.pld_machine.proofs.Common.{bits, levels_of}
 use Rattle.pld_machine.proofs.Shown.{ShownBelow}
 use Rattle.pld_machine.proofs.traces.trace.Given as goal
 
