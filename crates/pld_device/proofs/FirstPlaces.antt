@@ -1,10 +1,7 @@
 -- The first place from the front, and whether there is one.
-use Rattle.std.proofs.Common.{◌≡◌, ℕ, ◌+◌, ◌<◌, ◌≤◌, Bool, true, false, ◌||◌, cond, List, length, get_or, drop, Some, None, sym, ap, ◌∙◌, add-one}
-use Rattle.std.specs.Prelude.{position}
-use Rattle.std.specs.List.{list_any, position_from}
-use Rattle.std.proofs.Math.Seq.{drop-cons}
+use Rattle.std.proofs.Common.{◌≡◌, ℕ, ◌+◌, ◌<◌, ◌≤◌, Bool, true, false, ◌||◌, cond, List, length, get_or, drop, Some, None, sym, ap, ◌∙◌, add-one, position}
+use Rattle.pld_device.proofs.Common.{list_any, position_from, drop-cons, drop_all}
 use Rattle.std.proofs.lemmas.Iterator.Adapters.{position_from-zero}
-use Rattle.std.proofs.lemmas.List.{drop_all}
 
 module _ {X : Type 0} (p : X → Bool) (y : X) (xs : List X) where
   pub place_first : position p xs ≡ position_from p 0 (drop 0 xs)

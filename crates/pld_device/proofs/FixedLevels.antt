@@ -1,13 +1,6 @@
 -- The first fuse that hasn't its fixed level, one level of the list more at a time.
 use Rattle.std.proofs.Common.{◌≡◌, ◌↔◌, ℕ, zero, suc, ◌<◌, ◌≤◌, Bool, true, false, cond, Option, Some, None, List, [], ◌∷◌, length, drop, slice_get, All, refl, sym, ap, subst, ◌∙◌, arith}
-use Rattle.std.proofs.Math.Seq.{drop-nil}
-use Rattle.std.proofs.lemmas.List.Elements.{All-cons, All-nil}
-use Rattle.pld_base.specs.Bits.{is_on, same_level}
-use Rattle.pld_device.specs.declared.fuse_bit.FuseBit.{FuseBit}
-use Rattle.pld_device.specs.FixedFuses.{HasFixedLevels, wrong_fixed}
-use Rattle.pld_device.specs.Laws.{IsDevice, IsFixed, fuse_if_any}
-use Rattle.pld_device.specs.Registers.{says}
-use Rattle.pld_device.specs.Table.{Table}
+use Rattle.pld_device.proofs.Common.{drop-nil, All-cons, All-nil, is_on, same_level, FuseBit, HasFixedLevels, wrong_fixed, IsDevice, IsFixed, fuse_if_any, says, Table}
 
 module _ (fuses : List Bool) where
   -- the fuses have the level

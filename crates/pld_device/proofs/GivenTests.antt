@@ -1,12 +1,6 @@
 -- That a row reads given values alone, by computation over its fuses.
 use Rattle.std.proofs.Common.{◌≡◌, ℕ, zero, suc, ◌+◌, ◌<◌, ◌≤◌, Bool, true, false, not, ◌&&◌, ◌||◌, List, [], ◌∷◌, Some, slice_get, sym, subst, arith, inl, inr}
-use Rattle.std.specs.List.{list_all, range_with_len}
-use Rattle.std.proofs.lemmas.Bool.{cases_eq, and_parts, true≢false}
-use Rattle.pld_base.specs.Bits.{is_on}
-use Rattle.pld_device.specs.declared.carry.Carry.{Carry}
-use Rattle.pld_device.specs.Table.{Table}
-use Rattle.pld_device.specs.Rows.{row_fuses}
-use Rattle.pld_device.specs.Reads.{connected_pairs, is_never_true}
+use Rattle.pld_device.proofs.Common.{list_all, range_with_len, cases_eq, and_parts, true≢false, is_on, Carry, Table, row_fuses, connected_pairs, is_never_true}
 use Rattle.pld_device.specs.Given.{is_given, ReadsGiven}
 
 -- a test that each number of a run passes

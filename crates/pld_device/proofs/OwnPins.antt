@@ -1,12 +1,7 @@
 -- Each cell of a device has a pin of its own, and no two of its pairs stand for one pin.
 use Rattle.std.proofs.Common.{◌≡◌, ℕ, zero, suc, ◌<◌, List, [], ◌∷◌, length, map, get_or, slice_get, Some, refl, ap, sym, ◌∙◌, arith, inl, inr}
-use Rattle.std.proofs.lemmas.Bool.{cases_lt}
-use Rattle.pld_device.specs.declared.carry.Carry.{Carry}
+use Rattle.pld_device.proofs.Common.{cases_lt, Carry, Table, cell_at, no_cell, HasOwnPins, PairsApart, pin_carried, HasPairs, IsPair, IsDevice}
 use Rattle.pld_device.specs.declared.carry.Carry.TheVariants as carry
-use Rattle.pld_device.specs.Table.{Table, cell_at, no_cell}
-use Rattle.pld_device.specs.Pins.{HasOwnPins, PairsApart, pin_carried}
-use Rattle.pld_device.specs.RowLaws.{HasPairs}
-use Rattle.pld_device.specs.Laws.{IsPair, IsDevice}
 use Rattle.pld_device.specs.SampleTable.{twice_carried}
 
 -- a relation of earlier and later places that never holds holds of no two places

@@ -1,12 +1,7 @@
 -- A row has the same value at points where each pair that it reads has the same value.
 use Rattle.std.proofs.Common.{◌≡◌, ℕ, suc, ◌+◌, ◌*◌, ◌-◌, ◌≤◌, Bool, true, false, not, ◌&&◌, ◌||◌, List, [], ◌∷◌, length, drop, refl, ap, sym, ◌∙◌, arith, inl, inr}
-use Rattle.std.proofs.lemmas.Bool.{cases_Bool}
-use Rattle.std.proofs.lemmas.List.{length-map, length-take}
-use Rattle.pld_base.specs.Bits.{is_on}
+use Rattle.pld_device.proofs.Common.{cases_Bool, length-map, length-take, is_on, Table, carried, columns_of, pair_values, row_fuses, row_is_true, is_switched_on, row_value, has_whole_pair, connected_pairs, is_never_true, row_reads}
 use Rattle.pld_base.specs.Points.{Levels}
-use Rattle.pld_device.specs.Table.{Table}
-use Rattle.pld_device.specs.Rows.{carried, columns_of, pair_values, row_fuses, row_is_true, is_switched_on, row_value}
-use Rattle.pld_device.specs.Reads.{has_whole_pair, connected_pairs, is_never_true, row_reads}
 
 -- one of three is false
 third : (a b : Bool) → (a && (b && false)) ≡ false

@@ -1,8 +1,6 @@
 -- Where a row is true, column by column, and where its fuses stand.
 use Rattle.std.proofs.Common.{◌≡◌, ◌↔◌, zero, suc, Bool, true, false, ◌||◌, List, [], ◌∷◌, refl, arith}
-use Rattle.std.proofs.lemmas.Bool.{and_parts, true≢false}
-use Rattle.pld_device.specs.Rows.{row_is_true}
-use Rattle.pld_device.specs.RowLaws.{CarriesAll}
+use Rattle.pld_device.proofs.Common.{and_parts, true≢false, row_is_true, CarriesAll}
 
 carries : (fuses columns : List Bool) → row_is_true fuses columns ≡ true → CarriesAll fuses columns
 carries [] columns holds k fuse column off = absurd (omega arith)

@@ -1,14 +1,9 @@
 -- No row has two uses, since each row of the array has exactly one.
-use Rattle.std.proofs.Common.{◌≡◌, ℕ, zero, suc, ◌+◌, ◌<◌, ◌≤◌, Bool, true, false, List, [], ◌∷◌, ◌++◌, length, get_or, Option, Some, None, refl, sym, ◌∙◌, arith, inl, inr}
-use Rattle.std.specs.Prelude.{Contains}
-use Rattle.std.proofs.lemmas.Bool.{le-leb, lt-ltb, eq-eqb, cases_lt}
-use Rattle.std.proofs.lemmas.List.Elements.{Contains-append_left, Contains-append_right}
-use Rattle.pld_device.specs.declared.cell.Cell.{Cell}
+use Rattle.std.proofs.Common.{◌≡◌, ℕ, zero, suc, ◌+◌, ◌<◌, ◌≤◌, Bool, true, false, List, [], ◌∷◌, ◌++◌, length, get_or, Option, Some, None, refl, sym, ◌∙◌, arith, inl, inr, Contains}
+use Rattle.pld_device.proofs.Common.{le-leb, lt-ltb, eq-eqb, cases_lt, Contains-append_left, Contains-append_right, Cell, Table, IsDataRow, no_cell, Use, Enables, IsData, Resets, Presets, use_if, is_enable_row, is_data_row, is_row, cell_uses, uses_of, IsDevice}
 use Rattle.pld_device.specs.declared.enable.Enable.{Enable}
 use Rattle.pld_device.specs.declared.enable.Enable.TheVariants.{Row, PinLow}
-use Rattle.pld_device.specs.Table.{Table, IsDataRow, no_cell}
 use Rattle.pld_device.specs.RowUses.{IsEnableRow, HasRowsApart}
-use Rattle.pld_device.specs.Laws.{Use, Enables, IsData, Resets, Presets, use_if, is_enable_row, is_data_row, is_row, cell_uses, uses_of, IsDevice}
 
 -- a use whose test passes
 there : (test : Bool) (purpose : Use) → test ≡ true → Contains (use_if test purpose) purpose

@@ -1,7 +1,6 @@
 -- The levels before the index are as the device fixes them.
 use Rattle.std.proofs.Common.{◌≡◌, Bool, true, false, not, Some, None, List, length, add-one, refl, sym, ap, subst, ◌∙◌, arith}
-use Rattle.pld_device.specs.declared.fuse_bit.FuseBit.{FuseBit}
-use Rattle.pld_device.specs.Registers.{says}
+use Rattle.pld_device.proofs.Common.{FuseBit, says}
 use Rattle.pld_device.proofs.FixedLevels.{fixed_below, none_at_end, none_past, right_more, told, wrong_here}
 use Rattle.pld_device.proofs.fixed.wrong_fuse.Goals as goal
 

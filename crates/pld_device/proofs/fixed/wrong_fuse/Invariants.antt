@@ -1,5 +1,5 @@
 use Rattle.std.proofs.Common.{◌≡◌, drop}
-use Rattle.pld_device.specs.FixedFuses.{wrong_fixed}
+use Rattle.pld_device.proofs.Common.{wrong_fixed}
 use Rattle.pld_device.proofs.fixed.wrong_fuse.Given as goal
 
 abbrev pub invariant-loop-index : goal.invariant-loop-index

@@ -1,9 +1,6 @@
 -- The first cell with the pin; a device has few cells.
 use Rattle.std.proofs.Common.{◌≡◌, ◌<◌, ◌==◌, length, true, false, sym, ap, ◌∙◌, arith}
-use Rattle.std.proofs.lemmas.Option.{get_or_from_slice_get}
-use Rattle.std.proofs.lemmas.Bool.Decides.{nat_tests}
-use Rattle.pld_device.specs.declared.cell.Cell.{Cell}
-use Rattle.pld_device.specs.Table.{no_cell}
+use Rattle.pld_device.proofs.Common.{get_or_from_slice_get, nat_tests, Cell, no_cell}
 use Rattle.pld_device.proofs.FirstPlaces.{place_first, place_here, place_later, place_none}
 use Rattle.pld_device.proofs.lookups.cell_on.Goals as goal
 

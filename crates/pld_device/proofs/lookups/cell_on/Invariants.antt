@@ -1,8 +1,6 @@
 -- None of the cells so far has the pin.
-use Rattle.std.proofs.Common.{◌≡◌, drop, ◌==◌}
-use Rattle.std.specs.Prelude.{position}
-use Rattle.std.specs.List.{position_from}
-use Rattle.pld_device.specs.declared.cell.Cell.{Cell}
+use Rattle.std.proofs.Common.{◌≡◌, drop, ◌==◌, position}
+use Rattle.pld_device.proofs.Common.{position_from, Cell}
 use Rattle.pld_device.proofs.lookups.cell_on.Given as goal
 
 abbrev pub invariant-loop-index : goal.invariant-loop-index

@@ -1,7 +1,6 @@
 use Rattle.std.proofs.Common.{◌<◌, ◌≤◌, length, sym, ap, ◌∙◌, arith}
-use Rattle.std.proofs.lemmas.Option.{get_or_from_slice_get}
+use Rattle.pld_device.proofs.Common.{get_or_from_slice_get, carries_cell}
 use Rattle.pld_device.specs.declared.carry.Carry.TheVariants as carry
-use Rattle.pld_device.specs.Pins.{carries_cell}
 use Rattle.pld_device.proofs.FirstPlaces.{place_first, place_here, place_later, place_none}
 use Rattle.pld_device.proofs.lookups.pair_of_cell.Goals as goal
 

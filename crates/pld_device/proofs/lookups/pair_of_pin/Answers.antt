@@ -1,8 +1,5 @@
 use Rattle.std.proofs.Common.{◌≡◌, ◌<◌, ◌≤◌, ◌==◌, ℕ, length, true, false, sym, ap, ◌∙◌, arith}
-use Rattle.std.proofs.lemmas.Bool.Decides.{nat_tests}
-use Rattle.std.proofs.lemmas.List.{length-map}
-use Rattle.std.proofs.lemmas.Option.{get_or_from_slice_get}
-use Rattle.pld_device.specs.Pins.{pair_pins, pin_carried}
+use Rattle.pld_device.proofs.Common.{nat_tests, length-map, get_or_from_slice_get, pair_pins, pin_carried}
 use Rattle.pld_device.proofs.FirstPlaces.{place_first, place_here, place_later, place_none}
 use Rattle.pld_device.proofs.lookups.pair_of_pin.Goals as goal
 

@@ -1,8 +1,6 @@
 -- None of the pairs so far is of the pin.
-use Rattle.std.proofs.Common.{◌≡◌, ℕ, drop, ◌==◌}
-use Rattle.std.specs.Prelude.{position}
-use Rattle.std.specs.List.{position_from}
-use Rattle.pld_device.specs.Pins.{pair_pins}
+use Rattle.std.proofs.Common.{◌≡◌, ℕ, drop, ◌==◌, position}
+use Rattle.pld_device.proofs.Common.{position_from, pair_pins}
 use Rattle.pld_device.proofs.lookups.pair_of_pin.Given as goal
 
 abbrev pub invariant-loop-pair : goal.invariant-loop-pair
