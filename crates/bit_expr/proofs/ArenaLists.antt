@@ -1,15 +1,8 @@
 -- The formulas of an arena's nodes, and what is added to them.
 use Rattle.std.proofs.Common.{◌≡◌, ℕ, zero, suc, ◌+◌, ◌-◌, ◌<◌, ◌≤◌, ◌⊎◌, inl, inr, List, [], ◌∷◌, ◌++◌, length, get_or, slice_get, Some, false, true, Bool, Ok, if◌then◌else◌, nat_eq, refl, sym, ap, ap₂, ◌∙◌, subst, arith, length-append}
-use Rattle.std.proofs.lemmas.Option.{slice_get_within, slice_get-get_or, get_or_from_slice_get}
-use Rattle.std.proofs.lemmas.List.{get_or_append_left}
+use Rattle.bit_expr.proofs.Common.{slice_get_within, slice_get-get_or, get_or_from_slice_get, get_or_append_left, Formula, Const, Not, And, Or, Xor, Made, free, ExprId, Node, constants, arena, formulas_from, formula_of, Grew, IsAdded, Adds, LiesIn, AreOverEarlier}
 use Rattle.std.proofs.Math.Seq.{get_or-append_seam}
-use Rattle.bit_expr.specs.Formulas.{Formula, Const, Not, And, Or, Xor}
-use Rattle.bit_expr.specs.Folding.{Made, free}
-use Rattle.bit_expr.specs.declared.node.ExprId.{ExprId}
-use Rattle.bit_expr.specs.declared.node.Node.{Node}
 use Rattle.bit_expr.specs.declared.node.Node.TheVariants as node
-use Rattle.bit_expr.specs.Arena.{constants, arena, formulas_from, formula_of, Grew, IsAdded, Adds, LiesIn}
-use Rattle.bit_expr.specs.Keeping.{AreOverEarlier}
 
 -- one node more is one formula more
 from_more : (fs : List Formula) (ns : List Node) (n : Node) → formulas_from fs (ns ++ n ∷ []) ≡ formulas_from fs ns ++ formula_of (formulas_from fs ns) n ∷ []

@@ -1,7 +1,6 @@
 -- The folding rules by what the operands are found to be.
 use Rattle.std.proofs.Common.{◌≡◌, Bool, true, false, not, Some, None, refl}
-use Rattle.bit_expr.specs.Formulas.{Formula, Const, Read, Not, And, Or, Xor}
-use Rattle.bit_expr.specs.Folding.{free, fresh, make_not, make_and, make_or, make_xor, constant_level, inner_of}
+use Rattle.bit_expr.proofs.Common.{Formula, Const, Read, Not, And, Or, Xor, free, fresh, make_not, make_and, make_or, make_xor, constant_level, inner_of}
 
 -- a formula that has a level is the constant
 pub constant_is : (f : Formula) (on : Bool) → Some on ≡ constant_level f → f ≡ Const on

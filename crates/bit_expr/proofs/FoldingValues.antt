@@ -1,16 +1,10 @@
 -- What the folding rules make has the value of the operator at every point.
-use Rattle.std.proofs.Common.{◌≡◌, ℕ, Bool, true, false, not, ◌&&◌, ◌||◌, List, slice_get, Some, refl, ap, ◌∙◌}
-use Rattle.std.specs.Prelude.{Result, Ok, Err, IfOk}
-use Rattle.std.proofs.lemmas.Option.{get_or_from_slice_get}
+use Rattle.std.proofs.Common.{◌≡◌, ℕ, Bool, true, false, not, ◌&&◌, ◌||◌, List, slice_get, Some, refl, ap, ◌∙◌, Result, Ok, Err, IfOk}
+use Rattle.bit_expr.proofs.Common.{get_or_from_slice_get, ExprId, Node, arena, formula_at, folded, node_value, Adds, Formula, Const, Not, differ, formula_value, make_not, make_and, make_or, make_xor}
 use Rattle.pld_base.specs.Points.{Levels}
-use Rattle.bit_expr.specs.declared.node.ExprId.{ExprId}
-use Rattle.bit_expr.specs.declared.node.Node.{Node}
 use Rattle.bit_expr.specs.declared.node.Node.TheVariants as node
 use Rattle.bit_expr.specs.declared.fault.ExprFault.{ExprFault}
 use Rattle.bit_expr.specs.declared.fault.ExprFault.TheVariants as fault
-use Rattle.bit_expr.specs.Arena.{arena, formula_at, folded, node_value, Adds}
-use Rattle.bit_expr.specs.Formulas.{Formula, Const, Not, differ, formula_value}
-use Rattle.bit_expr.specs.Folding.{make_not, make_and, make_or, make_xor}
 
 not_not : (b : Bool) → b ≡ not (not b)
 not_not true = refl

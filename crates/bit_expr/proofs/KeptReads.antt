@@ -1,15 +1,6 @@
 -- What the arena keeps beside its nodes, when one is added.
 use Rattle.std.proofs.Common.{◌≡◌, ℕ, ◌+◌, ◌-◌, ◌<◌, ◌≤◌, inl, inr, List, [], ◌∷◌, ◌++◌, length, get_or, slice_get, Some, option_map, false, refl, sym, ap, ◌∙◌, subst, arith}
-use Rattle.std.proofs.lemmas.List.{map-append, length-map, get_or_append_left}
-use Rattle.std.proofs.lemmas.Option.{slice_get-map, slice_get_within, get_or_from_slice_get, slice_get_read}
-use Rattle.bit_expr.specs.declared.arena.Kept.{Kept}
-use Rattle.bit_expr.specs.declared.node.Node.{Node}
-use Rattle.bit_expr.specs.declared.node.ExprId.{ExprId}
-use Rattle.bit_expr.specs.Arena.{arena, formula_of, LiesIn, IsAdded}
-use Rattle.bit_expr.specs.Folding.{fresh}
-use Rattle.bit_expr.specs.Formulas.{Formula, Const, names}
-use Rattle.bit_expr.specs.Keeping.{nodes_of, AreOverEarlier, AreKept}
-use Rattle.bit_expr.specs.Reading.{AreReads}
+use Rattle.bit_expr.proofs.Common.{map-append, length-map, get_or_append_left, slice_get-map, slice_get_within, get_or_from_slice_get, slice_get_read, Kept, Node, ExprId, arena, formula_of, LiesIn, IsAdded, fresh, Formula, Const, names, nodes_of, AreOverEarlier, AreKept, AreReads}
 use Rattle.bit_expr.proofs.ArenaLists.{arena_more, arena_count, split_last, ordered_more, get_new, grew_one}
 
 -- the node of an entry

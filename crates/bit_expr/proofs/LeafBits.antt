@@ -1,10 +1,8 @@
 -- The bits of one leaf, and of the leaves of two formulas.
 use Rattle.std.proofs.Common.{◌≡◌, ◌≢◌, ℕ, ◌<◌, true, false, ◌||◌, ◌==◌, bit_or, max, zero, suc, length, set, refl, sym, ◌∙◌, subst, arith, ◌⊎◌, inl, inr, get_or-set_same, get_or-set_other, ne_eqb}
+use Rattle.bit_expr.proofs.Common.{bit_at_or, bit_at-lt, bits, is_on, is_on-bits, is_on-zero, length-bits}
 use Rattle.std.specs.Int.{bit_at}
 use Rattle.std.proofs.lemmas.Bool.{cases_eq, eq-eqb}
-use Rattle.std.proofs.lemmas.Nat.Bits.{bit_at_or, bit_at-lt}
-use Rattle.pld_base.specs.Bits.{bits, is_on}
-use Rattle.pld_base.proofs.BitLemmas.{is_on-bits, is_on-zero, length-bits}
 
 -- the one bit that is set
 pub one_bit : (width p k : ℕ) → p < width → k < width → is_on (set (bits width 0) p true) k ≡ (p == k)

@@ -1,4 +1,5 @@
 pub mod ArenaLists
+pub mod Common
 pub mod FoldingCases
 pub mod FoldingValues
 pub mod KeptReads

@@ -1,6 +1,5 @@
 use Rattle.std.proofs.Common.{sym}
-use Rattle.std.proofs.lemmas.Nat.Bits.{shr_and_one}
-use Rattle.pld_base.proofs.BitLemmas.{is_on-bits}
+use Rattle.bit_expr.proofs.Common.{shr_and_one, is_on-bits}
 use Rattle.bit_expr.proofs.node.value_at.Goals as goal
 
 pub returns : goal.returns

@@ -1,5 +1,5 @@
 use Rattle.std.proofs.Common.{ap, ◌∙◌}
-use Rattle.pld_base.specs.Bits.{is_on}
+use Rattle.bit_expr.proofs.Common.{is_on}
 use Rattle.bit_expr.proofs.LeafBits.{one_bit}
 use Rattle.bit_expr.proofs.reads.just.Goals as goal
 

@@ -1,4 +1,4 @@
-use Rattle.pld_base.proofs.BitLemmas.{is_on-zero}
+use Rattle.bit_expr.proofs.Common.{is_on-zero}
 use Rattle.bit_expr.proofs.reads.nothing.Goals as goal
 
 pub returns : goal.returns

@@ -1,4 +1,4 @@
-use Rattle.bit_expr.specs.Arena.{arena}
+use Rattle.bit_expr.proofs.Common.{arena}
 use Rattle.bit_expr.proofs.FoldingValues.{added_value}
 use Rattle.bit_expr.proofs.arena.Exprs.add_more.Goals as goal
 

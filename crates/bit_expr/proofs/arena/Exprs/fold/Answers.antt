@@ -1,5 +1,5 @@
 use Rattle.std.proofs.Common.{ap}
-use Rattle.bit_expr.specs.Arena.{folded, arena}
+use Rattle.bit_expr.proofs.Common.{folded, arena}
 use Rattle.bit_expr.proofs.ArenaLists.{adds_level}
 use Rattle.bit_expr.proofs.arena.Exprs.fold.Goals as goal
 

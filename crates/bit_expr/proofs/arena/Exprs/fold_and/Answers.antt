@@ -1,7 +1,5 @@
 use Rattle.std.proofs.Common.{◌+◌, Some, false, sym, ap, ◌∙◌, subst}
-use Rattle.bit_expr.specs.Formulas.{Formula}
-use Rattle.bit_expr.specs.Folding.{Made}
-use Rattle.bit_expr.specs.Arena.{Adds}
+use Rattle.bit_expr.proofs.Common.{Formula, Made, Adds}
 use Rattle.bit_expr.proofs.ArenaLists.{adds_there, adds_level}
 use Rattle.bit_expr.proofs.FoldingCases.{and_one_left, and_zero_left, and_one_right, and_zero_right, and_makes}
 use Rattle.bit_expr.proofs.arena.Exprs.fold_and.Goals as goal

@@ -1,7 +1,5 @@
 use Rattle.std.proofs.Common.{◌+◌, not, sym, subst, arith}
-use Rattle.bit_expr.specs.Formulas.{Formula}
-use Rattle.bit_expr.specs.Folding.{Made}
-use Rattle.bit_expr.specs.Arena.{Adds}
+use Rattle.bit_expr.proofs.Common.{Formula, Made, Adds}
 use Rattle.bit_expr.proofs.ArenaLists.{adds_there, adds_level}
 use Rattle.bit_expr.proofs.FoldingCases.{not_constant, not_inner, not_makes}
 use Rattle.bit_expr.proofs.arena.Exprs.fold_not.Goals as goal

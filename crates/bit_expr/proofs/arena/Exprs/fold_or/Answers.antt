@@ -1,7 +1,5 @@
 use Rattle.std.proofs.Common.{◌+◌, Some, true, sym, ap, ◌∙◌, subst}
-use Rattle.bit_expr.specs.Formulas.{Formula}
-use Rattle.bit_expr.specs.Folding.{Made}
-use Rattle.bit_expr.specs.Arena.{Adds}
+use Rattle.bit_expr.proofs.Common.{Formula, Made, Adds}
 use Rattle.bit_expr.proofs.ArenaLists.{adds_there, adds_level}
 use Rattle.bit_expr.proofs.FoldingCases.{or_one_left, or_zero_left, or_one_right, or_zero_right, or_makes}
 use Rattle.bit_expr.proofs.arena.Exprs.fold_or.Goals as goal

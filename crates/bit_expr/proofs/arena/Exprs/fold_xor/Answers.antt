@@ -1,7 +1,5 @@
 use Rattle.std.proofs.Common.{◌+◌, Some, sym, ap, ◌∙◌, subst}
-use Rattle.bit_expr.specs.Formulas.{Formula}
-use Rattle.bit_expr.specs.Folding.{Made}
-use Rattle.bit_expr.specs.Arena.{Adds}
+use Rattle.bit_expr.proofs.Common.{Formula, Made, Adds}
 use Rattle.bit_expr.proofs.ArenaLists.{adds_there}
 use Rattle.bit_expr.proofs.FoldingCases.{xor_one_left, xor_zero_left, xor_one_right, xor_zero_right, xor_makes}
 use Rattle.bit_expr.proofs.arena.Exprs.fold_xor.Goals as goal

@@ -1,8 +1,5 @@
 use Rattle.std.proofs.Common.{◌≡◌, get_or, ◌-◌, List, false, arith, subst}
-use Rattle.bit_expr.specs.Formulas.{Const}
-use Rattle.bit_expr.specs.declared.node.Node.{Node}
-use Rattle.bit_expr.specs.Arena.{arena, formula_of}
-use Rattle.bit_expr.specs.Keeping.{nodes_of}
+use Rattle.bit_expr.proofs.Common.{Const, Node, arena, formula_of, nodes_of}
 use Rattle.bit_expr.proofs.ArenaLists.{low_formula, node_is, node_lies}
 use Rattle.bit_expr.proofs.KeptReads.{entry_within, entry_read, node_kept}
 use Rattle.bit_expr.proofs.arena.Exprs.get.Goals as goal

@@ -1,9 +1,5 @@
 use Rattle.std.proofs.Common.{◌≡◌, get_or, ◌-◌, ◌+◌, List, false, arith, subst}
-use Rattle.bit_expr.specs.Formulas.{Formula, Const, names}
-use Rattle.bit_expr.specs.declared.node.Node.{Node}
-use Rattle.bit_expr.specs.Arena.{arena}
-use Rattle.bit_expr.specs.Keeping.{nodes_of}
-use Rattle.bit_expr.specs.Reading.{AreReads}
+use Rattle.bit_expr.proofs.Common.{Formula, Const, names, Node, arena, nodes_of, AreReads}
 use Rattle.bit_expr.proofs.ArenaLists.{low_formula}
 use Rattle.bit_expr.proofs.KeptReads.{entry_within, entry_read}
 use Rattle.bit_expr.proofs.arena.Exprs.reads.Goals as goal

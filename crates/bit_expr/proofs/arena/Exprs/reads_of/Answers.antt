@@ -1,5 +1,4 @@
-use Rattle.bit_expr.specs.Formulas.{names}
-use Rattle.bit_expr.specs.Arena.{arena, formula_at}
+use Rattle.bit_expr.proofs.Common.{names, arena, formula_at}
 use Rattle.bit_expr.proofs.arena.Exprs.reads_of.Goals as goal
 
 pub returns-in-And : goal.returns-in-And

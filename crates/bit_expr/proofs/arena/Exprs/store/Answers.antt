@@ -1,10 +1,5 @@
 use Rattle.std.proofs.Common.{◌+◌, List, length, refl, ap, sym, arith, subst}
-use Rattle.std.proofs.lemmas.List.{length-map}
-use Rattle.bit_expr.specs.Formulas.{names}
-use Rattle.bit_expr.specs.declared.arena.Kept.{Kept}
-use Rattle.bit_expr.specs.declared.node.Node.{Node}
-use Rattle.bit_expr.specs.Arena.{arena, formula_of}
-use Rattle.bit_expr.specs.Reading.{AreReads}
+use Rattle.bit_expr.proofs.Common.{length-map, names, Kept, Node, arena, formula_of, AreReads}
 use Rattle.bit_expr.proofs.ArenaLists.{arena_count}
 use Rattle.bit_expr.proofs.KeptReads.{kept_more, added_kept}
 use Rattle.bit_expr.proofs.arena.Exprs.store.Goals as goal
