@@ -1,16 +1,8 @@
 -- Formulas of terms follow the arithmetic at every point; so all contributions, as formulas, follow those at the point.
 use Rattle.std.proofs.Common.{◌≡◌, ℕ, zero, suc, ◌+◌, ◌-◌, ◌*◌, ◌/◌, ◌%◌, ◌^◌, ◌<◌, Bool, true, false, ◌&&◌, ◌||◌, List, [], ◌∷◌, map, refl, sym, ap, ap₂, subst, ◌∙◌, arith, pow_pos}
-use Rattle.std.proofs.Math.Nat.{mod-lt, pow-succ'}
-use Rattle.pld_base.specs.Points.{Levels}
-use Rattle.pld_base.specs.Bits.{same_level}
+use Rattle.abel_meaning.proofs.Common.{mod-lt, pow-succ', Levels, same_level, Binary, Shape, Number, Single, Set, width_of, member_width, meeting, Value, met_number, met, met_unknown, either_unknown, kept, digits_low_first, digits, one_bit, number_with, zipped, binary_by, operator_number, computes, computes_numbers, compares_kept, formula_value, differ, Word, met_by, kept_bits, relation_word, operator_word, binary_word}
 use Rattle.abel_meaning.specs.Numbers as numbers
 use Rattle.abel_tree.specs.declared.words.Binary.TheVariants as binary
-use Rattle.abel_tree.specs.declared.words.Binary.{Binary}
-use Rattle.abel_meaning.specs.Numbers.{Shape, Number, Single, Set, width_of, member_width, meeting, Value, met_number, met, met_unknown, either_unknown, kept, digits_low_first, digits, one_bit, number_with, zipped}
-use Rattle.abel_meaning.specs.Values.{binary_by, operator_number, computes, computes_numbers, compares_kept}
-use Rattle.bit_expr.specs.Formulas.{formula_value, differ}
-use Rattle.abel_meaning.specs.BitWords.{Word}
-use Rattle.abel_meaning.specs.FormulaBits.{met_by, kept_bits, relation_word, operator_word, binary_word}
 use Rattle.abel_meaning.proofs.DigitLaws.{length_digits, number_small, length_zipped}
 use Rattle.abel_meaning.proofs.RelationValues.{kept_digits, kept_value, kept_width, digits_kept}
 use Rattle.abel_meaning.proofs.TermValues.{HasBits, met_value, one_digit, one_small}

@@ -1,25 +1,10 @@
 -- The formulas of all terms follow their values, and so the formulas of a module follow its contributions.
 use Rattle.std.proofs.Common.{◌≡◌, ℕ, ◌+◌, ◌-◌, ◌*◌, ◌%◌, ◌^◌, ◌<◌, Bool, false, not, List, [], ◌∷◌, ◌++◌, map, reverse, refl, sym, ap, ap₂, subst, subst₂, ◌∙◌, arith, pow_pos}
-use Rattle.std.proofs.lemmas.List.{map-append}
-use Rattle.std.proofs.lemmas.Nat.{pow-add}
-use Rattle.std.proofs.Math.Nat.{mod-eq_of_lt, mod-lt, mul-le-mul_right}
-use Rattle.pld_base.specs.Points.{Levels}
+use Rattle.abel_meaning.proofs.Common.{map-append, pow-add, mod-eq_of_lt, mod-lt, mul-le-mul_right, Levels, Term, Terms, Context, Design, source_of, source_value, Shape, Number, Single, Set, width_of, member_width, Value, met_number, met, digits_low_first, number_with, term_value, set_value, constant_of, nowhere, is_relation, binary_value, unary_number, unary_value, joined_value, Const, formula_value, Word, unary_word, each_not, met_word, bits_of, bits_of_all, formulas, truth_at, given_at, given_formulas, Follows, seen, not_value, and_value, or_value}
 use Rattle.abel_meaning.specs.Terms as term
 use Rattle.abel_tree.specs.declared.words.Unary.TheVariants as unary
 use Rattle.abel_tree.specs.declared.words.Unary.{Unary}
-use Rattle.abel_meaning.specs.Terms.{Term, Terms}
-use Rattle.abel_meaning.specs.Designs.{Context, Design}
-use Rattle.abel_meaning.specs.Sources.{source_of, source_value}
-use Rattle.abel_meaning.specs.Numbers.{Shape, Number, Single, Set, width_of, member_width, Value, met_number, met, digits_low_first, number_with}
-use Rattle.abel_meaning.specs.Values.{term_value, set_value, constant_of, nowhere, is_relation, binary_value, unary_number, unary_value, joined_value}
-use Rattle.bit_expr.specs.Formulas.{Const, formula_value}
-use Rattle.abel_meaning.specs.BitWords.{Word, unary_word, each_not}
-use Rattle.abel_meaning.specs.FormulaBits.{met_word, bits_of, bits_of_all, formulas}
-use Rattle.abel_meaning.specs.AtPoints.{truth_at, given_at}
-use Rattle.abel_meaning.specs.SignalReads.{given_formulas}
-use Rattle.abel_meaning.specs.Follows.{Follows, seen}
 use Rattle.abel_meaning.proofs.Walk.{contributions_seen}
-use Rattle.bit_expr.proofs.FoldingValues.{not_value, and_value, or_value}
 use Rattle.abel_meaning.proofs.DigitLaws.{digits_mod, digits_joined, length_digits, number_small}
 use Rattle.abel_meaning.proofs.TermValues.{HasBits, met_value, source_formula, one_digit, one_small, each_not_value, length_map, not_bits, difference_value}
 use Rattle.abel_meaning.proofs.OperatorValues.{zeros_value}

@@ -1,19 +1,7 @@
 -- Where one way to read terms follows another, the functions and controls of signals do.
-use Rattle.std.proofs.Common.{◌≡◌, ℕ, Bool, true, false, not, ◌&&◌, ◌||◌, cond, List, [], ◌∷◌, map, Some, refl, sym, ap, ap₂, ◌∙◌, inl, inr}
-use Rattle.std.proofs.lemmas.Bool.{cases_Bool}
-use Rattle.std.specs.Prelude.{filter, fold, option_map, if◌then◌else◌, is_some}
-use Rattle.std.specs.List.{list_any, list_all}
-use Rattle.pld_base.specs.Points.{Levels}
-use Rattle.abel_tree.specs.declared.words.Extension.{Extension}
-use Rattle.abel_meaning.specs.Designs.{Design}
-use Rattle.abel_meaning.specs.Contributions.{Evaluator, Gives, One, Any, Match, Contribution}
-use Rattle.abel_meaning.specs.Functions.{is_data_to, same_gives, some_holds, gives_some, is_free_elsewhere, any_of, is_complement, single_function, is_data_in, is_both, gives_in, both_function, function_of, Function, function_seen}
+use Rattle.std.proofs.Common.{◌≡◌, ℕ, Bool, true, false, not, ◌&&◌, ◌||◌, cond, List, [], ◌∷◌, map, Some, refl, sym, ap, ap₂, ◌∙◌, inl, inr, filter, fold, option_map, if◌then◌else◌, is_some}
+use Rattle.abel_meaning.proofs.Common.{cases_Bool, list_any, list_all, Levels, Extension, Design, Evaluator, Gives, One, Any, Match, Contribution, is_data_to, same_gives, some_holds, gives_some, is_free_elsewhere, any_of, is_complement, single_function, is_data_in, is_both, gives_in, both_function, function_of, Function, function_seen, formula_value, formulas, truth_at, given_at, given_formulas, Follows, seen}
 use Rattle.abel_meaning.specs.Controls.{is_control, control_by, control_of}
-use Rattle.bit_expr.specs.Formulas.{formula_value}
-use Rattle.abel_meaning.specs.FormulaBits.{formulas}
-use Rattle.abel_meaning.specs.AtPoints.{truth_at, given_at}
-use Rattle.abel_meaning.specs.SignalReads.{given_formulas}
-use Rattle.abel_meaning.specs.Follows.{Follows, seen}
 use Rattle.abel_meaning.proofs.FormulasFollow.{formulas_follow, formulas_have_values}
 
 module _ {V W : Type 0} (h : V → W) (ev : Evaluator V) (fv : Evaluator W) (l : Follows h ev fv) where

@@ -1,11 +1,8 @@
 -- What a function allows are the values of its signal, also where these are all `p or not n` of two sets.
 use Rattle.std.proofs.Common.{◌≡◌, Bool, true, false, not, ◌||◌, inl, inr, refl}
-use Rattle.std.proofs.lemmas.Bool.{cases_Bool}
+use Rattle.abel_meaning.proofs.Common.{cases_Bool, truth_at, given_at, One, Any, allows_plain, any_against, gives_in, is_both}
 use Rattle.abel_meaning.specs.AgreeLaws.{ValuesAgree}
 use Rattle.abel_meaning.specs.AllowedValues.{is_either_or_not}
-use Rattle.abel_meaning.specs.AtPoints.{truth_at, given_at}
-use Rattle.abel_meaning.specs.Contributions.{One, Any}
-use Rattle.abel_meaning.specs.Functions.{allows_plain, any_against, gives_in, is_both}
 
 -- one and any by the contributions to the name, and by those to the complement
 joined : (one any one_against any_against v : Bool)

@@ -1,4 +1,5 @@
 pub mod Agreement
+pub mod Common
 pub mod DigitLaws
 pub mod FormulasFollow
 pub mod FunctionValues

@@ -1,16 +1,8 @@
 -- Operators and relations on words have the values of those on numbers.
 use Rattle.std.proofs.Common.{◌≡◌, ℕ, zero, suc, ◌+◌, ◌/◌, ◌%◌, ◌^◌, ◌<◌, Bool, true, false, not, ◌&&◌, ◌||◌, List, [], ◌∷◌, map, length, refl, sym, ap, ap₂, ◌∙◌, arith}
-use Rattle.pld_base.specs.Points.{Levels}
-use Rattle.pld_base.specs.Bits.{same_level}
+use Rattle.abel_meaning.proofs.Common.{Levels, same_level, Binary, digits_low_first, one_bit, number_with, zipped, kept, computes, Formula, Const, formula_value, differ, make_not, make_and, make_or, make_xor, Made, ◌>>=◌, Word, word_by_position, sum_bits, operator_bits, not_value, and_value, or_value, xor_value}
 use Rattle.abel_meaning.specs.Numbers as numbers
 use Rattle.abel_tree.specs.declared.words.Binary.TheVariants as binary
-use Rattle.abel_tree.specs.declared.words.Binary.{Binary}
-use Rattle.abel_meaning.specs.Numbers.{digits_low_first, one_bit, number_with, zipped, kept}
-use Rattle.abel_meaning.specs.Values.{computes}
-use Rattle.bit_expr.specs.Formulas.{Formula, Const, formula_value, differ}
-use Rattle.bit_expr.specs.Folding.{make_not, make_and, make_or, make_xor, Made, ◌>>=◌}
-use Rattle.abel_meaning.specs.BitWords.{Word, word_by_position, sum_bits, operator_bits}
-use Rattle.bit_expr.proofs.FoldingValues.{not_value, and_value, or_value, xor_value}
 use Rattle.abel_meaning.proofs.WordValues.{added, added_value, digits_of_sum}
 use Rattle.abel_meaning.proofs.DigitLaws.{digits_mod, length_digits, digits_of_number, length_zipped}
 use Rattle.abel_meaning.proofs.TermValues.{difference_value}

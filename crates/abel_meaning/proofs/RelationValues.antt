@@ -1,16 +1,6 @@
 -- Relations of words have the values of the relations of their numbers, with dropped positions left out.
-use Rattle.std.proofs.Common.{◌≡◌, ℕ, zero, suc, ◌+◌, ◌*◌, ◌/◌, ◌%◌, ◌^◌, ◌<◌, ◌≤◌, Bool, true, false, not, ◌&&◌, ◌||◌, List, [], ◌∷◌, map, refl, sym, ap, ap₂, ◌∙◌, arith}
-use Rattle.std.specs.Prelude.{◌==◌, nat_lt}
-use Rattle.std.proofs.lemmas.Bool.{lt-ltb, ltb-true}
-use Rattle.std.proofs.lemmas.Bool.Decides.{same_from_decides}
-use Rattle.std.proofs.Math.Nat.{pow-succ'}
-use Rattle.pld_base.specs.Points.{Levels}
-use Rattle.abel_meaning.specs.Numbers.{digits_low_first, one_bit, kept}
-use Rattle.bit_expr.specs.Formulas.{Formula, formula_value, differ}
-use Rattle.bit_expr.specs.Folding.{make_not, make_and, make_or, make_xor}
-use Rattle.abel_meaning.specs.BitWords.{Word, less_bit, less_bits, equal_bits}
-use Rattle.abel_meaning.specs.FormulaBits.{kept_bits}
-use Rattle.bit_expr.proofs.FoldingValues.{not_value, and_value, or_value, xor_value}
+use Rattle.std.proofs.Common.{◌≡◌, ℕ, zero, suc, ◌+◌, ◌*◌, ◌/◌, ◌%◌, ◌^◌, ◌<◌, ◌≤◌, Bool, true, false, not, ◌&&◌, ◌||◌, List, [], ◌∷◌, map, refl, sym, ap, ap₂, ◌∙◌, arith, ◌==◌, nat_lt}
+use Rattle.abel_meaning.proofs.Common.{lt-ltb, ltb-true, same_from_decides, pow-succ', Levels, digits_low_first, one_bit, kept, Formula, formula_value, differ, make_not, make_and, make_or, make_xor, Word, less_bit, less_bits, equal_bits, kept_bits, not_value, and_value, or_value, xor_value}
 use Rattle.abel_meaning.proofs.WordValues.{lowest_bit}
 
 -- less up to a position, and over a word

@@ -1,19 +1,8 @@
 -- A relation of two words has the value of the relation of their numbers.
-use Rattle.std.proofs.Common.{◌≡◌, ℕ, zero, suc, ◌+◌, ◌/◌, ◌%◌, ◌^◌, ◌<◌, ◌≤◌, Bool, true, false, not, ◌&&◌, List, [], ◌∷◌, ◌++◌, map, length, reverse, refl, sym, ap, ap₂, subst, ◌∙◌, arith}
-use Rattle.std.specs.Prelude.{◌==◌, nat_lt, nat_le}
+use Rattle.std.proofs.Common.{◌≡◌, ℕ, zero, suc, ◌+◌, ◌/◌, ◌%◌, ◌^◌, ◌<◌, ◌≤◌, Bool, true, false, not, ◌&&◌, List, [], ◌∷◌, ◌++◌, map, length, reverse, refl, sym, ap, ap₂, subst, ◌∙◌, arith, ◌==◌, nat_lt, nat_le}
+use Rattle.abel_meaning.proofs.Common.{and_parts, le-leb, leb-true, pow-succ', same_from_decides, Decides-eqb, Decides-ltb, reverse-append, length-reverse, map-append, Levels, Binary, digits_low_first, one_bit, compares, Const, formula_value, differ, Word, equal_bits, less_bits, relation_bit, not_value}
 use Rattle.std.specs.Bool.{Decides}
-use Rattle.std.proofs.lemmas.Bool.{and_parts, le-leb, leb-true}
-use Rattle.std.proofs.Math.Nat.{pow-succ'}
-use Rattle.std.proofs.lemmas.Bool.Decides.{same_from_decides, Decides-eqb, Decides-ltb}
-use Rattle.std.proofs.lemmas.List.{reverse-append, length-reverse, map-append}
-use Rattle.pld_base.specs.Points.{Levels}
 use Rattle.abel_tree.specs.declared.words.Binary.TheVariants as binary
-use Rattle.abel_tree.specs.declared.words.Binary.{Binary}
-use Rattle.abel_meaning.specs.Numbers.{digits_low_first, one_bit}
-use Rattle.abel_meaning.specs.Values.{compares}
-use Rattle.bit_expr.specs.Formulas.{Const, formula_value, differ}
-use Rattle.abel_meaning.specs.BitWords.{Word, equal_bits, less_bits, relation_bit}
-use Rattle.bit_expr.proofs.FoldingValues.{not_value}
 use Rattle.abel_meaning.proofs.WordValues.{lowest_bit}
 use Rattle.abel_meaning.proofs.DigitLaws.{length_digits}
 use Rattle.abel_meaning.proofs.RelationValues.{lesser, lesser_value, digits_less, agree, agree_value}

@@ -1,13 +1,6 @@
 -- The bit formulas of a term have the value of its arithmetic, also where the term is refused.
-use Rattle.std.proofs.Common.{◌≡◌, ℕ, zero, suc, ◌+◌, ◌-◌, ◌*◌, ◌%◌, ◌^◌, ◌<◌, Bool, true, false, not, List, [], ◌∷◌, map, length, replicate, get_or, refl, sym, ap, ap₂, ◌∙◌, arith}
-use Rattle.std.specs.Prelude.{◌==◌}
-use Rattle.pld_base.specs.Points.{Levels}
-use Rattle.abel_meaning.specs.Sources.{Source, Zero, Held, source_value}
-use Rattle.abel_meaning.specs.Numbers.{Shape, Number, Single, Set, met_number, digits_low_first, one_bit, number_with}
-use Rattle.bit_expr.specs.Formulas.{Formula, Const, Read, formula_value}
-use Rattle.abel_meaning.specs.FormulaBits.{make_source, met_by, resized}
-use Rattle.abel_meaning.specs.BitWords.{Word, each_not, difference_bits}
-use Rattle.bit_expr.proofs.FoldingValues.{not_value}
+use Rattle.std.proofs.Common.{◌≡◌, ℕ, zero, suc, ◌+◌, ◌-◌, ◌*◌, ◌%◌, ◌^◌, ◌<◌, Bool, true, false, not, List, [], ◌∷◌, map, length, replicate, get_or, refl, sym, ap, ap₂, ◌∙◌, arith, ◌==◌}
+use Rattle.abel_meaning.proofs.Common.{Levels, Source, Zero, Held, source_value, Shape, Number, Single, Set, met_number, digits_low_first, one_bit, number_with, Formula, Const, Read, formula_value, make_source, met_by, resized, Word, each_not, difference_bits, not_value}
 use Rattle.abel_meaning.proofs.WordValues.{added, added_value, digits_of_sum, lowest_bit}
 use Rattle.abel_meaning.proofs.DigitLaws.{digits_mod, digits_spread, digits_resized, resized_bits, length_digits, digits_of_number, number_of_digits, complement_adds}
 

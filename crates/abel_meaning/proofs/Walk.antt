@@ -1,26 +1,17 @@
 -- Where one way to read terms follows another, all contributions do.
-use Rattle.std.proofs.Common.{◌≡◌, ℕ, Bool, true, false, cond, List, [], ◌∷◌, ◌++◌, map, reverse, get_or, Option, None, Some, length, refl, sym, ap, ap₂, ◌∙◌}
-use Rattle.std.specs.Prelude.{filter, ◌==◌, if◌then◌else◌}
-use Rattle.std.specs.List.{list_any}
-use Rattle.std.proofs.lemmas.List.{map-append}
+use Rattle.std.proofs.Common.{◌≡◌, ℕ, Bool, true, false, cond, List, [], ◌∷◌, ◌++◌, map, reverse, get_or, Option, None, Some, length, refl, sym, ap, ap₂, ◌∙◌, filter, ◌==◌, if◌then◌else◌}
+use Rattle.abel_meaning.proofs.Common.{list_any, map-append, Extension, Term, term_of, Context, Design, width_of, digits, constant_of, Evaluator, condition, Gives, One, Contribution, Guard, guarded, contribution, Follows, seen, seen_guard}
 use Rattle.std.proofs.Math.ListN.{get_or-map}
 use Rattle.abel_meaning.specs.Terms as term
-use Rattle.abel_tree.specs.declared.words.Extension.{Extension}
 use Rattle.abel_tree.specs.Tree.{AnAssign, AWhen, AGroup, ADontCare, NoElse, AnElse, NoStatement, MoreStatements, statements_of, AGoal, AnIf, ACase, NoBranch, ABranch, NoChoice, MoreChoices, Declarations, Equations, ATable, ADiagram, SomeVectors, DontCareSection, Statement, Statements, Branch, OtherBranch, Choices, StateTree, RowTree, SectionTree, Otherwise}
-use Rattle.abel_meaning.specs.Terms.{Term, term_of}
 use Rattle.abel_meaning.specs.Targets.{targets_of, some_signals}
 use Rattle.abel_tree.specs.Assigned.{target_extension, is_clocked}
-use Rattle.abel_meaning.specs.Designs.{Context, Design}
-use Rattle.abel_meaning.specs.Numbers.{width_of, digits}
-use Rattle.abel_meaning.specs.Values.{constant_of}
-use Rattle.abel_meaning.specs.Contributions.{Evaluator, condition, Gives, One, Contribution, Guard, guarded, contribution}
 use Rattle.abel_meaning.specs.Statements.{sign_gives, given_each, statement_gives, else_gives, statements_give}
 use Rattle.abel_meaning.specs.Rows.{entry_levels}
 use Rattle.abel_meaning.specs.Tables.{literal, agrees, row_matches, level_gives, match_of, outputs_given, rows_give, no_matches, table_gives}
 use Rattle.abel_meaning.specs.Diagrams.{registers_equal, is_state, goal_gives, branch_gives, other_gives, choices_give, branches_give, in_state, state_gives, states_give, is_other, once, first_of_each, state_matches, other_matches, with_others, registers_given, diagram_gives, with_statements}
 use Rattle.abel_meaning.specs.Directives.{after_section}
 use Rattle.abel_meaning.specs.Sections.{next_block, unguarded, section_gives, sections_give, contributions}
-use Rattle.abel_meaning.specs.Follows.{Follows, seen, seen_guard}
 
 module _ {V W : Type 0} (h : V → W) (ev : Evaluator V) (fv : Evaluator W) (l : Follows h ev fv) (d : Context) where
   -- two parts that are seen alike

@@ -1,12 +1,6 @@
 -- Sums of words of formulas have the values of the arithmetic on numbers.
-use Rattle.std.proofs.Common.{◌≡◌, ℕ, zero, suc, ◌+◌, ◌*◌, ◌/◌, ◌%◌, ◌≤◌, Bool, true, false, ◌&&◌, ◌||◌, List, [], ◌∷◌, map, refl, sym, ap, ap₂, ◌∙◌, arith}
-use Rattle.std.specs.Prelude.{◌==◌}
-use Rattle.pld_base.specs.Points.{Levels}
-use Rattle.abel_meaning.specs.Numbers.{digits_low_first, one_bit}
-use Rattle.bit_expr.specs.Formulas.{Formula, formula_value, differ}
-use Rattle.bit_expr.proofs.FoldingValues.{and_value, or_value, xor_value}
-use Rattle.bit_expr.specs.Folding.{make_and, make_or, make_xor}
-use Rattle.abel_meaning.specs.BitWords.{Word, sum_bit, next_carry, sum_bits}
+use Rattle.std.proofs.Common.{◌≡◌, ℕ, zero, suc, ◌+◌, ◌*◌, ◌/◌, ◌%◌, ◌≤◌, Bool, true, false, ◌&&◌, ◌||◌, List, [], ◌∷◌, map, refl, sym, ap, ap₂, ◌∙◌, arith, ◌==◌}
+use Rattle.abel_meaning.proofs.Common.{Levels, digits_low_first, one_bit, Formula, formula_value, differ, and_value, or_value, xor_value, make_and, make_or, make_xor, Word, sum_bit, next_carry, sum_bits}
 
 -- the sum of a position, and its carry, as truth values
 abbrev pub sum_of : Bool → Bool → Bool → Bool

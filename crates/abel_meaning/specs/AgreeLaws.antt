@@ -1,10 +1,7 @@
 -- That formulas and values agree at every point: for expressions, contributions, functions and controls; and that what a
 -- function allows are the values of its signal (this project's rule; laws.rt states them).
 use Rattle.std.specs.Prelude.{◌≡◌, ℕ, Bool, map}
-use Rattle.std.specs.Option.{option_map}
-use Rattle.pld_base.specs.Points.{Levels}
-use Rattle.bit_expr.specs.Formulas.{formula_value}
-use Rattle.abel_tree.specs.declared.words.Extension.{Extension}
+use Rattle.abel_meaning.specs.Prelude.{option_map, Levels, formula_value, Extension}
 use Rattle.abel_meaning.specs.Terms.{Term}
 use Rattle.abel_meaning.specs.Designs.{Context, Design}
 use Rattle.abel_meaning.specs.AllowedValues.{allowed_values}

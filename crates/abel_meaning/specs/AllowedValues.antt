@@ -1,10 +1,7 @@
 -- The values that a signal may have at a point, as sets (ABEL-HDL Reference Manual, equations and don't-care; how
 -- contributions to a name are joined with those to its complement is this project's rule).
 use Rattle.std.specs.Prelude.{ℕ, Bool, true, false, not, ◌&&◌, ◌||◌, if◌then◌else◌, List, [], ◌∷◌}
-use Rattle.std.specs.List.{list_any}
-use Rattle.pld_base.specs.Bits.{same_level}
-use Rattle.pld_base.specs.Points.{Levels}
-use Rattle.pld_device.specs.Macrocells.{complement_if}
+use Rattle.abel_meaning.specs.Prelude.{list_any, same_level, Levels, complement_if}
 use Rattle.abel_meaning.specs.AtPoints.{truth_at, given_at}
 use Rattle.abel_meaning.specs.Contributions.{Evaluator, One, Any, Contribution}
 use Rattle.abel_meaning.specs.Designs.{Design}

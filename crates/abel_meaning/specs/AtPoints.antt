@@ -1,6 +1,6 @@
 -- What a module contributes at a point (ABEL-HDL Reference Manual, equations).
 use Rattle.std.specs.Prelude.{Bool, not, ◌&&◌, ◌||◌, List}
-use Rattle.pld_base.specs.Points.{Levels}
+use Rattle.abel_meaning.specs.Prelude.{Levels}
 use Rattle.abel_meaning.specs.Designs.{Context, Design}
 use Rattle.abel_meaning.specs.Numbers.{digits, met}
 use Rattle.abel_meaning.specs.Values.{term_value}

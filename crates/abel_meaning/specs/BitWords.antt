@@ -1,10 +1,7 @@
 -- Words of bit formulas, position 0 first: sums, relations and operators (this project's rule: ripple carry and compare).
 use Rattle.std.specs.Prelude.{true, false, List, [], ◌∷◌, map, reverse}
-use Rattle.bit_expr.specs.Folding.{Made, free, ◌>>=◌, make_not, make_and, make_or, make_xor}
-use Rattle.bit_expr.specs.Formulas.{Formula, Const}
-use Rattle.abel_tree.specs.declared.words.Binary.{Binary}
+use Rattle.abel_meaning.specs.Prelude.{Made, free, ◌>>=◌, make_not, make_and, make_or, make_xor, Formula, Const, Binary, Unary}
 use Rattle.abel_tree.specs.declared.words.Binary.TheVariants as binary
-use Rattle.abel_tree.specs.declared.words.Unary.{Unary}
 use Rattle.abel_tree.specs.declared.words.Unary.TheVariants as unary
 
 -- the bits of an expression

@@ -1,12 +1,8 @@
 -- A source under a choice of the polarity of its free registers (ABEL-HDL Reference Manual, ISTYPE; which registers are free,
 -- and that a choice is one for all points, is this project's rule).
 use Rattle.std.specs.Prelude.{ℕ, Bool, false, not, ◌&&◌, Option, None, Some}
-use Rattle.pld_base.specs.Logic.{Logic}
-use Rattle.pld_machine.specs.Comparison.{NodeValues}
+use Rattle.abel_meaning.specs.Prelude.{Logic, NodeValues, Table, Entry, is_stored, ModuleTree}
 use Rattle.pld_machine.specs.Exchanged.{exchanged, exchanged_values}
-use Rattle.pld_device.specs.Table.{Table}
-use Rattle.abel_tree.specs.Entries.{Entry, is_stored}
-use Rattle.abel_tree.specs.Tree.{ModuleTree}
 use Rattle.abel_meaning.specs.Controls.{signal_on}
 use Rattle.abel_meaning.specs.Designs.{Context, design_of, name_at}
 use Rattle.abel_meaning.specs.SourceLogic.{source_logic, source_values}

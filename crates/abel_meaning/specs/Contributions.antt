@@ -1,7 +1,6 @@
 -- Contributions: what equations, rows and branches give to a signal (ABEL-HDL Reference Manual, equations).
 use Rattle.std.specs.Prelude.{ℕ, Bool, false, ◌||◌, Option, None, Some, List, get_or}
-use Rattle.abel_tree.specs.declared.words.Extension.{Extension}
-use Rattle.abel_tree.specs.Entries.{Entry}
+use Rattle.abel_meaning.specs.Prelude.{Extension, Entry}
 use Rattle.abel_meaning.specs.Terms.{Term}
 use Rattle.abel_meaning.specs.Designs.{Context, name_at}
 

@@ -1,16 +1,9 @@
 -- Which cells are enabled, reset and preset, with the defaults of the device (the devices' datasheets, macrocell
 -- diagrams; that registers without an equation share the first one is this project's rule).
 use Rattle.std.specs.Prelude.{ℕ, suc, ◌==◌, Bool, true, false, not, ◌&&◌, Option, None, Some, unwrap_or, if◌then◌else◌, List, [], ◌∷◌, filter, position}
-use Rattle.pld_base.specs.Bits.{is_on}
-use Rattle.pld_base.specs.Points.{Levels}
-use Rattle.pld_device.specs.declared.enable.Enable.{Enable}
+use Rattle.abel_meaning.specs.Prelude.{is_on, Levels, Enable, Kinds, Combinational, Registered, Either, cell_at, Extension, Kind, APin, Entry, is_stored}
 use Rattle.pld_device.specs.declared.enable.Enable.TheVariants as enable
-use Rattle.pld_device.specs.declared.kinds.Kinds.{Kinds}
-use Rattle.pld_device.specs.declared.kinds.Kinds.TheVariants.{Combinational, Registered, Either}
-use Rattle.pld_device.specs.Table.{cell_at}
-use Rattle.abel_tree.specs.declared.words.Extension.{Extension}
 use Rattle.abel_tree.specs.declared.words.Extension.TheVariants as extension
-use Rattle.abel_tree.specs.Entries.{Kind, APin, Entry, is_stored}
 use Rattle.abel_meaning.specs.Designs.{Context, name_at}
 use Rattle.abel_meaning.specs.Contributions.{Evaluator, Contribution}
 use Rattle.abel_meaning.specs.Functions.{some_holds}

@@ -1,8 +1,6 @@
 -- The nodes that the units of tables, diagrams and whole modules make (this project's rule).
 use Rattle.std.specs.Prelude.{ℕ, ◌+◌, Bool, true, false, Option, None, Some, List, [], ◌∷◌, ◌++◌, length, reverse}
-use Rattle.bit_expr.specs.Folding.{Made, free, ◌>>=◌, make_not, make_and}
-use Rattle.bit_expr.specs.Formulas.{Formula, Const}
-use Rattle.abel_tree.specs.Tree.{Tree, statements_of, RowTree, Branch, AGoal, AnIf, ACase, OtherBranch, NoBranch, ABranch, Choices, NoChoice, MoreChoices, StateTree, SectionTree, Equations, ATable, ADiagram}
+use Rattle.abel_meaning.specs.Prelude.{Made, free, ◌>>=◌, make_not, make_and, Formula, Const, Tree, statements_of, RowTree, Branch, AGoal, AnIf, ACase, OtherBranch, NoBranch, ABranch, Choices, NoChoice, MoreChoices, StateTree, SectionTree, Equations, ATable, ADiagram}
 use Rattle.abel_meaning.specs.Terms.{Term, term_of}
 use Rattle.abel_meaning.specs.Terms as term
 use Rattle.abel_meaning.specs.Targets.{targets_of, some_signals}

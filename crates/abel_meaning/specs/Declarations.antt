@@ -1,13 +1,10 @@
 -- What the declarations of a module declare, in their order (ABEL-HDL Reference Manual, declarations and ISTYPE).
 use Rattle.std.specs.Prelude.{ℕ, suc, ◌-◌, ◌==◌, Bool, false, not, ◌||◌, List, [], ◌∷◌, ◌++◌, if◌then◌else◌, map, zip, fold, filter, length, take, drop, bytes_eq, codes}
-use Rattle.std.specs.List.{list_any, slice_split}
+use Rattle.abel_meaning.specs.Prelude.{list_any, slice_split, Kind, APin, ANode, AConstant, ADeviceName, Words, Entry, item_names, numbers_of, Tree, Declaration, ADevice, SomePins, SomeNodes, SomeAttributes, SomeConstants, SomeOptions, DontCareFor, SectionTree, Declarations, ModuleTree}
 use Rattle.std.specs.Str.{str_to_ascii_lowercase}
 use Rattle.pld_base.specs.declared.place.Place.{Place}
 use Rattle.abel_tree.specs.declared.words.Item.{Item}
 use Rattle.abel_tree.specs.declared.words.Word.{Word}
-use Rattle.abel_tree.specs.Entries.{Kind, APin, ANode, AConstant, ADeviceName, Words, Entry}
-use Rattle.abel_tree.specs.Ranges.{item_names, numbers_of}
-use Rattle.abel_tree.specs.Tree.{Tree, Declaration, ADevice, SomePins, SomeNodes, SomeAttributes, SomeConstants, SomeOptions, DontCareFor, SectionTree, Declarations, ModuleTree}
 
 -- ---- words of attributes
 

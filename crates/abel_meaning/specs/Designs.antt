@@ -1,8 +1,6 @@
 -- The design that a module describes for a device (ABEL-HDL Reference Manual, declarations and directives).
 use Rattle.std.specs.Prelude.{ℕ, Bool, false, List, [], ◌∷◌, get_or}
-use Rattle.pld_device.specs.Table.{Table}
-use Rattle.abel_tree.specs.Entries.{ADeviceName, Entry}
-use Rattle.abel_tree.specs.Tree.{Declaration, DontCareFor, SectionTree, ModuleTree}
+use Rattle.abel_meaning.specs.Prelude.{Table, ADeviceName, Entry, Declaration, DontCareFor, SectionTree, ModuleTree}
 use Rattle.abel_meaning.specs.Declarations.{no_words}
 use Rattle.abel_meaning.specs.Kinds.{names_of}
 use Rattle.abel_meaning.specs.Terms.{Known, known_of}

@@ -1,8 +1,8 @@
 -- The device that a module names (ABEL-HDL Reference Manual, DEVICE).
 use Rattle.std.specs.Prelude.{ℕ, ◌-◌, Option, None, List, [], ◌∷◌, ◌++◌, length, take, drop}
+use Rattle.abel_meaning.specs.Prelude.{Declaration, ADevice, ModuleTree}
 use Rattle.pld_base.specs.declared.device_name.DeviceName.{DeviceName}
 use Rattle.pld_base.specs.DeviceNames.{named_device}
-use Rattle.abel_tree.specs.Tree.{Declaration, ADevice, ModuleTree}
 use Rattle.abel_meaning.specs.Declarations.{section_declarations}
 
 -- the bytes between the quotes of a string

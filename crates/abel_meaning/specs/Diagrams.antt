@@ -1,9 +1,7 @@
 -- What state diagrams contribute (ABEL-HDL Reference Manual, state diagrams; that every CASE arm whose condition holds
 -- is taken is this project's rule).
 use Rattle.std.specs.Prelude.{ℕ, ◌==◌, Bool, true, false, not, ◌&&◌, Option, None, Some, List, [], ◌∷◌, ◌++◌, if◌then◌else◌, map, filter, length}
-use Rattle.std.specs.List.{list_any}
-use Rattle.abel_tree.specs.Tree.{Statement, Statements, NoStatement, statements_of, Branch, AGoal, AnIf, ACase, OtherBranch, NoBranch, ABranch, Choices, NoChoice, MoreChoices, StateTree}
-use Rattle.abel_tree.specs.Extensions.{is_data}
+use Rattle.abel_meaning.specs.Prelude.{list_any, Statement, Statements, NoStatement, statements_of, Branch, AGoal, AnIf, ACase, OtherBranch, NoBranch, ABranch, Choices, NoChoice, MoreChoices, StateTree, is_data}
 use Rattle.abel_meaning.specs.Terms.{Term, term_of}
 use Rattle.abel_meaning.specs.Terms as term
 use Rattle.abel_meaning.specs.Targets.{targets_of, some_signals}

@@ -1,6 +1,6 @@
 -- Whether `@DCSET` is in force, from construct to construct (ABEL-HDL Reference Manual, @DCSET and @ONSET).
 use Rattle.std.specs.Prelude.{Bool, List, [], ◌∷◌}
-use Rattle.abel_tree.specs.Tree.{Statement, AnAssign, AWhen, AGroup, ADontCare, Otherwise, NoElse, AnElse, Statements, NoStatement, MoreStatements, statements_of, Branch, AGoal, AnIf, ACase, OtherBranch, NoBranch, ABranch, Choices, NoChoice, MoreChoices, StateTree, SectionTree, Declarations, Equations, ATable, ADiagram, SomeVectors, DontCareSection}
+use Rattle.abel_meaning.specs.Prelude.{Statement, AnAssign, AWhen, AGroup, ADontCare, Otherwise, NoElse, AnElse, Statements, NoStatement, MoreStatements, statements_of, Branch, AGoal, AnIf, ACase, OtherBranch, NoBranch, ABranch, Choices, NoChoice, MoreChoices, StateTree, SectionTree, Declarations, Equations, ATable, ADiagram, SomeVectors, DontCareSection}
 use Rattle.abel_meaning.specs.Designs.{after_declarations}
 use Rattle.abel_meaning.specs.Diagrams.{with_statements}
 

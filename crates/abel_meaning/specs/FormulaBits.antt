@@ -1,9 +1,6 @@
 -- The bit formulas of an expression, position 0 first (this project's rule).
 use Rattle.std.specs.Prelude.{ℕ, zero, suc, Bool, true, false, List, [], ◌∷◌, ◌++◌, map, reverse, replicate}
-use Rattle.bit_expr.specs.declared.node.Leaf.{Leaf}
-use Rattle.bit_expr.specs.Folding.{Made, free, fresh, ◌>>=◌, make_not, make_and, make_or}
-use Rattle.bit_expr.specs.Formulas.{Formula, Const, Read}
-use Rattle.abel_tree.specs.declared.words.Binary.{Binary}
+use Rattle.abel_meaning.specs.Prelude.{Leaf, Made, free, fresh, ◌>>=◌, make_not, make_and, make_or, Formula, Const, Read, Binary}
 use Rattle.abel_meaning.specs.Terms.{Term, Terms}
 use Rattle.abel_meaning.specs.Terms as term
 use Rattle.abel_meaning.specs.Designs.{Context}

@@ -1,10 +1,7 @@
 -- What all contributions to a signal amount to (ABEL-HDL Reference Manual, equations and don't-care; how contributions to
 -- a name are joined with those to its complement is this project's rule).
 use Rattle.std.specs.Prelude.{ℕ, ◌==◌, Bool, true, false, not, ◌&&◌, ◌||◌, is_some, if◌then◌else◌, List, fold, filter}
-use Rattle.std.specs.List.{list_any, list_all}
-use Rattle.pld_base.specs.Bits.{same_level}
-use Rattle.pld_device.specs.Macrocells.{complement_if}
-use Rattle.abel_tree.specs.Extensions.{is_data, is_raw}
+use Rattle.abel_meaning.specs.Prelude.{list_any, list_all, same_level, complement_if, is_data, is_raw}
 use Rattle.abel_meaning.specs.Contributions.{Evaluator, Gives, One, Any, Match, Contribution}
 
 -- where a signal is one, and where it may be anything; said of its complement where `complement` is true

@@ -1,12 +1,8 @@
 -- The declared names with their kinds and polarities (ABEL-HDL Reference Manual, ISTYPE; the defaults are this
 -- project's rule).
 use Rattle.std.specs.Prelude.{ℕ, suc, Bool, true, false, not, ◌&&◌, ◌||◌, List, [], ◌∷◌, if◌then◌else◌}
+use Rattle.abel_meaning.specs.Prelude.{Always, AfterRegister, BeforeRegister, Table, Assigned, named_of, sections_assign, is_assigned, is_clocked_target, Words, Entry, is_signal, SectionTree, ModuleTree}
 use Rattle.pld_device.specs.declared.flip.Flip.{Flip}
-use Rattle.pld_device.specs.declared.flip.Flip.TheVariants.{Always, AfterRegister, BeforeRegister}
-use Rattle.pld_device.specs.Table.{Table}
-use Rattle.abel_tree.specs.Assigned.{Assigned, named_of, sections_assign, is_assigned, is_clocked_target}
-use Rattle.abel_tree.specs.Entries.{Words, Entry, is_signal}
-use Rattle.abel_tree.specs.Tree.{SectionTree, ModuleTree}
 use Rattle.abel_meaning.specs.Declarations.{declared_names}
 use Rattle.abel_meaning.specs.Held.{Holds, holds_of, is_held}
 

@@ -21,6 +21,7 @@ pub mod NetlistLogic
 pub mod NetlistReads
 pub mod Netlists
 pub mod Numbers
+pub mod Prelude
 pub mod Rows
 pub mod Sections
 pub mod SignalReads

@@ -1,16 +1,7 @@
 -- A netlist as a logic: what it drives, releases and stores in a device (this project's rule).
 use Rattle.std.specs.Prelude.{ℕ, Bool, true, false, not, nat_lt, if◌then◌else◌, Option, None, Some, unwrap_or, length}
-use Rattle.pld_base.specs.Bits.{is_on, same_level}
-use Rattle.pld_base.specs.Points.{Levels}
-use Rattle.pld_base.specs.Logic.{Logic}
-use Rattle.pld_machine.specs.Comparison.{NodeValues}
-use Rattle.pld_device.specs.declared.enable.Enable.{Enable}
-use Rattle.pld_device.specs.declared.enable.Enable.TheVariants.{Row, PinLow}
-use Rattle.pld_device.specs.declared.kinds.Kinds.{Kinds}
-use Rattle.pld_device.specs.Macrocells.{complement_if}
+use Rattle.abel_meaning.specs.Prelude.{is_on, same_level, Levels, Logic, NodeValues, Enable, Row, PinLow, Kinds, complement_if, Table, cell_at, Formula, Const, formula_value}
 use Rattle.pld_device.specs.Registers.{stores_by}
-use Rattle.pld_device.specs.Table.{Table, cell_at}
-use Rattle.bit_expr.specs.Formulas.{Formula, Const, formula_value}
 use Rattle.abel_meaning.specs.Functions.{allows, value_with_any_0}
 use Rattle.abel_meaning.specs.Netlists.{Wanted, PlainNetlist, node_at, wanted_at, function_at, as_named, own_or_shared}
 

@@ -1,9 +1,6 @@
 -- What the signals of a netlist read while it comes to rest, and what its resets read (this project's rule).
 use Rattle.std.specs.Prelude.{ℕ, ◌+◌, ◌-◌, Bool, false, not, ◌&&◌, ◌||◌, nat_lt, if◌then◌else◌, Option, None, Some, length}
-use Rattle.std.specs.List.{list_any}
-use Rattle.pld_device.specs.Table.{Table, cell_at}
-use Rattle.pld_order.specs.Graphs.{HasNoLoop, HasNoPath}
-use Rattle.bit_expr.specs.declared.node.Leaf.{Leaf}
+use Rattle.abel_meaning.specs.Prelude.{list_any, Table, cell_at, HasNoLoop, HasNoPath, Leaf}
 use Rattle.bit_expr.specs.declared.node.Leaf.TheVariants as leaf
 use Rattle.abel_meaning.specs.Netlists.{Wanted, PlainNetlist, node_at, wanted_at}
 use Rattle.abel_meaning.specs.NetlistLogic.{netlist_stores}

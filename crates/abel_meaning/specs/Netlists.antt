@@ -1,14 +1,6 @@
 -- Netlists over formulas: what a design asks of the cells and nodes of a device (this project's rule).
 use Rattle.std.specs.Prelude.{ℕ, Bool, false, not, ◌&&◌, ◌==◌, nat_lt, if◌then◌else◌, Option, None, Some, is_some, unwrap_or, List, [], ◌∷◌, find, get_or, map}
-use Rattle.std.specs.Option.{option_map}
-use Rattle.pld_base.specs.Points.{Levels}
-use Rattle.pld_device.specs.Macrocells.{complement_if}
-use Rattle.bit_expr.specs.declared.netlist.CellWanted.{CellWanted}
-use Rattle.bit_expr.specs.declared.netlist.Control.{Control}
-use Rattle.bit_expr.specs.declared.netlist.Function.{Function as IdFunction}
-use Rattle.bit_expr.specs.declared.netlist.Netlist.{Netlist}
-use Rattle.bit_expr.specs.Arena.{arena, formula_at}
-use Rattle.bit_expr.specs.Formulas.{Formula, Const, formula_value}
+use Rattle.abel_meaning.specs.Prelude.{option_map, Levels, complement_if, CellWanted, Control, IdFunction, Netlist, arena, formula_at, Formula, Const, formula_value}
 use Rattle.abel_meaning.specs.Functions.{Function, function_seen}
 
 -- an assigned cell. `name` is its signal's number in the order of declaration; `negated` says that the name is the

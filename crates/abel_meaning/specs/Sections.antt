@@ -1,6 +1,6 @@
 -- What all sections of a module contribute (ABEL-HDL Reference Manual, sections of a module).
 use Rattle.std.specs.Prelude.{ℕ, suc, Bool, true, Option, None, Some, List, [], ◌∷◌, ◌++◌}
-use Rattle.abel_tree.specs.Tree.{statements_of, SectionTree, Equations, ATable, ADiagram}
+use Rattle.abel_meaning.specs.Prelude.{statements_of, SectionTree, Equations, ATable, ADiagram}
 use Rattle.abel_meaning.specs.Terms.{term_of}
 use Rattle.abel_meaning.specs.Designs.{Context, Design}
 use Rattle.abel_meaning.specs.Contributions.{Evaluator, Contribution, Guard}

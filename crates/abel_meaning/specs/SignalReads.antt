@@ -1,13 +1,8 @@
 -- Which signals a signal reads, loops, and paths from a reset to a register (this project's rule).
 use Rattle.std.specs.Prelude.{ℕ, Bool, true, false, not, ◌&&◌, ◌||◌, Option, None, Some, List, length, if◌then◌else◌}
-use Rattle.std.specs.Option.{option_map}
-use Rattle.pld_order.specs.Graphs.{IsLeastLoop, HasNoLoop, IsPath, HasNoPath}
-use Rattle.bit_expr.specs.declared.node.Leaf.{Leaf}
+use Rattle.abel_meaning.specs.Prelude.{option_map, IsLeastLoop, HasNoLoop, IsPath, HasNoPath, Leaf, Formula, names, Kind, APin, ANode, Entry, is_stored, cell_on}
 use Rattle.bit_expr.specs.declared.node.Leaf.TheVariants as leaf
-use Rattle.bit_expr.specs.Formulas.{Formula, names}
 use Rattle.abel_tree.specs.declared.words.Extension.TheVariants as extension
-use Rattle.abel_tree.specs.Entries.{Kind, APin, ANode, Entry, is_stored}
-use Rattle.pld_device.specs.Pins.{cell_on}
 use Rattle.abel_meaning.specs.Designs.{Context, Design, name_at}
 use Rattle.abel_meaning.specs.Contributions.{Contribution}
 use Rattle.abel_meaning.specs.Sections.{contributions}

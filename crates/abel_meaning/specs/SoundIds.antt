@@ -1,14 +1,8 @@
 -- Netlists over an arena that a device can take: their ids lie in it, and their pairs are the device's (this
 -- project's rule).
 use Rattle.std.specs.Prelude.{◌≡◌, ℕ, ◌<◌, ◌==◌, Option, Some, None, length, All, get_or, position, unwrap_or}
-use Rattle.pld_device.specs.Pins.{carries_cell, pair_pins}
-use Rattle.pld_device.specs.Table.{Table}
-use Rattle.bit_expr.specs.declared.netlist.CellWanted.{CellWanted}
-use Rattle.bit_expr.specs.declared.netlist.Control.{Control}
-use Rattle.bit_expr.specs.declared.netlist.Function.{Function}
-use Rattle.bit_expr.specs.declared.netlist.Netlist.{Netlist}
+use Rattle.abel_meaning.specs.Prelude.{carries_cell, pair_pins, Table, CellWanted, Control, Function, Netlist, arena}
 use Rattle.bit_expr.specs.declared.node.ExprId.{ExprId}
-use Rattle.bit_expr.specs.Arena.{arena}
 use Rattle.abel_meaning.specs.Netlists.{plain_netlist}
 use Rattle.abel_meaning.specs.Soundness.{IsSound}
 

@@ -1,15 +1,8 @@
 -- Netlists that a device can take (this project's rule).
 use Rattle.std.specs.Prelude.{◌≡◌, ◌≢◌, ℕ, ◌<◌, ◌≤◌, Bool, true, false, Option, None, Some, IsSome, length, All, AllPairs, slice_get}
 use Rattle.pld_device.specs.declared.carry.Carry.TheVariants as carry
-use Rattle.pld_device.specs.declared.enable.Enable.TheVariants.{PinLow}
-use Rattle.pld_device.specs.declared.flip.Flip.TheVariants.{AfterRegister}
-use Rattle.pld_device.specs.declared.kinds.Kinds.{Kinds}
-use Rattle.pld_device.specs.declared.kinds.Kinds.TheVariants.{Combinational, Registered, Either}
-use Rattle.pld_device.specs.Pins.{IsPairOf}
-use Rattle.pld_device.specs.Table.{Table, cell_at}
-use Rattle.bit_expr.specs.declared.node.Leaf.{Leaf}
+use Rattle.abel_meaning.specs.Prelude.{PinLow, AfterRegister, Kinds, Combinational, Registered, Either, IsPairOf, Table, cell_at, Leaf, Formula, names}
 use Rattle.bit_expr.specs.declared.node.Leaf.TheVariants as leaf
-use Rattle.bit_expr.specs.Formulas.{Formula, names}
 use Rattle.abel_meaning.specs.Functions.{Function}
 use Rattle.abel_meaning.specs.Netlists.{Wanted, PlainNetlist, wanted_at}
 use Rattle.abel_meaning.specs.NetlistLogic.{netlist_stores}

@@ -1,14 +1,7 @@
 -- A design as a logic: what it asks of each point (ABEL-HDL Reference Manual, equations; the devices' datasheets).
 use Rattle.std.specs.Prelude.{ℕ, ◌==◌, Bool, true, false, not, if◌then◌else◌, Option, None, Some, is_some, List, length, position}
-use Rattle.pld_base.specs.Bits.{is_on, same_level}
-use Rattle.pld_base.specs.Points.{Levels}
-use Rattle.pld_base.specs.Logic.{Logic}
-use Rattle.pld_machine.specs.Comparison.{NodeValues}
-use Rattle.pld_device.specs.Macrocells.{complement_if}
-use Rattle.pld_device.specs.Table.{Table, cell_at}
+use Rattle.abel_meaning.specs.Prelude.{is_on, same_level, Levels, Logic, NodeValues, complement_if, Table, cell_at, Kind, APin, ANode, Entry, is_stored, follows_q, ModuleTree}
 use Rattle.abel_tree.specs.declared.words.Extension.TheVariants as extension
-use Rattle.abel_tree.specs.Entries.{Kind, APin, ANode, Entry, is_stored, follows_q}
-use Rattle.abel_tree.specs.Tree.{ModuleTree}
 use Rattle.abel_meaning.specs.Designs.{Context, Design, design_of, name_at}
 use Rattle.abel_meaning.specs.Contributions.{Contribution}
 use Rattle.abel_meaning.specs.AtPoints.{truth_at, given_at}

@@ -1,16 +1,9 @@
 -- What a signal's name reads, bare or with an extension (the devices' datasheets, macrocell diagrams; what has the
 -- value 0 is this project's rule).
 use Rattle.std.specs.Prelude.{ℕ, Bool, true, false, not, Option, None, Some}
-use Rattle.pld_base.specs.Points.{Levels}
-use Rattle.pld_device.specs.Macrocells.{complement_if}
-use Rattle.pld_device.specs.Table.{Table}
-use Rattle.bit_expr.specs.declared.node.Leaf.{Leaf}
+use Rattle.abel_meaning.specs.Prelude.{Levels, complement_if, Table, Leaf, leaf_value, Extension, Kind, APin, ANode, AConstant, ADeviceName, Entry, is_stored, follows_q, cell_on}
 use Rattle.bit_expr.specs.declared.node.Leaf.TheVariants as leaf
-use Rattle.bit_expr.specs.Formulas.{leaf_value}
-use Rattle.abel_tree.specs.declared.words.Extension.{Extension}
 use Rattle.abel_tree.specs.declared.words.Extension.TheVariants as extension
-use Rattle.abel_tree.specs.Entries.{Kind, APin, ANode, AConstant, ADeviceName, Entry, is_stored, follows_q}
-use Rattle.pld_device.specs.Pins.{cell_on}
 use Rattle.abel_meaning.specs.Designs.{Context, name_at}
 
 -- what is read: 0, or what a leaf carries, or its complement

@@ -1,10 +1,8 @@
 -- What statements contribute (ABEL-HDL Reference Manual, equations and WHEN-THEN-ELSE).
 use Rattle.std.specs.Prelude.{ℕ, Bool, Option, None, Some, List, [], ◌∷◌, ◌++◌, length}
-use Rattle.abel_tree.specs.declared.words.Extension.{Extension}
+use Rattle.abel_meaning.specs.Prelude.{Extension, target_extension, is_clocked, Statement, AnAssign, AWhen, AGroup, ADontCare, Otherwise, NoElse, AnElse, Statements, NoStatement, MoreStatements}
 use Rattle.abel_tree.specs.declared.words.Sign.{Sign}
 use Rattle.abel_tree.specs.declared.words.Sign.TheVariants as sign
-use Rattle.abel_tree.specs.Assigned.{target_extension, is_clocked}
-use Rattle.abel_tree.specs.Tree.{Statement, AnAssign, AWhen, AGroup, ADontCare, Otherwise, NoElse, AnElse, Statements, NoStatement, MoreStatements}
 use Rattle.abel_meaning.specs.Terms.{term_of}
 use Rattle.abel_meaning.specs.Targets.{targets_of}
 use Rattle.abel_meaning.specs.Designs.{Context}

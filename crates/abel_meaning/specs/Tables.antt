@@ -1,6 +1,6 @@
 -- What truth tables contribute (ABEL-HDL Reference Manual, truth tables).
 use Rattle.std.specs.Prelude.{ℕ, Bool, true, false, Option, None, Some, List, [], ◌∷◌, ◌++◌, reverse}
-use Rattle.abel_tree.specs.Tree.{RowTree}
+use Rattle.abel_meaning.specs.Prelude.{RowTree}
 use Rattle.abel_meaning.specs.Terms.{Term, term_of}
 use Rattle.abel_meaning.specs.Targets.{targets_of}
 use Rattle.abel_meaning.specs.Designs.{Context}

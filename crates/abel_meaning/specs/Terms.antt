@@ -1,12 +1,7 @@
 -- Expressions over signals: constants stand for their expressions, ranges for their names, an extension at each
 -- signal (ABEL-HDL Reference Manual, sets and constants).
 use Rattle.std.specs.Prelude.{ℕ, suc, Option, None, Some, List, [], ◌∷◌, ◌++◌, if◌then◌else◌, bytes_eq, codes}
-use Rattle.abel_tree.specs.declared.words.Binary.{Binary}
-use Rattle.abel_tree.specs.declared.words.Extension.{Extension}
-use Rattle.abel_tree.specs.declared.words.Unary.{Unary}
-use Rattle.abel_tree.specs.Entries.{Kind, APin, ANode, AConstant, ADeviceName, Entry}
-use Rattle.abel_tree.specs.Ranges.{range_names}
-use Rattle.abel_tree.specs.Tree.{Tree, ANumber, ASpecial, AName, ASet, AParen, AUnary, ABinary, SetMember, OneMember, SpanMember, Members, NoMember, MoreMembers}
+use Rattle.abel_meaning.specs.Prelude.{Binary, Extension, Unary, Kind, APin, ANode, AConstant, ADeviceName, Entry, range_names, Tree, ANumber, ASpecial, AName, ASet, AParen, AUnary, ABinary, SetMember, OneMember, SpanMember, Members, NoMember, MoreMembers}
 
 -- a number, a position that is X, .C. and .Z. (which have no value), a signal by its place in the list of names, a
 -- set, an operator

@@ -1,12 +1,8 @@
 -- The value of an expression at a point, by arithmetic (ABEL-HDL Reference Manual, operators). What is refused has
 -- some value too.
 use Rattle.std.specs.Prelude.{ℕ, ◌+◌, ◌-◌, ◌*◌, ◌/◌, ◌%◌, ◌^◌, min, ◌==◌, nat_lt, nat_le, Bool, true, false, not, ◌&&◌, ◌||◌, List, [], ◌∷◌, ◌++◌, map, replicate}
-use Rattle.pld_base.specs.Bits.{same_level}
-use Rattle.pld_base.specs.Points.{Levels}
-use Rattle.bit_expr.specs.Formulas.{differ}
-use Rattle.abel_tree.specs.declared.words.Binary.{Binary}
+use Rattle.abel_meaning.specs.Prelude.{same_level, Levels, differ, Binary, Unary}
 use Rattle.abel_tree.specs.declared.words.Binary.TheVariants as binary
-use Rattle.abel_tree.specs.declared.words.Unary.{Unary}
 use Rattle.abel_tree.specs.declared.words.Unary.TheVariants as unary
 use Rattle.abel_meaning.specs.Terms.{Term, Terms}
 use Rattle.abel_meaning.specs.Terms as term

@@ -1,11 +1,7 @@
 -- The test vectors of a module, as the characters of its pins (ABEL-HDL Reference Manual, test vectors; JESD3-C, test
 -- vector field; what a pin has that no entry speaks of is this project's rule).
 use Rattle.std.specs.Prelude.{ℕ, ◌==◌, Bool, true, false, ◌||◌, Option, None, Some, if◌then◌else◌, List, [], ◌∷◌, ◌++◌, map, get_or, codes}
-use Rattle.std.specs.List.{range_with_len}
-use Rattle.pld_device.specs.Macrocells.{complement_if}
-use Rattle.pld_device.specs.Table.{Table}
-use Rattle.abel_tree.specs.Entries.{Kind, APin}
-use Rattle.abel_tree.specs.Tree.{RowTree, SectionTree, SomeVectors, ModuleTree}
+use Rattle.abel_meaning.specs.Prelude.{range_with_len, complement_if, Table, Kind, APin, RowTree, SectionTree, SomeVectors, ModuleTree}
 use Rattle.abel_meaning.specs.Terms.{Term, term_of}
 use Rattle.abel_meaning.specs.Targets.{targets_of}
 use Rattle.abel_meaning.specs.Designs.{Context, Design, design_of, name_at}
