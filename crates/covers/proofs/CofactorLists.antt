@@ -1,12 +1,6 @@
 -- Cofactors of lists that grow: one more cube, read from a list that has grown since; and what was appended.
 use Rattle.std.proofs.Common.{◌≡◌, ℕ, ◌+◌, ◌<◌, ◌≤◌, List, [], ◌∷◌, ◌++◌, length, get_or, Some, slice_get, slice_range, refl, sym, ap, ◌∙◌, append_assoc, arith}
-use Rattle.std.proofs.lemmas.List.{drop_at, map-append, get_or_append_left}
-use Rattle.std.proofs.lemmas.Slice.{between_to_end}
-use Rattle.std.proofs.lemmas.Option.{get_or_from_slice_get}
-use Rattle.std.proofs.lemmas.List.Elements.{filter-append}
-use Rattle.std.proofs.lemmas.List.Edits.{between_more}
-use Rattle.covers.specs.declared.cube.Cube.{Cube}
-use Rattle.covers.specs.Cofactors.{cofactor_of}
+use Rattle.covers.proofs.Common.{drop_at, map-append, get_or_append_left, between_to_end, get_or_from_slice_get, filter-append, between_more, Cube, cofactor_of}
 
 cofactor_of-append : (by : Cube) (xs ys : List Cube) → cofactor_of by (xs ++ ys) ≡ cofactor_of by xs ++ cofactor_of by ys
 cofactor_of-append by xs ys = rw (filter-append, map-append) refl

@@ -1,16 +1,7 @@
 -- The points that a cube has in common with another, and with those of a list.
-use Rattle.std.proofs.Common.{◌≡◌, ℕ, ◌+◌, ◌-◌, ◌<◌, ◌≤◌, Bool, true, false, inl, inr, List, [], ◌∷◌, ◌++◌, length, get_or, slice_range, refl, sym, ap, ◌∙◌, arith}
-use Rattle.std.specs.Prelude.{IsTrue, ◌↔◌}
-use Rattle.std.specs.List.{list_any}
-use Rattle.std.proofs.lemmas.Bool.{and_from, and_parts}
-use Rattle.std.proofs.lemmas.Nat.{or_lt}
-use Rattle.std.proofs.lemmas.List.Edits.{between_none, between_more, length-between, get_or-between}
-use Rattle.std.proofs.lemmas.List.Folds.{list_any_at}
-use Rattle.covers.specs.declared.cube.Cube.{Cube}
-use Rattle.covers.specs.Cubes.{has_point, full_cube, lies_in, meets, union, AsksBelow}
-use Rattle.covers.specs.Covers.{CoversCube}
+use Rattle.std.proofs.Common.{◌≡◌, ℕ, ◌+◌, ◌-◌, ◌<◌, ◌≤◌, Bool, true, false, inl, inr, List, [], ◌∷◌, ◌++◌, length, get_or, slice_range, refl, sym, ap, ◌∙◌, arith, IsTrue, ◌↔◌}
+use Rattle.covers.proofs.Common.{list_any, and_from, and_parts, or_lt, between_none, between_more, length-between, get_or-between, list_any_at, Cube, has_point, full_cube, lies_in, meets, union, AsksBelow, CoversCube, CoversBoth, CoversCommon}
 use Rattle.covers.proofs.CubePoints.{apart, union_points}
-use Rattle.covers.specs.Expanded.{CoversBoth, CoversCommon}
 use Rattle.covers.proofs.ExpandedRows.{lies_in_row, push_cases}
 
 -- cubes that don't meet have no point in common

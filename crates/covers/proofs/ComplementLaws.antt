@@ -1,15 +1,8 @@
 -- The points of a literal's cofactor and of a cube's complement.
 use Rattle.std.proofs.Common.{◌≡◌, ℕ, zero, suc, ◌+◌, ◌<◌, ◌≤◌, min, Bool, true, false, not, ◌&&◌, ◌||◌, ◌==◌, if◌then◌else◌, inl, inr, List, [], ◌∷◌, ◌++◌, length, slice_range, refl, sym, ap, ◌∙◌, arith, append_assoc, append-nil, length-append}
-use Rattle.std.specs.Int.{bit_at}
-use Rattle.std.proofs.lemmas.Bool.{cases_eq, ne_eqb, and_parts, and_from}
-use Rattle.std.proofs.lemmas.List.Folds.{list_any-append}
-use Rattle.std.proofs.lemmas.Nat.Bits.{bit_at-lt}
-use Rattle.pld_base.specs.Bits.{is_on, same_level}
-use Rattle.covers.specs.declared.cube.Cube.{Cube}
-use Rattle.covers.specs.Cubes.{asks, fits, has_point, covers, is_empty, literal_cube}
+use Rattle.covers.proofs.Common.{bit_at, cases_eq, ne_eqb, and_parts, and_from, list_any-append, bit_at-lt, is_on, same_level, Cube, asks, fits, has_point, covers, is_empty, literal_cube, cofactor_of, complement_of, opposites_at, IsCofactor}
 use Rattle.covers.proofs.CubeBits.{literal_below, single_each}
 use Rattle.covers.proofs.CubePoints.{fits_at, has_point_each, literal_has, literal_points}
-use Rattle.covers.specs.Cofactors.{cofactor_of, complement_of, opposites_at, IsCofactor}
 use Rattle.covers.proofs.CofactorLists.{appended}
 use Rattle.covers.proofs.MovedPoints.{covers-cofactor}
 

@@ -1,13 +1,6 @@
 -- What the tests on the bits of cubes say of each variable.
-use Rattle.std.proofs.Common.{◌≡◌, ◌≢◌, ℕ, ◌-◌, ◌^◌, ◌<◌, min, Bool, true, false, ◌==◌, ◌⊎◌, eqb, inl, inr, if◌then◌else◌, sym, ap, ◌∙◌, arith}
-use Rattle.std.specs.Prelude.{bit_and}
-use Rattle.std.specs.Int.{bit_at, bit_not, w32, trailing_zeros}
-use Rattle.std.proofs.lemmas.Bool.{and_parts, and_cases, not-true, not-false, eqb-true, eqb-false, cases_lt}
-use Rattle.std.proofs.Math.Pow.{pow-lt}
-use Rattle.std.proofs.lemmas.Nat.{and_le_l, pow_pos}
-use Rattle.std.proofs.lemmas.Nat.Bits.{bit_at-lt, bit_at-zero, bit_at_and, bit_at_not, bit_at_above, bit_at-trailing_zeros, bit_at-pow_same, bit_at-pow_other}
-use Rattle.covers.specs.declared.cube.Cube.{Cube}
-use Rattle.covers.specs.Cubes.{AsksBelow, is_empty, literal_cube, meets}
+use Rattle.std.proofs.Common.{◌≡◌, ◌≢◌, ℕ, ◌-◌, ◌^◌, ◌<◌, min, Bool, true, false, ◌==◌, ◌⊎◌, eqb, inl, inr, if◌then◌else◌, sym, ap, ◌∙◌, arith, bit_and}
+use Rattle.covers.proofs.Common.{bit_at, bit_not, w32, trailing_zeros, and_parts, and_cases, not-true, not-false, eqb-true, eqb-false, cases_lt, pow-lt, and_le_l, pow_pos, bit_at-lt, bit_at-zero, bit_at_and, bit_at_not, bit_at_above, bit_at-trailing_zeros, bit_at-pow_same, bit_at-pow_other, Cube, AsksBelow, is_empty, literal_cube, meets}
 
 -- ---- one bit of a number
 

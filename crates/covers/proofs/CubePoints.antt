@@ -1,14 +1,6 @@
 -- What the tests on the bits of cubes say of points.
-use Rattle.std.proofs.Common.{◌≡◌, ℕ, zero, suc, ◌+◌, ◌-◌, ◌^◌, ◌<◌, ◌≤◌, min, max, Bool, true, false, ◌&&◌, eqb, inl, inr, if◌then◌else◌, List, [], ◌∷◌, length, refl, sym, ap, ◌∙◌, arith}
-use Rattle.std.specs.Prelude.{bit_and}
-use Rattle.std.specs.Int.{bit_at}
-use Rattle.std.proofs.Math.Pow.{pow_mono}
-use Rattle.std.proofs.lemmas.Bool.{and_parts, and_from, cases_Bool, cases_eq, eqb-true, false≢true, true_from_ne_false, false_from_ne_true}
-use Rattle.std.proofs.lemmas.Bool.Decides.{nat_tests}
-use Rattle.std.proofs.lemmas.Nat.Bits.{bit_at-lt, bit_at-zero, bit_at_and, bit_at_or}
-use Rattle.pld_base.specs.Bits.{is_on, same_level}
-use Rattle.covers.specs.declared.cube.Cube.{Cube}
-use Rattle.covers.specs.Cubes.{Grows, fits, has_from, has_point, full_cube, is_empty, lies_in, literal_cube, meets, union, without, AsksBelow}
+use Rattle.std.proofs.Common.{◌≡◌, ℕ, zero, suc, ◌+◌, ◌-◌, ◌^◌, ◌<◌, ◌≤◌, min, max, Bool, true, false, ◌&&◌, eqb, inl, inr, if◌then◌else◌, List, [], ◌∷◌, length, refl, sym, ap, ◌∙◌, arith, bit_and}
+use Rattle.covers.proofs.Common.{bit_at, pow_mono, and_parts, and_from, cases_Bool, cases_eq, eqb-true, false≢true, true_from_ne_false, false_from_ne_true, nat_tests, bit_at-lt, bit_at-zero, bit_at_and, bit_at_or, is_on, same_level, Cube, Grows, fits, has_from, has_point, full_cube, is_empty, lies_in, literal_cube, meets, union, without, AsksBelow}
 use Rattle.covers.proofs.CubeBits.{bit_below, bit_at_without, literal_same, literal_other, meets_each, empty_at, apart_at}
 
 -- ---- a point of a cube, variable by variable

@@ -1,19 +1,7 @@
 -- Rows that are expanded one after another, at the end of a pool.
 use Rattle.std.proofs.Common.{◌≡◌, ℕ, ◌+◌, ◌-◌, ◌<◌, ◌≤◌, Bool, true, false, ◌⊎◌, inl, inr, List, [], ◌∷◌, ◌++◌, length, get_or, take, drop, Some, slice_get, slice_range, sym, ap, ◌∙◌, arith}
-use Rattle.std.specs.List.{list_any}
-use Rattle.std.proofs.lemmas.Bool.{or_cases, or_left, or_right}
-use Rattle.std.proofs.lemmas.Option.{get_or_from_slice_get}
-use Rattle.std.proofs.lemmas.List.{take-take, take-append-le, drop-append-le, length-take, drop_all, get_or-take, length-append}
-use Rattle.std.proofs.lemmas.Slice.{between_is, between_to_end}
-use Rattle.std.proofs.lemmas.List.Elements.{All-push, All-nil, All-get_or}
-use Rattle.std.proofs.lemmas.List.Edits.{between_none, between_more, length-between, get_or-between}
-use Rattle.std.proofs.lemmas.List.Folds.{list_any-append, list_any_at}
-use Rattle.covers.specs.declared.cube.Cube.{Cube}
-use Rattle.covers.specs.Cubes.{has_point, covers, full_cube, lies_in, AsksBelow, AllAskBelow, Grows}
-use Rattle.covers.specs.Covers.{CoversCube, CoversList}
-use Rattle.covers.specs.Prime.{IsPrime}
+use Rattle.covers.proofs.Common.{list_any, or_cases, or_left, or_right, get_or_from_slice_get, take-take, take-append-le, drop-append-le, length-take, drop_all, get_or-take, length-append, between_is, between_to_end, All-push, All-nil, All-get_or, between_none, between_more, length-between, get_or-between, list_any-append, list_any_at, Cube, has_point, covers, full_cube, lies_in, AsksBelow, AllAskBelow, Grows, CoversCube, CoversList, IsPrime, IsExpanded}
 use Rattle.covers.proofs.CubePoints.{has_point_grows, lies_in_points}
-use Rattle.covers.specs.Expanded.{IsExpanded}
 
 -- ---- what stands below the rows
 

@@ -1,10 +1,6 @@
 -- A pool that grows twice (for the tests).
 use Rattle.std.proofs.Common.{◌≡◌, ℕ, ◌-◌, ◌≤◌, List, ◌++◌, length, take, drop, slice_range, sym, ap, ◌∙◌, arith}
-use Rattle.std.proofs.lemmas.List.{take-take, take-append-drop, drop-append-le, length-drop}
-use Rattle.std.proofs.lemmas.List.Elements.{All-append}
-use Rattle.covers.specs.declared.cube.Cube.{Cube}
-use Rattle.covers.specs.Cubes.{AsksBelow, AllAskBelow}
-use Rattle.covers.specs.Covers.{CoversList}
+use Rattle.covers.proofs.Common.{take-take, take-append-drop, drop-append-le, length-drop, All-append, Cube, AsksBelow, AllAskBelow, CoversList}
 use Rattle.covers.proofs.ExpandedRows.{kept_long, rows_so_far}
 use Rattle.covers.proofs.RowsOthers.{take_covers}
 

@@ -1,17 +1,6 @@
 -- Rows at the end of a pool that are tried one after another, from the last to the first.
-use Rattle.std.proofs.Common.{◌≡◌, ℕ, ◌+◌, ◌-◌, ◌<◌, ◌≤◌, Bool, true, false, inl, inr, List, length, get_or, set, take, drop, Some, slice_get, slice_range, sym, ap, ◌∙◌, arith}
-use Rattle.std.specs.Prelude.{All, Contains, IsTrue, ◌↔◌}
-use Rattle.std.specs.List.{remove, swap}
-use Rattle.std.proofs.lemmas.Bool.{cases_eq, false≢true}
-use Rattle.std.proofs.lemmas.List.{drop-set-add, take-set-le, drop-take, length-drop, length-take, take-take, get_or-drop}
-use Rattle.std.proofs.lemmas.Option.{get_or_from_slice_get}
-use Rattle.std.proofs.lemmas.Slice.{between_is}
-use Rattle.std.proofs.lemmas.List.Elements.{All-set, All-take, All-get_or}
-use Rattle.std.proofs.lemmas.List.Edits.{length-swap, swap_is}
-use Rattle.covers.specs.declared.cube.Cube.{Cube}
-use Rattle.covers.specs.Cubes.{covers, full_cube, AsksBelow, AllAskBelow}
-use Rattle.covers.specs.Covers.{CoversList}
-use Rattle.covers.specs.Expanded.{CoversCommon}
+use Rattle.std.proofs.Common.{◌≡◌, ℕ, ◌+◌, ◌-◌, ◌<◌, ◌≤◌, Bool, true, false, inl, inr, List, length, get_or, set, take, drop, Some, slice_get, slice_range, sym, ap, ◌∙◌, arith, All, Contains, IsTrue, ◌↔◌}
+use Rattle.covers.proofs.Common.{remove, swap, cases_eq, false≢true, drop-set-add, take-set-le, drop-take, length-drop, length-take, take-take, get_or-drop, get_or_from_slice_get, between_is, All-set, All-take, All-get_or, length-swap, swap_is, Cube, covers, full_cube, AsksBelow, AllAskBelow, CoversList, CoversCommon}
 use Rattle.covers.proofs.RowsOthers.{exchanged, exchange_case, remove_last, swapped_covers, swapped_others, take_others, some_of, some_take}
 
 -- no row from a place on can be left out

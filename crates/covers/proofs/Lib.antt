@@ -1,4 +1,5 @@
 pub mod CofactorLists
+pub mod Common
 pub mod CommonPoints
 pub mod ComplementLaws
 pub mod CubeBits

@@ -1,14 +1,6 @@
 -- Literals that are left out: a literal that could not be left out of a cube can not be left out of a larger one.
-use Rattle.std.proofs.Common.{◌≡◌, ℕ, ◌-◌, ◌*◌, ◌%◌, ◌^◌, ◌<◌, ◌≤◌, min, Bool, true, false, inl, inr, List, sym, ◌∙◌, arith}
-use Rattle.std.specs.Prelude.{bit_and, bit_or}
-use Rattle.std.specs.Int.{bit_at, bit_not, w32}
-use Rattle.std.proofs.lemmas.Bool.{cases_eq, eqb-true, eq-eqb}
-use Rattle.std.proofs.lemmas.Nat.{and_le_l}
-use Rattle.std.proofs.lemmas.Nat.Bits.{bit_at-lt, bit_at-zero, bit_at_or, bit_at_clear_same, bit_at_clear_other}
-use Rattle.covers.specs.declared.cube.Cube.{Cube}
-use Rattle.covers.specs.Cubes.{asks, literal_cube, without, AsksBelow, Grows}
-use Rattle.covers.specs.Covers.{CoversCube}
-use Rattle.covers.specs.Prime.{IsPrime}
+use Rattle.std.proofs.Common.{◌≡◌, ℕ, ◌-◌, ◌*◌, ◌%◌, ◌^◌, ◌<◌, ◌≤◌, min, Bool, true, false, inl, inr, List, sym, ◌∙◌, arith, bit_and, bit_or}
+use Rattle.covers.proofs.Common.{bit_at, bit_not, w32, cases_eq, eqb-true, eq-eqb, and_le_l, bit_at-lt, bit_at-zero, bit_at_or, bit_at_clear_same, bit_at_clear_other, Cube, asks, literal_cube, without, AsksBelow, Grows, CoversCube, IsPrime}
 use Rattle.covers.proofs.CubeBits.{bit_at_without, literal_same, literal_below, without_lt}
 use Rattle.covers.proofs.CubePoints.{has_point_grows, lt_32, without_grows}
 

@@ -1,13 +1,6 @@
 -- Expansion and irredundance together give a prime and irredundant list.
-use Rattle.std.proofs.Common.{◌≡◌, ℕ, Bool, true, List, get_or}
-use Rattle.std.specs.Prelude.{All, Contains}
-use Rattle.std.proofs.lemmas.List.Elements.{All-contains}
-use Rattle.std.proofs.lemmas.List.Folds.{list_any_at, Any-from_list_any}
-use Rattle.covers.specs.declared.cube.Cube.{Cube}
-use Rattle.covers.specs.Cubes.{has_point, covers}
-use Rattle.covers.specs.Covers.{CoversList}
-use Rattle.covers.specs.Prime.{IsPrime, IsIrredundant, IsPrimeIrredundant}
-use Rattle.covers.specs.Expanded.{IsExpanded}
+use Rattle.std.proofs.Common.{◌≡◌, ℕ, Bool, true, List, get_or, All, Contains}
+use Rattle.covers.proofs.Common.{All-contains, list_any_at, Any-from_list_any, Cube, has_point, covers, CoversList, IsPrime, IsIrredundant, IsPrimeIrredundant, IsExpanded}
 
 -- rows that are among others have only their points
 covers_among : (old new : List Cube) (p : List Bool) → All (Contains old) new → covers new p ≡ true → covers old p ≡ true

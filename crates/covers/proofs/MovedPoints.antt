@@ -1,19 +1,8 @@
 -- A point that is moved into a cube: a cover has it exactly where the cofactor by that cube has the point.
-use Rattle.std.proofs.Common.{◌≡◌, ℕ, zero, suc, ◌+◌, ◌-◌, ◌^◌, ◌<◌, ◌≤◌, min, max, Bool, true, false, ◌==◌, if◌then◌else◌, inl, inr, List, [], ◌∷◌, length, refl, sym, ap, ◌∙◌, arith}
-use Rattle.std.specs.Prelude.{bit_or}
-use Rattle.std.specs.Int.{bit_at, bit_not, w32}
-use Rattle.std.proofs.lemmas.Bool.{cases_Bool}
-use Rattle.std.proofs.lemmas.Bool.Decides.{nat_tests}
-use Rattle.std.proofs.lemmas.Nat.{or_lt}
-use Rattle.std.proofs.lemmas.Nat.Bits.{bit_at-lt, bit_at_or}
-use Rattle.pld_base.specs.Bits.{bits, is_on}
-use Rattle.pld_base.proofs.BitLemmas.{length-bits, is_on-bits, same_levels}
-use Rattle.covers.specs.declared.cube.Cube.{Cube}
-use Rattle.covers.specs.Cubes.{fits, has_point, covers, meets, without, AsksBelow}
+use Rattle.std.proofs.Common.{◌≡◌, ℕ, zero, suc, ◌+◌, ◌-◌, ◌^◌, ◌<◌, ◌≤◌, min, max, Bool, true, false, ◌==◌, if◌then◌else◌, inl, inr, List, [], ◌∷◌, length, refl, sym, ap, ◌∙◌, arith, bit_or}
+use Rattle.covers.proofs.Common.{bit_at, bit_not, w32, cases_Bool, nat_tests, or_lt, bit_at-lt, bit_at_or, bits, is_on, length-bits, is_on-bits, same_levels, Cube, fits, has_point, covers, meets, without, AsksBelow, cofactor_of, moved_number}
 use Rattle.covers.proofs.CubeBits.{bit_at_without, meets_each, without_lt}
 use Rattle.covers.proofs.CubePoints.{fits_at, has_point_each, cofactor_point, lt_32}
-use Rattle.covers.specs.Cofactors.{cofactor_of}
-use Rattle.covers.specs.Outside.{moved_number}
 
 -- the level that the cube asks, or else the one that is there
 abbrev pub level_in : Cube → ℕ → Bool → Bool

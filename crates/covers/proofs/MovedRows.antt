@@ -1,11 +1,6 @@
 -- Rows that move down in a pool, and rows that are copied to its end.
 use Rattle.std.proofs.Common.{◌≡◌, ℕ, ◌+◌, ◌<◌, ◌≤◌, inl, inr, List, [], ◌∷◌, ◌++◌, length, get_or, set, take, drop, Some, slice_get, slice_range, refl, sym, ap, ◌∙◌, arith}
-use Rattle.std.specs.List.{swap}
-use Rattle.std.proofs.lemmas.List.{append_assoc, drop-drop, drop-set-lt, get_or-drop, get_or_append_left, length-drop, take_more}
-use Rattle.std.proofs.lemmas.Option.{get_or_from_slice_get}
-use Rattle.std.proofs.lemmas.List.Edits.{between_more, length-swap, swap_is}
-use Rattle.covers.specs.declared.cube.Cube.{Cube}
-use Rattle.covers.specs.Cubes.{full_cube}
+use Rattle.covers.proofs.Common.{swap, append_assoc, drop-drop, drop-set-lt, get_or-drop, get_or_append_left, length-drop, take_more, get_or_from_slice_get, between_more, length-swap, swap_is, Cube, full_cube}
 use Rattle.covers.proofs.LeftOut.{take-swap}
 use Rattle.covers.proofs.RowsOthers.{exchange_case, exchanged, get_or-swap}
 

@@ -1,19 +1,9 @@
 -- Off cubes: a cube with a point of one is not allowed, and where they are complete, one without is.
-use Rattle.std.proofs.Common.{◌≡◌, ℕ, ◌≤◌, Bool, true, false, not, inl, inr, List, [], ◌∷◌, ◌++◌, length, sym, ◌∙◌, arith}
-use Rattle.std.specs.Prelude.{All}
-use Rattle.std.specs.List.{list_any}
-use Rattle.std.proofs.lemmas.Bool.{and_from, and_parts, not-true, not-false, or_cases, or_parts}
-use Rattle.std.proofs.lemmas.List.Elements.{All-head, All-tail}
-use Rattle.std.proofs.lemmas.List.Folds.{list_any-append}
-use Rattle.pld_base.specs.Bits.{bits}
-use Rattle.pld_base.proofs.BitLemmas.{length-bits}
-use Rattle.covers.specs.declared.cube.Cube.{Cube}
-use Rattle.covers.specs.Cubes.{has_point, covers, is_empty, meets, union, AsksBelow, AllAskBelow}
-use Rattle.covers.specs.Covers.{CoversAll, CoversCube}
+use Rattle.std.proofs.Common.{◌≡◌, ℕ, ◌≤◌, Bool, true, false, not, inl, inr, List, [], ◌∷◌, ◌++◌, length, sym, ◌∙◌, arith, All}
+use Rattle.covers.proofs.Common.{list_any, and_from, and_parts, not-true, not-false, or_cases, or_parts, All-head, All-tail, list_any-append, bits, length-bits, Cube, has_point, covers, is_empty, meets, union, AsksBelow, AllAskBelow, CoversAll, CoversCube, IsApart}
 use Rattle.covers.proofs.CubeBits.{single_each}
 use Rattle.covers.proofs.CubePoints.{apart, empty_has_none, union_points}
 use Rattle.covers.proofs.MovedPoints.{length-moved, moved, moved_has}
-use Rattle.covers.specs.Off.{IsApart}
 use Rattle.covers.proofs.CommonPoints.{union_below}
 
 -- ---- an off cube and the allowed ones

@@ -1,15 +1,9 @@
 -- The rows of a pool between passes.
-use Rattle.std.proofs.Common.{◌≡◌, ℕ, ◌≤◌, List, ◌++◌, length, get_or, take, drop, sym, ap, ◌∙◌, arith}
-use Rattle.std.specs.Prelude.{All, Contains}
+use Rattle.std.proofs.Common.{◌≡◌, ℕ, ◌≤◌, List, ◌++◌, length, get_or, take, drop, sym, ap, ◌∙◌, arith, All, Contains}
+use Rattle.covers.proofs.Common.{length-append, take_all, length-take, take-append-le, take-take, All-contains, Cube, AsksBelow, AllAskBelow, Pool, HasRows}
 use Rattle.std.proofs.Math.Seq.{drop-append_seam}
-use Rattle.std.proofs.lemmas.List.{length-append, take_all, length-take, take-append-le, take-take}
-use Rattle.std.proofs.lemmas.List.Elements.{All-contains}
-use Rattle.covers.specs.declared.cube.Cube.{Cube}
 use Rattle.covers.specs.declared.pool.Range.{Range}
-use Rattle.covers.specs.Cubes.{AsksBelow, AllAskBelow}
-use Rattle.covers.specs.Pool.{Pool}
 use Rattle.covers.specs.declared.allowed.Allowed.{Allowed}
-use Rattle.covers.specs.Passes.{HasRows}
 use Rattle.covers.proofs.LeftOut.{slice_same}
 
 -- pools that are the same up to a place are so up to a lower one

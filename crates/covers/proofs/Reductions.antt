@@ -1,13 +1,6 @@
 -- Rows that are reduced one after another, at the end of a pool.
 use Rattle.std.proofs.Common.{◌≡◌, ℕ, ◌+◌, ◌<◌, Bool, true, inl, inr, List, [], ◌∷◌, ◌++◌, length, get_or, take, ap, ◌∙◌, arith}
-use Rattle.std.specs.List.{swap}
-use Rattle.std.proofs.lemmas.Bool.{cases_Bool, cases_eq}
-use Rattle.std.proofs.lemmas.List.Elements.{All-push, All-take}
-use Rattle.std.proofs.lemmas.List.Edits.{length-swap}
-use Rattle.covers.specs.declared.cube.Cube.{Cube}
-use Rattle.covers.specs.Cubes.{covers, full_cube, has_point, AsksBelow, AllAskBelow}
-use Rattle.covers.specs.Covers.{CoversList}
-use Rattle.covers.specs.Reduced.{IsReduced}
+use Rattle.covers.proofs.Common.{swap, cases_Bool, cases_eq, All-push, All-take, length-swap, Cube, covers, full_cube, has_point, AsksBelow, AllAskBelow, CoversList, IsReduced}
 use Rattle.covers.proofs.ExpandedRows.{push_cases, push_first, push_last}
 use Rattle.covers.proofs.LeftOut.{All-swap}
 use Rattle.covers.proofs.RowsOthers.{some_of, some_covers, some_take, swapped_back, swapped_covers, take_covers}

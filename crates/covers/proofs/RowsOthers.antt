@@ -1,12 +1,6 @@
 -- A list without one row: it has the points of the other rows.
 use Rattle.std.proofs.Common.{◌≡◌, ◌≢◌, ℕ, suc, ◌+◌, ◌-◌, ◌<◌, ◌≤◌, Bool, true, ◌==◌, if◌then◌else◌, ◌⊎◌, inl, inr, List, [], ◌∷◌, length, get_or, set, take, refl, sym, ap, ◌∙◌, arith}
-use Rattle.std.specs.List.{remove, swap}
-use Rattle.std.proofs.lemmas.Bool.{cases_eq, cases_lt, eq-eqb, ne_eqb, or_cases}
-use Rattle.std.proofs.lemmas.List.{length-take, length-set, get_or-take, get_or-set_same, get_or-set_other}
-use Rattle.std.proofs.lemmas.List.Edits.{length-remove, length-swap, get_or-remove_below, get_or-remove_above, swap_is}
-use Rattle.std.proofs.lemmas.List.Folds.{list_any_at}
-use Rattle.covers.specs.declared.cube.Cube.{Cube}
-use Rattle.covers.specs.Cubes.{has_point, covers, full_cube}
+use Rattle.covers.proofs.Common.{remove, swap, cases_eq, cases_lt, eq-eqb, ne_eqb, or_cases, length-take, length-set, get_or-take, get_or-set_same, get_or-set_other, length-remove, length-swap, get_or-remove_below, get_or-remove_above, swap_is, list_any_at, Cube, has_point, covers, full_cube}
 
 -- another row of the list has the point
 abbrev pub HasOther : List Cube → ℕ → List Bool → Type 0

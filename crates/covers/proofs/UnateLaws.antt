@@ -1,20 +1,10 @@
 -- What a cover asks, as its cubes are read one after another and in its cofactors; and how often it can be split.
-use Rattle.std.proofs.Common.{◌≡◌, ℕ, zero, suc, ◌+◌, ◌-◌, ◌^◌, ◌<◌, ◌≤◌, min, Bool, inl, inr, List, [], ◌∷◌, length, get_or, drop, ◌⊎◌, ◌*◌, refl, arith}
-use Rattle.std.specs.Prelude.{bit_or, filter, All}
-use Rattle.std.specs.Int.{bit_at, bit_not, w32}
+use Rattle.std.proofs.Common.{◌≡◌, ℕ, zero, suc, ◌+◌, ◌-◌, ◌^◌, ◌<◌, ◌≤◌, min, Bool, inl, inr, List, [], ◌∷◌, length, get_or, drop, ◌⊎◌, ◌*◌, refl, arith, bit_or, filter, All}
+use Rattle.covers.proofs.Common.{bit_at, bit_not, w32, cases_Bool, cases_eq, drop_more, drop_all, All-nil, All-cons, All-head, All-tail, All-weaker, All-map, All-filter, or_lt, pow_pos, mul-le, bit_at-lt, bit_at-zero, bit_at_or, bit_at_and, same_from_bits, Cube, full_cube, literal_cube, meets, union, without, AsksBelow, AllAskBelow, cofactor_of, asked_of, binate_of, opposite_of, branch_of, ones, splits}
 use Rattle.std.specs.Int.Bits.{or_zero_r}
 use Rattle.std.proofs.Math.Nat.{suc-mul}
-use Rattle.std.proofs.lemmas.Bool.{cases_Bool, cases_eq}
-use Rattle.std.proofs.lemmas.List.{drop_more, drop_all}
-use Rattle.std.proofs.lemmas.List.Elements.{All-nil, All-cons, All-head, All-tail, All-weaker, All-map, All-filter}
-use Rattle.std.proofs.lemmas.Nat.{or_lt, pow_pos, mul-le}
-use Rattle.std.proofs.lemmas.Nat.Bits.{bit_at-lt, bit_at-zero, bit_at_or, bit_at_and, same_from_bits}
-use Rattle.covers.specs.declared.cube.Cube.{Cube}
-use Rattle.covers.specs.Cubes.{full_cube, literal_cube, meets, union, without, AsksBelow, AllAskBelow}
 use Rattle.covers.proofs.CubeBits.{bit_at_without, literal_below, without_lt}
 use Rattle.covers.proofs.CubePoints.{lt_32}
-use Rattle.covers.specs.Cofactors.{cofactor_of}
-use Rattle.covers.specs.Unate.{asked_of, binate_of, opposite_of, branch_of, ones, splits}
 
 -- ---- read one after another
 

@@ -1,24 +1,10 @@
 -- The unate recursion: a cover has every point where both branches have, and a point that a branch misses is moved to
 -- one that the cover misses.
-use Rattle.std.proofs.Common.{◌≡◌, ◌≢◌, ℕ, zero, suc, ◌-◌, ◌^◌, ◌<◌, ◌≤◌, min, Bool, true, false, not, ◌==◌, eqb, if◌then◌else◌, ◌⊎◌, inl, inr, List, [], ◌∷◌, ◌++◌, length, slice_range, Option, None, Some, refl, sym, ap, ◌∙◌, arith}
-use Rattle.std.specs.Prelude.{bit_and, All, IsTrue, ◌↔◌, IfSome}
-use Rattle.std.specs.Int.{bit_at}
-use Rattle.std.specs.List.{list_any}
+use Rattle.std.proofs.Common.{◌≡◌, ◌≢◌, ℕ, zero, suc, ◌-◌, ◌^◌, ◌<◌, ◌≤◌, min, Bool, true, false, not, ◌==◌, eqb, if◌then◌else◌, ◌⊎◌, inl, inr, List, [], ◌∷◌, ◌++◌, length, slice_range, Option, None, Some, refl, sym, ap, ◌∙◌, arith, bit_and, All, IsTrue, ◌↔◌, IfSome}
+use Rattle.covers.proofs.Common.{bit_at, list_any, cases_eq, and_parts, and_cases, or_cases, or_parts, or_left, or_right, eqb-true, eqb-false, false≢true, false_from_ne_true, All-head, All-tail, pow_pos, bit_at-lt, bit_at-zero, bit_at_or, bit_at_and, bits, is_on, length-bits, Cube, fits, has_point, covers, full_cube, is_empty, is_full, literal_cube, meets, AsksBelow, AllAskBelow, CoversAll, CoversCube, cofactor_of, Misses, FindsMissed, FindsOutside, IsOutside, moved_number, asked_of, binate_of, opposite_of, branch_of, splits}
 use Rattle.std.specs.Option.{is_some}
-use Rattle.std.proofs.lemmas.Bool.{cases_eq, and_parts, and_cases, or_cases, or_parts, or_left, or_right, eqb-true, eqb-false, false≢true, false_from_ne_true}
-use Rattle.std.proofs.lemmas.List.Elements.{All-head, All-tail}
-use Rattle.std.proofs.lemmas.Nat.{pow_pos}
-use Rattle.std.proofs.lemmas.Nat.Bits.{bit_at-lt, bit_at-zero, bit_at_or, bit_at_and}
-use Rattle.pld_base.specs.Bits.{bits, is_on}
-use Rattle.pld_base.proofs.BitLemmas.{length-bits}
-use Rattle.covers.specs.declared.cube.Cube.{Cube}
-use Rattle.covers.specs.Cubes.{fits, has_point, covers, full_cube, is_empty, is_full, literal_cube, meets, AsksBelow, AllAskBelow}
-use Rattle.covers.specs.Covers.{CoversAll, CoversCube}
 use Rattle.covers.proofs.CubeBits.{bit_at_without, bit_below, literal_same, literal_other, meets_each, single_each, some_bit}
 use Rattle.covers.proofs.CubePoints.{fits_at, has_point_each, empty_has_none, full_has_all, lt_32}
-use Rattle.covers.specs.Cofactors.{cofactor_of}
-use Rattle.covers.specs.Outside.{Misses, FindsMissed, FindsOutside, IsOutside, moved_number}
-use Rattle.covers.specs.Unate.{asked_of, binate_of, opposite_of, branch_of, splits}
 use Rattle.covers.proofs.CofactorLists.{appended}
 use Rattle.covers.proofs.MovedPoints.{level_in, moved, length-moved, is_on-moved, IsSingle, moved_has, covers-cofactor, covers_moved, bits-moved, moved_low}
 use Rattle.covers.proofs.UnateLaws.{AsksWithin, asked_within, asked_below, branch_below, opposite_below, splits_less}

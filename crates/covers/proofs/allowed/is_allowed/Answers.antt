@@ -1,5 +1,5 @@
 use Rattle.std.proofs.Common.{refl, slice_range, sym, ◌∙◌}
-use Rattle.covers.specs.Off.{off_list}
+use Rattle.covers.proofs.Common.{off_list}
 use Rattle.covers.proofs.OffLaws.{off_all, off_point}
 use Rattle.covers.proofs.allowed.is_allowed.Goals as goal
 

@@ -1,5 +1,5 @@
 use Rattle.std.proofs.Common.{◌≡◌, ◌+◌, ◌≤◌, ◌++◌, length, slice_range}
-use Rattle.covers.specs.Cofactors.{cofactor_of}
+use Rattle.covers.proofs.Common.{cofactor_of}
 use Rattle.covers.proofs.cofactors.cube_cofactor.Given as goal
 
 abbrev pub invariant-loop-place : goal.invariant-loop-place

@@ -1,5 +1,5 @@
 use Rattle.std.proofs.Common.{◌+◌, refl, arith, length-append}
-use Rattle.covers.specs.Cofactors.{complement_of}
+use Rattle.covers.proofs.Common.{complement_of}
 use Rattle.covers.proofs.ComplementLaws.{complement_few, complement_more, complement_start, complement_points, opposites_few}
 use Rattle.covers.proofs.complement.complement_cube.Goals as goal
 

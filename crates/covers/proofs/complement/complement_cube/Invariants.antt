@@ -1,5 +1,5 @@
 use Rattle.std.proofs.Common.{◌≡◌, ◌+◌, ◌++◌, length}
-use Rattle.covers.specs.Cofactors.{complement_of}
+use Rattle.covers.proofs.Common.{complement_of}
 use Rattle.covers.proofs.complement.complement_cube.Given as goal
 
 abbrev pub invariant-loop-variable : goal.invariant-loop-variable

@@ -1,5 +1,5 @@
 use Rattle.std.proofs.Common.{◌-◌, ◌∙◌, sym, slice_range, arith}
-use Rattle.covers.specs.Cofactors.{cofactor_of}
+use Rattle.covers.proofs.Common.{cofactor_of}
 use Rattle.covers.proofs.CofactorLists.{appended}
 use Rattle.covers.proofs.UnateLaws.{cofactor_below, whole_room}
 use Rattle.covers.proofs.UnateRecursion.{cofactor_all, cofactor_missed, empty_answer}

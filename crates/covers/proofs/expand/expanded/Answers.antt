@@ -1,6 +1,5 @@
 use Rattle.std.proofs.Common.{◌∙◌, ap, refl, slice_range, arith}
-use Rattle.std.proofs.lemmas.Nat.{or_lt}
-use Rattle.covers.specs.Pool.{Pool}
+use Rattle.covers.proofs.Common.{or_lt, Pool}
 use Rattle.covers.proofs.CubeBits.{bit_below}
 use Rattle.covers.proofs.Literals.{grows-refl, grows-trans, left_less, left_low, tried_first, tried_last, tried_more}
 use Rattle.covers.proofs.expand.expanded.Goals as goal

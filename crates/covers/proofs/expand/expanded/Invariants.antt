@@ -1,6 +1,5 @@
 use Rattle.std.proofs.Common.{◌≡◌, ◌<◌, ◌^◌, slice_range}
-use Rattle.covers.specs.Cubes.{AsksBelow, Grows}
-use Rattle.covers.specs.Covers.{CoversCube}
+use Rattle.covers.proofs.Common.{AsksBelow, Grows, CoversCube}
 use Rattle.covers.proofs.Literals.{IsTriedPast}
 use Rattle.covers.proofs.expand.expanded.Given as goal
 

@@ -1,6 +1,5 @@
 use Rattle.std.proofs.Common.{◌≡◌, ◌+◌, ◌++◌, [], ◌∷◌, length, drop, slice_range, ap, sym, ◌∙◌, arith}
-use Rattle.std.proofs.lemmas.List.{length_push}
-use Rattle.covers.specs.Pool.{Pool}
+use Rattle.covers.proofs.Common.{length_push, Pool}
 use Rattle.covers.proofs.ExpandedRows.{at_below, at_inside, cube_kept, expanded_more, expanded_skip, push_kept, push_rows, rows_so_far, slice_kept}
 use Rattle.covers.proofs.expand.push_expanded.Goals as goal
 

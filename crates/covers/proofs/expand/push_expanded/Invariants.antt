@@ -1,5 +1,5 @@
 use Rattle.std.proofs.Common.{◌≡◌, ◌+◌, ◌≤◌, length, take, drop, slice_range}
-use Rattle.covers.specs.Expanded.{IsExpanded}
+use Rattle.covers.proofs.Common.{IsExpanded}
 use Rattle.covers.proofs.expand.push_expanded.Given as goal
 
 abbrev pub invariant-loop-place : goal.invariant-loop-place

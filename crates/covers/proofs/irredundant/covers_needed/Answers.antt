@@ -1,7 +1,5 @@
 use Rattle.std.proofs.Common.{◌≡◌, ◌∙◌, ap, get_or, refl, slice_range, arith}
-use Rattle.std.proofs.lemmas.Option.{get_or_from_slice_get}
-use Rattle.covers.specs.Pool.{Pool}
-use Rattle.covers.specs.Cubes.{full_cube}
+use Rattle.covers.proofs.Common.{get_or_from_slice_get, Pool, full_cube}
 use Rattle.covers.proofs.CommonPoints.{common_fails, common_more, common_none}
 use Rattle.covers.proofs.ExpandedRows.{at_below}
 use Rattle.covers.proofs.irredundant.covers_needed.Goals as goal

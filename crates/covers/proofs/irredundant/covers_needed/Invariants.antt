@@ -1,5 +1,5 @@
 use Rattle.std.proofs.Common.{◌≡◌, ◌≤◌, slice_range}
-use Rattle.covers.specs.Expanded.{CoversCommon}
+use Rattle.covers.proofs.Common.{CoversCommon}
 use Rattle.covers.proofs.irredundant.covers_needed.Given as goal
 
 abbrev pub invariant-loop-place : goal.invariant-loop-place

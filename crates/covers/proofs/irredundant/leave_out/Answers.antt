@@ -1,10 +1,5 @@
 use Rattle.std.proofs.Common.{◌≡◌, ◌-◌, ◌∙◌, length, take, drop, refl, ap, arith}
-use Rattle.std.specs.List.{swap}
-use Rattle.std.proofs.lemmas.List.{length-drop, length-take, take-take}
-use Rattle.std.proofs.lemmas.List.Edits.{length-swap}
-use Rattle.std.proofs.lemmas.List.Elements.{All-contains_itself, All-take}
-use Rattle.covers.specs.Pool.{Pool}
-use Rattle.covers.specs.Cubes.{AsksBelow}
+use Rattle.covers.proofs.Common.{swap, length-drop, length-take, take-take, length-swap, All-contains_itself, All-take, Pool, AsksBelow}
 use Rattle.covers.proofs.LeftOut.{All-swap, last_swapped, left_goes, left_stays, others_swapped, row_below, rows_cut, rows_swapped, slice_same, take-swap}
 use Rattle.covers.proofs.irredundant.leave_out.Goals as goal
 

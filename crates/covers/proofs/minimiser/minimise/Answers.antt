@@ -1,5 +1,5 @@
 use Rattle.std.proofs.Common.{◌∙◌, ap, drop, refl, slice_range, arith}
-use Rattle.covers.specs.Pool.{Pool}
+use Rattle.covers.proofs.Common.{Pool}
 use Rattle.covers.proofs.ExpandedRows.{rows_so_far, slice_kept}
 use Rattle.covers.proofs.LeftOut.{slice_same}
 use Rattle.covers.proofs.Minimised.{minimised}

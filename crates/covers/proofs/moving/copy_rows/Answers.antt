@@ -1,5 +1,5 @@
 use Rattle.std.proofs.Common.{◌∙◌, ap, arith, length}
-use Rattle.std.proofs.lemmas.List.{length_push}
+use Rattle.covers.proofs.Common.{length_push}
 use Rattle.covers.proofs.MovedRows.{copy_more}
 use Rattle.covers.proofs.moving.copy_rows.Goals as goal
 

@@ -1,5 +1,5 @@
 use Rattle.std.proofs.Common.{◌+◌, ◌<◌, ◌∙◌, ap, arith, drop, length, take}
-use Rattle.std.proofs.lemmas.List.Edits.{length-swap}
+use Rattle.covers.proofs.Common.{length-swap}
 use Rattle.covers.proofs.MovedRows.{front_more, tail_more}
 use Rattle.covers.proofs.moving.move_down.Goals as goal
 

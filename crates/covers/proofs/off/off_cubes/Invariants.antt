@@ -1,5 +1,5 @@
 use Rattle.std.proofs.Common.{◌≡◌, ◌+◌, ◌≤◌, length, take}
-use Rattle.covers.specs.Off.{HasFound}
+use Rattle.covers.proofs.Common.{HasFound}
 use Rattle.covers.proofs.off.off_cubes.Given as goal
 
 abbrev pub invariant-loop : goal.invariant-loop

@@ -1,5 +1,5 @@
 use Rattle.std.proofs.Common.{◌≡◌, ◌+◌, ◌-◌, ◌*◌, ◌≤◌, length, take}
-use Rattle.covers.specs.Passes.{HasRows}
+use Rattle.covers.proofs.Common.{HasRows}
 use Rattle.covers.proofs.passes.shorten.Given as goal
 
 abbrev pub invariant-loop : goal.invariant-loop

@@ -1,10 +1,5 @@
 use Rattle.std.proofs.Common.{◌≡◌, ◌-◌, ◌++◌, [], ◌∷◌, ◌∙◌, length, take, drop, ap, arith}
-use Rattle.std.specs.List.{swap}
-use Rattle.std.proofs.lemmas.List.{drop-append-le, length-drop, length-take, length_push, take-append-le, take-take}
-use Rattle.std.proofs.lemmas.List.Edits.{length-swap}
-use Rattle.std.proofs.lemmas.List.Elements.{All-take}
-use Rattle.covers.specs.Pool.{Pool}
-use Rattle.covers.specs.Cubes.{AsksBelow}
+use Rattle.covers.proofs.Common.{swap, drop-append-le, length-drop, length-take, length_push, take-append-le, take-take, length-swap, All-take, Pool, AsksBelow}
 use Rattle.covers.proofs.LeftOut.{All-swap, last_swapped, others_swapped, row_below, rows_cut, rows_swapped, slice_same, take-swap}
 use Rattle.covers.proofs.Reductions.{reduced_more}
 use Rattle.covers.proofs.reduce.reduce.Goals as goal

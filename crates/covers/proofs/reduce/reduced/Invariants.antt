@@ -1,6 +1,5 @@
 use Rattle.std.proofs.Common.{◌≡◌, Bool, true, List, slice_range}
-use Rattle.covers.specs.Cubes.{AsksBelow, has_point}
-use Rattle.covers.specs.Reduced.{IsReduced}
+use Rattle.covers.proofs.Common.{AsksBelow, has_point, IsReduced}
 use Rattle.covers.proofs.reduce.reduced.Given as goal
 
 abbrev pub invariant-loop-variable : goal.invariant-loop-variable

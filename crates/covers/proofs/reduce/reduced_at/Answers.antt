@@ -1,5 +1,5 @@
 use Rattle.std.proofs.Common.{true, false}
-use Rattle.covers.specs.Cubes.{literal_cube}
+use Rattle.covers.proofs.Common.{literal_cube}
 use Rattle.covers.proofs.CubeBits.{literal_below}
 use Rattle.covers.proofs.CommonPoints.{union_below}
 use Rattle.covers.proofs.reduce.reduced_at.Goals as goal

@@ -1,7 +1,5 @@
 use Rattle.std.proofs.Common.{rules, ◌-◌, slice_range, sym, ap, ◌∙◌, arith}
-use Rattle.covers.specs.Pool.{Pool}
-use Rattle.covers.specs.Cofactors.{cofactor_of}
-use Rattle.covers.specs.Unate.{splits}
+use Rattle.covers.proofs.Common.{Pool, cofactor_of, splits}
 use Rattle.covers.proofs.CofactorLists.{appended}
 use Rattle.covers.proofs.UnateLaws.{cofactor_below, part_room, split_room}
 use Rattle.covers.proofs.UnateRecursion.{variable_below, branch_falls, branch_missed, second_answer, some_full, unate_answer}

@@ -1,5 +1,5 @@
 use Rattle.std.proofs.Common.{◌+◌, ◌*◌, slice_range}
-use Rattle.covers.specs.Unate.{splits}
+use Rattle.covers.proofs.Common.{splits}
 use Rattle.covers.proofs.tautology.+splitting.Given as goal
 
 abbrev pub decreases-missed_in_branch : goal.decreases-missed_in_branch

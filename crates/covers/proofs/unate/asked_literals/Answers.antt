@@ -1,4 +1,4 @@
-use Rattle.covers.specs.Cubes.{full_cube}
+use Rattle.covers.proofs.Common.{full_cube}
 use Rattle.covers.proofs.UnateLaws.{asked_all, asked_more, asked_none}
 use Rattle.covers.proofs.unate.asked_literals.Goals as goal
 

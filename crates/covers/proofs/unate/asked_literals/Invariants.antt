@@ -1,6 +1,5 @@
 use Rattle.std.proofs.Common.{◌≡◌, drop}
-use Rattle.covers.specs.Cubes.{union}
-use Rattle.covers.specs.Unate.{asked_of}
+use Rattle.covers.proofs.Common.{union, asked_of}
 use Rattle.covers.proofs.unate.asked_literals.Given as goal
 
 abbrev pub invariant-loop-cube : goal.invariant-loop-cube

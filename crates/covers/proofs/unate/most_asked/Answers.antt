@@ -1,5 +1,4 @@
-use Rattle.std.specs.Int.{w32}
-use Rattle.std.proofs.lemmas.Nat.Bits.{bit_at-trailing_zeros}
+use Rattle.covers.proofs.Common.{w32, bit_at-trailing_zeros}
 use Rattle.covers.proofs.unate.most_asked.Goals as goal
 
 pub loop-variable-init : goal.loop-variable-init

@@ -1,5 +1,5 @@
 use Rattle.std.proofs.Common.{◌≡◌, ◌<◌}
-use Rattle.std.specs.Int.{bit_at}
+use Rattle.covers.proofs.Common.{bit_at}
 use Rattle.covers.proofs.unate.most_asked.Given as goal
 
 abbrev pub invariant-loop-variable : goal.invariant-loop-variable

@@ -1,5 +1,5 @@
 use Rattle.std.proofs.Common.{◌≡◌, ◌<◌}
-use Rattle.std.specs.Int.{bit_at}
+use Rattle.covers.proofs.Common.{bit_at}
 use Rattle.covers.proofs.votes.most_voted.Given as goal
 
 abbrev pub invariant-loop-variable : goal.invariant-loop-variable

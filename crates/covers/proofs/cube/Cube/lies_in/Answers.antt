@@ -1,5 +1,5 @@
 use Rattle.std.proofs.Common.{bit_and, eqb, eq-eqb}
-use Rattle.std.proofs.lemmas.Bool.{and_from}
+use Rattle.covers.proofs.Common.{and_from}
 use Rattle.covers.proofs.CubePoints.{lies_in_points}
 use Rattle.covers.proofs.cube.Cube.lies_in.Goals as goal
 
