@@ -1,30 +1,13 @@
 -- A device's cells in an order in which each reads earlier ones alone are an order that the machine takes.
 use Rattle.std.proofs.Common.{◌≡◌, ℕ, zero, suc, ◌+◌, ◌<◌, ◌≤◌, Bool, true, false, not, ◌==◌, eqb, List, [], ◌∷◌, map, length, drop, get_or, Some, slice_get, refl, ap, sym, ◌∙◌, subst, arith, inl, inr}
+use Rattle.device_logic.proofs.Common.{IsDistinct, cases_Bool, cases_lt, eqb-true, eq-eqb, or_cases, or_left, or_right, true≢false, false_from_ne_true, get_or_past, list_any_at, get_or_from_slice_get, slice_get_within, is_on, Levels, Cell, Table, cell_at, no_cell, stores, device_logic, is_free_pin, Slot, DifferOnlyIn, SameAt, InRange, HasPins, HasSlots, ResetsWithoutQ, IsOrdered, IsDetermined, has, IsOrder, cell_reads, device_lookups}
 use Rattle.std.proofs.Math.Path.{fun_ext}
-use Rattle.std.specs.List.{IsDistinct}
-use Rattle.std.proofs.lemmas.Bool.{cases_Bool, cases_lt, eqb-true, eq-eqb, or_cases, or_left, or_right, true≢false, false_from_ne_true}
-use Rattle.std.proofs.lemmas.List.{get_or_past}
-use Rattle.std.proofs.lemmas.List.Folds.{list_any_at}
 use Rattle.std.proofs.lemmas.Map.Keys.{apart_from_distinct}
-use Rattle.std.proofs.lemmas.Option.{get_or_from_slice_get, slice_get_within}
-use Rattle.pld_base.specs.Bits.{is_on}
-use Rattle.pld_base.specs.Points.{Levels}
 use Rattle.pld_base.specs.Logic.{Logic}
-use Rattle.pld_device.specs.declared.cell.Cell.{Cell}
-use Rattle.pld_device.specs.Table.{Table, cell_at, no_cell}
-use Rattle.pld_device.specs.Registers.{stores}
-use Rattle.pld_device.specs.Macrocells.{device_logic}
-use Rattle.pld_device.specs.Given.{is_free_pin}
-use Rattle.pld_machine.specs.declared.logic.Slot.{Slot}
 use Rattle.pld_machine.specs.declared.logic.Slot.TheVariants as slot
 use Rattle.pld_machine.specs.Lookups.{Lookups, sets_pin, sets_node, logic_of}
-use Rattle.pld_machine.specs.Order.{DifferOnlyIn, SameAt, InRange, HasPins, HasSlots, ResetsWithoutQ, IsOrdered}
-use Rattle.pld_machine.specs.Steps.{IsDetermined}
 use Rattle.pld_machine.proofs.OneRun.{is_determined}
 use Rattle.pld_machine.proofs.Ordered.{setter_of_pin, get_behind}
-use Rattle.pld_order.specs.Graphs.{has, IsOrder}
-use Rattle.device_logic.specs.CellReads.{cell_reads}
-use Rattle.device_logic.specs.DeviceLookups.{device_lookups}
 use Rattle.device_logic.proofs.FreeReads.{ReadsFreePins, free_pin}
 use Rattle.device_logic.proofs.ReadCells.{cell_reads-rest}
 use Rattle.device_logic.proofs.SameCells.{cell_same}

@@ -1,18 +1,8 @@
 -- Pins that rows and enables read, and that no cell is on.
 use Rattle.std.proofs.Common.{◌≡◌, ◌≢◌, ℕ, zero, suc, ◌<◌, Bool, true, false, not, ◌==◌, List, [], ◌∷◌, map, length, get_or, Some, slice_get, refl, ap, sym, ◌∙◌, subst, arith, ne_eqb}
-use Rattle.std.specs.List.{list_any}
-use Rattle.std.proofs.lemmas.Bool.{eq-eqb, or_left, or_right, true≢false}
-use Rattle.std.proofs.lemmas.Option.{get_or_from_slice_get, slice_get_within}
+use Rattle.device_logic.proofs.Common.{list_any, eq-eqb, or_left, or_right, true≢false, get_or_from_slice_get, slice_get_within, Cell, Enable, Row, PinLow, Table, IsDataRow, cell_at, no_cell, HasOwnPins, cell_pins, row_reads, never_drives, is_free_pin, IsOneLayer, EnableReadsGiven, IsPair, IsDevice}
 use Rattle.pld_device.specs.declared.carry.Carry.TheVariants as carry
-use Rattle.pld_device.specs.declared.cell.Cell.{Cell}
-use Rattle.pld_device.specs.declared.enable.Enable.{Enable}
-use Rattle.pld_device.specs.declared.enable.Enable.TheVariants.{Row, PinLow}
-use Rattle.pld_device.specs.Table.{Table, IsDataRow, cell_at, no_cell}
-use Rattle.pld_device.specs.Pins.{HasOwnPins, cell_pins}
-use Rattle.pld_device.specs.Reads.{row_reads}
 use Rattle.pld_device.specs.RowLaws.{HasPairs}
-use Rattle.pld_device.specs.Given.{never_drives, is_free_pin, IsOneLayer, EnableReadsGiven}
-use Rattle.pld_device.specs.Laws.{IsPair, IsDevice}
 use Rattle.pld_device.proofs.OwnPins.{own_pins, has_pairs}
 
 -- no cell is on a pin whose level the row reads

@@ -1,11 +1,6 @@
 -- Two words as one: a test of both at once.
-use Rattle.std.proofs.Common.{◌≡◌, ℕ, ◌+◌, ◌*◌, ◌^◌, ◌<◌, zero, suc, ◌==◌, ◌&&◌, false, refl, ap, sym, ◌∙◌, arith}
-use Rattle.std.specs.Prelude.{bit_and}
-use Rattle.std.specs.Int.{bit_not, w32}
-use Rattle.std.proofs.lemmas.Bool.{eqb-true, false_from_ne_true}
-use Rattle.std.proofs.lemmas.Nat.{and_block, and_comm}
-use Rattle.covers.specs.declared.cube.Cube.{Cube}
-use Rattle.covers.specs.Cubes.{meets}
+use Rattle.std.proofs.Common.{◌≡◌, ℕ, ◌+◌, ◌*◌, ◌^◌, ◌<◌, zero, suc, ◌==◌, ◌&&◌, false, refl, ap, sym, ◌∙◌, arith, bit_and}
+use Rattle.device_logic.proofs.Common.{bit_not, w32, eqb-true, false_from_ne_true, and_block, and_comm, Cube, meets}
 
 above_zero : (n : ℕ) → 0 < n → (n == 0) ≡ false
 above_zero n some = false_from_ne_true (n == 0) (λ is. absurd (let e = eqb-true n 0 is in omega (arith, e, some)))

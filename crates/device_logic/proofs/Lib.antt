@@ -1,4 +1,5 @@
 pub mod CellsOrdered
+pub mod Common
 pub mod FreeReads
 pub mod JoinedWords
 pub mod LiveRows

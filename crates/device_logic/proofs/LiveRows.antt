@@ -1,13 +1,6 @@
 -- Rows that can be true, and rows that never are.
 use Rattle.std.proofs.Common.{◌≡◌, ℕ, ◌*◌, ◌<◌, ◌≤◌, Bool, true, false, not, ◌&&◌, ◌||◌, List, length, get_or, refl, ap, sym, ◌∙◌, zero-add}
-use Rattle.std.proofs.lemmas.Bool.{true≢false, not-false}
-use Rattle.std.proofs.lemmas.List.FromFn.{length-map-range_with_len, get_or-map-range_with_len}
-use Rattle.pld_base.specs.Points.{Levels}
-use Rattle.pld_device.specs.Table.{Table}
-use Rattle.pld_device.specs.Reads.{has_whole_pair, is_never_true}
-use Rattle.pld_device.specs.Rows.{columns_of, pair_values, row_fuses, row_is_true, is_switched_on, row_value}
-use Rattle.pld_device.proofs.RowReads.{never_true}
-use Rattle.device_logic.specs.Array.{is_live, IsArray}
+use Rattle.device_logic.proofs.Common.{true≢false, not-false, length-map-range_with_len, get_or-map-range_with_len, Levels, Table, has_whole_pair, is_never_true, columns_of, pair_values, row_fuses, row_is_true, is_switched_on, row_value, never_true, is_live, IsArray}
 
 pub live_length : (t : Table) (fuses lives : List Bool) → IsArray t fuses lives → length lives ≡ t.rows
 live_length t fuses lives array = ap length array.live ∙ length-map-range_with_len (is_live t fuses) 0 t.rows

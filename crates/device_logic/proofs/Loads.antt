@@ -1,9 +1,6 @@
 -- What a list of a graph's vertices says of each place, and what is said of a value that there may be.
-use Rattle.std.proofs.Common.{◌≡◌, ℕ, ◌<◌, true, ◌==◌, List, get_or, refl, Option, Some, None, IfSome}
-use Rattle.std.specs.Prelude.{All, IfNone}
-use Rattle.std.proofs.lemmas.Bool.{eq-eqb}
-use Rattle.std.proofs.lemmas.List.Folds.{list_any_at}
-use Rattle.pld_order.specs.Graphs.{has}
+use Rattle.std.proofs.Common.{◌≡◌, ℕ, ◌<◌, true, ◌==◌, List, get_or, refl, Option, Some, None, IfSome, All, IfNone}
+use Rattle.device_logic.proofs.Common.{eq-eqb, list_any_at, has}
 
 pub each_in : (count : ℕ) (list : List ℕ) → ((v : ℕ) → has list v ≡ true → v < count) → All (λ v. v < count) list
 each_in count list inside = λ k d low. inside (get_or list k d) (list_any_at (λ x. get_or list k d == x) list k d low (eq-eqb (get_or list k d) (get_or list k d) refl))

@@ -1,12 +1,6 @@
 -- Masks that ask opposite levels.
 use Rattle.std.proofs.Common.{◌≡◌, ◌≤◌, Bool, true, false, List, length, sym, subst, arith}
-use Rattle.std.proofs.lemmas.Bool.{and_parts, false_from_ne_true}
-use Rattle.pld_base.specs.Points.{Levels}
-use Rattle.covers.specs.declared.cube.Cube.{Cube}
-use Rattle.covers.specs.Cubes.{AsksBelow, has_point, is_empty, meets}
-use Rattle.covers.proofs.CubePoints.{apart, empty_has_none}
-use Rattle.device_logic.specs.RowMasks.{holds}
-use Rattle.device_logic.specs.declared.row_mask.RowMask.{RowMask}
+use Rattle.device_logic.proofs.Common.{and_parts, false_from_ne_true, Levels, Cube, AsksBelow, has_point, is_empty, meets, apart, empty_has_none, holds, RowMask}
 
 module _ (c : Cube) (below : AsksBelow 32 c) (p : List Bool) (long : length p ≡ 32) where
   below_length : AsksBelow (length p) c

@@ -1,14 +1,7 @@
 -- A point's levels as a cube of their own, which the cubes that have the point meet.
 use Rattle.std.proofs.Common.{◌≡◌, ℕ, ◌-◌, ◌^◌, ◌<◌, ◌≤◌, min, zero, suc, Bool, true, false, ◌==◌, List, [], ◌∷◌, length, refl, sym, ◌∙◌, subst, arith, inl, inr}
-use Rattle.std.specs.Int.{bit_at, bit_not, w32}
-use Rattle.std.proofs.lemmas.Bool.{cases_Bool, false_from_ne_true}
+use Rattle.device_logic.proofs.Common.{bit_at, bit_not, w32, cases_Bool, false_from_ne_true, bits, is_on-bits, length-bits, Cube, AsksBelow, fits, has_point, meets, meets_each, apart, has_point_each}
 use Rattle.std.proofs.lemmas.Nat.Bits.{bit_at-lt, bit_at_not}
-use Rattle.pld_base.specs.Bits.{bits}
-use Rattle.pld_base.proofs.BitLemmas.{is_on-bits, length-bits}
-use Rattle.covers.specs.declared.cube.Cube.{Cube}
-use Rattle.covers.specs.Cubes.{AsksBelow, fits, has_point, meets}
-use Rattle.covers.proofs.CubeBits.{meets_each}
-use Rattle.covers.proofs.CubePoints.{apart, has_point_each}
 
 -- a level is what its own bit and the complement ask
 fits_own : (a b : ℕ) → a < 2 → b ≡ 1 - a → fits a b (a == 1) ≡ true

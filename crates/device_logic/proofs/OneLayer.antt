@@ -1,17 +1,7 @@
 -- A device whose cells wait for no other has no loop of reads, and so one point at rest and one run.
 use Rattle.std.proofs.Common.{◌≡◌, ℕ, ◌<◌, Bool, true, false, not, ◌||◌, ◌==◌, List, [], ◌∷◌, length, refl, sym, ◌∙◌, inl, inr}
-use Rattle.std.specs.List.{list_any}
-use Rattle.std.proofs.lemmas.Bool.{eq-eqb, or_cases, or_left, and_parts, true≢false, not-true}
+use Rattle.device_logic.proofs.Common.{list_any, eq-eqb, or_cases, or_left, and_parts, true≢false, not-true, Enable, Row, PinLow, Table, cell_at, stores, never_drives, ReadsGiven, EnableReadsGiven, IsOneLayer, data_rows, device_logic, IsDetermined, has, HasNoLoop, row_reads_cell, enable_reads, data_reads, rest_reads, cell_reads}
 use Rattle.pld_device.specs.declared.carry.Carry.TheVariants as carry
-use Rattle.pld_device.specs.declared.enable.Enable.{Enable}
-use Rattle.pld_device.specs.declared.enable.Enable.TheVariants.{Row, PinLow}
-use Rattle.pld_device.specs.Table.{Table, cell_at}
-use Rattle.pld_device.specs.Registers.{stores}
-use Rattle.pld_device.specs.Given.{never_drives, ReadsGiven, EnableReadsGiven, IsOneLayer}
-use Rattle.pld_device.specs.Macrocells.{data_rows, device_logic}
-use Rattle.pld_machine.specs.Steps.{IsDetermined}
-use Rattle.pld_order.specs.Graphs.{has, HasNoLoop}
-use Rattle.device_logic.specs.CellReads.{row_reads_cell, enable_reads, data_reads, rest_reads, cell_reads}
 use Rattle.device_logic.proofs.FreeReads.{layer_reads_free}
 use Rattle.device_logic.proofs.CellsOrdered.{is_ordered, determined}
 use Rattle.device_logic.proofs.ReadCells.{row_reads_cell-pair}

@@ -1,16 +1,7 @@
 -- Devices whose cells have no loop, and whose reset depends on no register, have one point at rest and one run.
 use Rattle.std.proofs.Common.{◌≡◌, ◌⊎◌, ℕ, Bool, List, length, Option, Some, None, refl, inl, inr}
-use Rattle.pld_base.specs.Points.{Levels}
-use Rattle.pld_device.specs.Table.{Table}
-use Rattle.pld_device.specs.Laws.{IsDevice}
-use Rattle.pld_device.specs.Macrocells.{row_if_any, device_logic}
-use Rattle.pld_machine.specs.Order.{ResetsWithoutQ, IsOrdered}
-use Rattle.pld_machine.specs.Steps.{IsDetermined}
-use Rattle.pld_order.specs.Graphs.{IsOrder, HasOrder, HasLoop, HasNoLoop}
+use Rattle.device_logic.proofs.Common.{Levels, Table, IsDevice, row_if_any, device_logic, ResetsWithoutQ, IsOrdered, IsDetermined, IsOrder, HasOrder, HasLoop, HasNoLoop, cell_reads, device_lookups, HasNoResetPath}
 use Rattle.pld_order.proofs.OneOfBoth.{one_or_other}
-use Rattle.device_logic.specs.CellReads.{cell_reads}
-use Rattle.device_logic.specs.DeviceLookups.{device_lookups}
-use Rattle.device_logic.specs.ResetPaths.{HasNoResetPath}
 use Rattle.device_logic.proofs.FreeReads.{device_reads_free}
 use Rattle.device_logic.proofs.CellsOrdered.{is_ordered, determined}
 use Rattle.device_logic.proofs.ResetReads.{resets_free}

@@ -1,14 +1,7 @@
 -- A row's fuses and columns, walked pair by pair.
 use Rattle.std.proofs.Common.{◌≡◌, ℕ, zero, suc, ◌+◌, ◌*◌, ◌-◌, ◌<◌, ◌≤◌, Bool, true, false, not, ◌&&◌, ◌||◌, List, [], ◌∷◌, length, drop, refl, arith, add-one, length-drop}
+use Rattle.device_logic.proofs.Common.{and_parts, or_right, true≢false, length-map, length-take, is_on, Levels, Table, carried, columns_of, pair_values, row_fuses, row_is_true, has_whole_pair, connected_pairs, is_whole, is_connected, passes}
 use Rattle.std.proofs.Math.Nat.{mul-le-mul_left}
-use Rattle.std.proofs.lemmas.Bool.{and_parts, or_right, true≢false}
-use Rattle.std.proofs.lemmas.List.{length-map, length-take}
-use Rattle.pld_base.specs.Bits.{is_on}
-use Rattle.pld_base.specs.Points.{Levels}
-use Rattle.pld_device.specs.Table.{Table}
-use Rattle.pld_device.specs.Rows.{carried, columns_of, pair_values, row_fuses, row_is_true}
-use Rattle.pld_device.specs.Reads.{has_whole_pair, connected_pairs}
-use Rattle.device_logic.specs.Array.{is_whole, is_connected, passes}
 
 -- the columns k and k + 1 are those of the pair
 abbrev pub whole_from : List Bool → ℕ → Bool

@@ -1,20 +1,8 @@
 -- Cubes over the column pairs that are gathered pair by pair.
 use Rattle.std.proofs.Common.{◌≡◌, ℕ, ◌+◌, ◌*◌, ◌^◌, ◌<◌, Bool, true, false, not, ◌&&◌, ◌||◌, List, length, refl, ap, sym, ◌∙◌, subst, arith}
-use Rattle.std.proofs.lemmas.List.{length-map}
-use Rattle.std.proofs.lemmas.Nat.{or_lt, pow_pos}
+use Rattle.device_logic.proofs.Common.{length-map, or_lt, pow_pos, is_on, same_level, Levels, IsDevice, carried, pair_values, row_fuses, Table, is_live, passes, Cube, AsksBelow, full_cube, has_point, literal_cube, union, literal_below, full_has_all, AsksBesides, IsPairCube}
 use Rattle.std.proofs.Math.Pow.{pow-lt}
-use Rattle.pld_base.specs.Bits.{is_on, same_level}
-use Rattle.pld_base.specs.Points.{Levels}
-use Rattle.pld_device.specs.Laws.{IsDevice}
-use Rattle.pld_device.specs.Rows.{carried, pair_values, row_fuses}
-use Rattle.pld_device.specs.Table.{Table}
-use Rattle.device_logic.specs.Array.{is_live, passes}
 use Rattle.device_logic.proofs.LiveRows.{dead_value}
-use Rattle.covers.specs.declared.cube.Cube.{Cube}
-use Rattle.covers.specs.Cubes.{AsksBelow, full_cube, has_point, literal_cube, union}
-use Rattle.covers.proofs.CubeBits.{literal_below}
-use Rattle.covers.proofs.CubePoints.{full_has_all}
-use Rattle.device_logic.specs.PairCubes.{AsksBesides, IsPairCube}
 use Rattle.device_logic.proofs.MaskedPoints.{never_has}
 use Rattle.device_logic.proofs.Walked.{PassesBelow, passes_more, passes_row}
 

@@ -1,16 +1,8 @@
 -- What a device's laws say of the numbers that its look-ups answer.
 use Rattle.std.proofs.Common.{◌≡◌, ℕ, ◌<◌, [], ◌∷◌, ◌++◌, length, Option, Some, None, slice_get, IfSome, refl, ap, sym, subst, arith, inl, inr, length-append}
-use Rattle.std.proofs.lemmas.Bool.{cases_lt, eq-eqb}
-use Rattle.std.proofs.lemmas.Option.{get_or_from_slice_get, slice_get_within}
-use Rattle.pld_device.specs.declared.carry.Carry.{Carry}
+use Rattle.device_logic.proofs.Common.{cases_lt, eq-eqb, get_or_from_slice_get, slice_get_within, Carry, Cell, Enable, Row, PinLow, Table, cell_at, no_cell, inverted_at, registered_at, Resets, Presets, use_if, is_row, cell_uses, uses_of, Control, Inverts, Registers, fuse_if_any, fuse_for, IsPair, IsCell, IsDevice, CarryInRange, EnableInRange}
 use Rattle.pld_device.specs.declared.carry.Carry.TheVariants as carry
-use Rattle.pld_device.specs.declared.cell.Cell.{Cell}
-use Rattle.pld_device.specs.declared.enable.Enable.{Enable}
-use Rattle.pld_device.specs.declared.enable.Enable.TheVariants.{Row, PinLow}
 use Rattle.pld_device.specs.declared.fuse_bit.FuseBit.{FuseBit}
-use Rattle.pld_device.specs.Table.{Table, cell_at, no_cell, inverted_at, registered_at}
-use Rattle.pld_device.specs.Laws.{Resets, Presets, use_if, is_row, cell_uses, uses_of, Control, Inverts, Registers, fuse_if_any, fuse_for, IsPair, IsCell, IsDevice}
-use Rattle.device_logic.specs.Array.{CarryInRange, EnableInRange}
 
 module _ (t : Table) (laws : IsDevice t) where
   pub carry_in_range : (pair : ℕ) (x : Carry) → slice_get t.pairs pair ≡ Some x → CarryInRange t x

@@ -1,17 +1,8 @@
 -- What a cell reads: a row that reads the pair of a cell reads the cell.
 use Rattle.std.proofs.Common.{◌≡◌, ℕ, zero, suc, ◌+◌, ◌<◌, Bool, true, false, ◌&&◌, List, [], ◌∷◌, length, get_or, Some, slice_get, refl, ap, sym, subst, arith, inl, inr}
-use Rattle.std.proofs.lemmas.Bool.{and_parts, eqb-true, eq-eqb, or_cases, or_left, or_right, true≢false}
-use Rattle.std.proofs.lemmas.Option.{slice_get-get_or}
-use Rattle.pld_device.specs.declared.carry.Carry.{Carry}
+use Rattle.device_logic.proofs.Common.{and_parts, eqb-true, eq-eqb, or_cases, or_left, or_right, true≢false, slice_get-get_or, Carry, Table, IsDataRow, cell_at, stores, never_drives, row_reads, carries_cell, pair_reads, pairs_read, row_reads_cell, enable_reads, data_reads, rest_reads, cell_reads}
 use Rattle.pld_device.specs.declared.carry.Carry.TheVariants as carry
-use Rattle.pld_device.specs.Table.{Table, IsDataRow, cell_at}
-use Rattle.pld_device.specs.Registers.{stores}
-use Rattle.pld_device.specs.Given.{never_drives}
-use Rattle.pld_device.specs.Reads.{row_reads}
-use Rattle.pld_device.specs.Pins.{carries_cell}
-use Rattle.device_logic.specs.PairReads.{pair_reads}
 use Rattle.device_logic.proofs.Runs.{any_at}
-use Rattle.device_logic.specs.CellReads.{pairs_read, row_reads_cell, enable_reads, data_reads, rest_reads, cell_reads}
 
 same_carry : (x y : Carry) → Some x ≡ Some y → x ≡ y
 same_carry x y e = cc

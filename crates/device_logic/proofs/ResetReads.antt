@@ -1,30 +1,10 @@
 -- Where no chain of reads leads from the reset row to a register, resets depend on no Q.
 use Rattle.std.proofs.Common.{◌≡◌, ℕ, zero, suc, ◌<◌, Bool, true, false, not, ◌||◌, eqb, List, [], ◌∷◌, map, length, get_or, Option, Some, None, slice_get, refl, ap, sym, ◌∙◌, subst, inl, inr}
-use Rattle.std.proofs.lemmas.Bool.{cases_Bool, cases_lt, or_cases, and_parts, and_from, true≢false}
-use Rattle.std.specs.List.{list_any}
-use Rattle.std.proofs.lemmas.List.{length-map}
-use Rattle.std.proofs.lemmas.Option.{get_or_from_slice_get, slice_get_within, slice_get-get_or}
-use Rattle.pld_base.specs.Bits.{is_on}
-use Rattle.pld_base.specs.Points.{Levels}
+use Rattle.device_logic.proofs.Common.{cases_Bool, cases_lt, or_cases, and_parts, and_from, true≢false, list_any, length-map, get_or_from_slice_get, slice_get_within, slice_get-get_or, is_on, Levels, Enable, Row, PinLow, IsPair, IsDevice, data_rows, row_if_any, stores, carried, Table, cell_at, never_drives, is_free_pin, Slot, SameAt, ResetsWithoutQ, IsOrder, HasNoPath, eqb_same, place_of, row_reads_cell, enable_reads, data_reads, rest_reads, cell_reads, device_lookups, row_reads_if_any, reset_reads, plain_reads, HasNoResetPath}
 use Rattle.pld_device.specs.declared.carry.Carry.TheVariants as carry
-use Rattle.pld_device.specs.declared.enable.Enable.{Enable}
-use Rattle.pld_device.specs.declared.enable.Enable.TheVariants.{Row, PinLow}
-use Rattle.pld_device.specs.Laws.{IsPair, IsDevice}
-use Rattle.pld_device.specs.Macrocells.{data_rows, row_if_any}
-use Rattle.pld_device.specs.Registers.{stores}
-use Rattle.pld_device.specs.Rows.{carried}
-use Rattle.pld_device.specs.Table.{Table, cell_at}
-use Rattle.pld_device.specs.Given.{never_drives, is_free_pin}
-use Rattle.pld_machine.specs.declared.logic.Slot.{Slot}
 use Rattle.pld_machine.specs.declared.logic.Slot.TheVariants as slot
-use Rattle.pld_machine.specs.Order.{SameAt, ResetsWithoutQ}
 use Rattle.pld_machine.proofs.WithoutQ.{AgreeBefore, ReadNoQ, resets_without_q}
-use Rattle.pld_order.specs.Graphs.{IsOrder, HasNoPath}
-use Rattle.pld_order.proofs.Lists.{eqb_same, place_of}
 use Rattle.pld_order.proofs.PathSteps.{path_from, path_one, path_step}
-use Rattle.device_logic.specs.CellReads.{row_reads_cell, enable_reads, data_reads, rest_reads, cell_reads}
-use Rattle.device_logic.specs.DeviceLookups.{device_lookups}
-use Rattle.device_logic.specs.ResetPaths.{row_reads_if_any, reset_reads, plain_reads, HasNoResetPath}
 use Rattle.device_logic.proofs.CellsOrdered.{has_slots, has_pins, in_cells, unset_free, cell_slot, same_cell}
 use Rattle.device_logic.proofs.FreeReads.{ReadsFreePins, device_reads_free, rows_free}
 use Rattle.device_logic.proofs.ReadCells.{cell_reads-rest, row_reads_cell-pair}

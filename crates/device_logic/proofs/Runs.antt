@@ -1,7 +1,6 @@
 -- A run of numbers, some or none of which pass a test.
 use Rattle.std.proofs.Common.{◌≡◌, ℕ, zero, suc, ◌+◌, ◌<◌, ◌≤◌, Bool, true, false, refl, sym, subst, arith, inl, inr}
-use Rattle.std.specs.List.{list_any, range_with_len}
-use Rattle.std.proofs.lemmas.Bool.{cases_eq, or_cases, or_left, or_right, true≢false}
+use Rattle.device_logic.proofs.Common.{list_any, range_with_len, cases_eq, or_cases, or_left, or_right, true≢false}
 
 -- one that passes is enough
 pub any_at : (test : ℕ → Bool) (first count k : ℕ) → first ≤ k → k < first + count → test k ≡ true → list_any test (range_with_len first count) ≡ true

@@ -1,20 +1,7 @@
 -- A cell asks the same at two points where all that it reads is the same.
 use Rattle.std.proofs.Common.{◌≡◌, ℕ, zero, suc, ◌*◌, ◌<◌, ◌≤◌, Bool, true, false, not, List, [], ◌∷◌, map, length, Some, slice_get, refl, ap, sym, ◌∙◌, subst, inl, inr}
-use Rattle.std.proofs.lemmas.Bool.{cases_Bool, true≢false}
-use Rattle.pld_base.specs.Bits.{is_on}
-use Rattle.pld_base.specs.Points.{Levels}
-use Rattle.pld_device.specs.declared.carry.Carry.{Carry}
+use Rattle.device_logic.proofs.Common.{cases_Bool, true≢false, is_on, Levels, Carry, Enable, Row, PinLow, Table, cell_at, stores, is_inverted, carried, row_value, complement_if, pin_complements, output_value, enabled_by, is_enabled, pin_level, row_reads, enables_never, never_drives, is_free_pin, row_same, never_true, row_reads_cell, enable_reads, rest_reads}
 use Rattle.pld_device.specs.declared.carry.Carry.TheVariants as carry
-use Rattle.pld_device.specs.declared.enable.Enable.{Enable}
-use Rattle.pld_device.specs.declared.enable.Enable.TheVariants.{Row, PinLow}
-use Rattle.pld_device.specs.Table.{Table, cell_at}
-use Rattle.pld_device.specs.Registers.{stores, is_inverted}
-use Rattle.pld_device.specs.Rows.{carried, row_value}
-use Rattle.pld_device.specs.Macrocells.{complement_if, pin_complements, output_value, enabled_by, is_enabled, pin_level}
-use Rattle.pld_device.specs.Reads.{row_reads}
-use Rattle.pld_device.specs.Given.{enables_never, never_drives, is_free_pin}
-use Rattle.pld_device.proofs.RowReads.{row_same, never_true}
-use Rattle.device_logic.specs.CellReads.{row_reads_cell, enable_reads, rest_reads}
 use Rattle.device_logic.proofs.FreeReads.{RowReadsFree, EnableReadsFree, ReadsFreePins}
 use Rattle.device_logic.proofs.Runs.{any_same}
 use Rattle.device_logic.proofs.ReadCells.{row_reads_cell-at, rest_reads-enable, rest_reads-data}

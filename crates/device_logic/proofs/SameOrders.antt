@@ -1,11 +1,7 @@
 -- What the searches answer of the graph of a device's cells, said of its cells.
 use Rattle.std.proofs.Common.{ℕ, Bool, List, length, subst}
-use Rattle.pld_order.specs.Graphs.{IsOrder, IsLeastLoop, HasNoLoop, IsPath, HasNoPath}
-use Rattle.pld_order.specs.Sets.{reads_of}
-use Rattle.pld_base.specs.Bits.{is_on}
+use Rattle.device_logic.proofs.Common.{IsOrder, IsLeastLoop, HasNoLoop, IsPath, HasNoPath, reads_of, is_on, Table, HasCells, IsGraph}
 use Rattle.pld_order.proofs.SameGraphs.{order_same, no_loop_same, least_same, path_same, no_path_same}
-use Rattle.pld_device.specs.Table.{Table}
-use Rattle.device_logic.specs.Graphs.{HasCells, IsGraph}
 
 module _ (t : Table) (test : ℕ → ℕ → Bool) (sets : List (List Bool)) (graph : IsGraph t test sets) where
   pub order_of_graph : (order : List ℕ) → IsOrder (length sets) (reads_of sets) order → IsOrder (length t.cells) test order

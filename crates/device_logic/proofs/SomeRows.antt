@@ -1,7 +1,6 @@
 -- Runs of rows, four at a turn.
 use Rattle.std.proofs.Common.{◌≡◌, ℕ, ◌+◌, ◌<◌, ◌≤◌, Bool, false, sym, ◌∙◌}
-use Rattle.std.specs.List.{list_any, range_with_len}
-use Rattle.std.proofs.lemmas.Bool.{false_from_ne_true, true≢false}
+use Rattle.device_logic.proofs.Common.{list_any, range_with_len, false_from_ne_true, true≢false}
 use Rattle.device_logic.proofs.Runs.{any_at}
 
 -- where none of a run passes, no one of it does

@@ -1,19 +1,9 @@
 -- Rows that are gathered pair by pair.
 use Rattle.std.proofs.Common.{◌≡◌, ◌⊎◌, ℕ, ◌+◌, ◌*◌, ◌<◌, Bool, true, false, not, ◌&&◌, ◌||◌, List, [], ◌∷◌, ◌++◌, map, length, get_or, Some, slice_get, zero, suc, refl, ap, sym, ◌∙◌, subst, arith, inl, inr, below_more, length-append}
-use Rattle.std.proofs.lemmas.Bool.{cases_Bool, cases_lt, and_parts, true≢false}
-use Rattle.std.proofs.lemmas.List.{get_or_append_left}
+use Rattle.device_logic.proofs.Common.{cases_Bool, cases_lt, and_parts, true≢false, get_or_append_left, is_on, same_level, Levels, IsPoint, Carry, IsDevice, carried, columns_of, pair_values, row_fuses, row_is_true, row_value, Table, is_live, passes, HoldsWith, holds, RowMask}
 use Rattle.std.proofs.Math.Seq.{get_or-append_seam}
-use Rattle.pld_base.specs.Bits.{is_on, same_level}
-use Rattle.pld_base.specs.Points.{Levels, IsPoint}
-use Rattle.pld_device.specs.declared.carry.Carry.{Carry}
-use Rattle.pld_device.specs.Laws.{IsDevice}
-use Rattle.pld_device.specs.Rows.{carried, columns_of, pair_values, row_fuses, row_is_true, row_value}
-use Rattle.pld_device.specs.Table.{Table}
-use Rattle.device_logic.specs.Array.{is_live, passes}
 use Rattle.device_logic.proofs.LiveRows.{live_value}
 use Rattle.device_logic.proofs.PairWalks.{row_passes, row_fails}
-use Rattle.device_logic.specs.RowMasks.{HoldsWith, holds}
-use Rattle.device_logic.specs.declared.row_mask.RowMask.{RowMask}
 
 -- what a pair carries stands among the values
 pub value_at : (f : Carry → Bool) (carries : List Carry) (pair : ℕ) (x : Carry) → slice_get carries pair ≡ Some x → is_on (map f carries) pair ≡ f x

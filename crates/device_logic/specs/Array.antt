@@ -1,13 +1,7 @@
 -- How a device's rows are looked at, pair by pair. These are private helpers: no public clause cites them.
 use Rattle.std.specs.Prelude.{◌≡◌, ℕ, ◌+◌, ◌*◌, ◌<◌, Bool, not, ◌&&◌, ◌||◌, List, map, length}
-use Rattle.std.specs.List.{range_with_len}
-use Rattle.pld_base.specs.Bits.{is_on}
-use Rattle.pld_device.specs.declared.carry.Carry.{Carry}
+use Rattle.device_logic.specs.Prelude.{range_with_len, is_on, Carry, Enable, Row, PinLow, is_never_true, Table}
 use Rattle.pld_device.specs.declared.carry.Carry.TheVariants as carry
-use Rattle.pld_device.specs.declared.enable.Enable.{Enable}
-use Rattle.pld_device.specs.declared.enable.Enable.TheVariants.{Row, PinLow}
-use Rattle.pld_device.specs.Reads.{is_never_true}
-use Rattle.pld_device.specs.Table.{Table}
 
 -- the row can be true at some point, as far as its own fuses say
 abbrev pub is_live : Table → List Bool → ℕ → Bool

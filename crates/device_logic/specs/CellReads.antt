@@ -1,18 +1,8 @@
 -- Which cells a cell reads while it comes to rest, whether or not its value depends on them (this project's
 -- rule).
 use Rattle.std.specs.Prelude.{ℕ, suc, [], ◌∷◌, Bool, false, not, ◌&&◌, ◌||◌, ◌==◌, List, length}
-use Rattle.std.specs.List.{list_any}
-use Rattle.pld_device.specs.declared.carry.Carry.{Carry}
+use Rattle.device_logic.specs.Prelude.{list_any, Carry, Enable, Row, PinLow, Table, cell_at, never_drives, data_rows, carries_cell, row_reads, IsOrder, stores}
 use Rattle.pld_device.specs.declared.carry.Carry.TheVariants as carry
-use Rattle.pld_device.specs.declared.enable.Enable.{Enable}
-use Rattle.pld_device.specs.declared.enable.Enable.TheVariants.{Row, PinLow}
-use Rattle.pld_device.specs.Table.{Table, cell_at}
-use Rattle.pld_device.specs.Given.{never_drives}
-use Rattle.pld_device.specs.Macrocells.{data_rows}
-use Rattle.pld_device.specs.Pins.{carries_cell}
-use Rattle.pld_device.specs.Reads.{row_reads}
-use Rattle.pld_order.specs.Graphs.{IsOrder}
-use Rattle.pld_device.specs.Registers.{stores}
 
 -- some pair from this number on that the row reads carries it
 abbrev pub pairs_read : Table → List Bool → (row d pair : ℕ) → List Carry → Bool

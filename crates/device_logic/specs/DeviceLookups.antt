@@ -1,10 +1,7 @@
 -- A device with its fuses as what the machine asks of a logic (this project's rule).
 use Rattle.std.specs.Prelude.{ℕ, Bool, false, List, map, length}
-use Rattle.pld_device.specs.Table.{Table, cell_at}
-use Rattle.pld_device.specs.Registers.{stores}
-use Rattle.pld_device.specs.Macrocells.{is_enabled, pin_level, next_q, row_if_any}
+use Rattle.device_logic.specs.Prelude.{Table, cell_at, stores, is_enabled, pin_level, next_q, row_if_any, Lookups}
 use Rattle.pld_machine.specs.declared.logic.Slot.TheVariants as slot
-use Rattle.pld_machine.specs.Lookups.{Lookups}
 
 -- fuses in a device, and the order in which its cells come to rest
 pub record Loaded : Type 0 where

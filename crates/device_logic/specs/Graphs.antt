@@ -1,8 +1,6 @@
 -- Private: a device's cells as a graph, for the searches for an order, a loop and a chain (this project's rule).
 use Rattle.std.specs.Prelude.{◌≡◌, ℕ, ◌<◌, Bool, List, length}
-use Rattle.pld_base.specs.Bits.{is_on}
-use Rattle.pld_device.specs.Table.{Table}
-use Rattle.pld_device.specs.Registers.{stores}
+use Rattle.device_logic.specs.Prelude.{is_on, Table, stores}
 use Rattle.pld_order.specs.Sets.{reads_of}
 use Rattle.device_logic.specs.declared.graphs.Reading.{Reading}
 use Rattle.device_logic.specs.declared.graphs.Reading.TheVariants.{Waits, Plain}

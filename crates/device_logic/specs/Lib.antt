@@ -6,6 +6,7 @@ pub mod LoadFaults
 pub mod Masked
 pub mod PairCubes
 pub mod PairReads
+pub mod Prelude
 pub mod ResetPaths
 pub mod RowMasks
 pub mod TrioTable

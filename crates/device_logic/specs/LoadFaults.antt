@@ -1,8 +1,6 @@
 -- Why fuses are not loaded (this project's rule).
 use Rattle.std.specs.Prelude.{◌≡◌, ℕ, Bool, List, length, map, eqb, ⊤}
-use Rattle.std.specs.List.{IsDistinct}
-use Rattle.pld_order.specs.Graphs.{IsLeastLoop, HasNoLoop}
-use Rattle.pld_device.specs.Table.{Table, cell_at}
+use Rattle.device_logic.specs.Prelude.{IsDistinct, IsLeastLoop, HasNoLoop, Table, cell_at}
 use Rattle.device_logic.specs.declared.fault.SimFault.{SimFault}
 use Rattle.device_logic.specs.declared.fault.SimFault.TheVariants.{UnsupportedCondition, DeviceLoop, DeviceResetReadsRegister, OutOfMemory}
 use Rattle.device_logic.specs.CellReads.{cell_reads}

@@ -1,6 +1,6 @@
 -- Private: what a loaded device keeps (this project's rule).
 use Rattle.std.specs.Prelude.{ℕ, Bool, List}
-use Rattle.pld_device.specs.Table.{Table}
+use Rattle.device_logic.specs.Prelude.{Table}
 use Rattle.device_logic.specs.RowMasks.{AreMasks}
 use Rattle.device_logic.specs.declared.row_mask.RowMask.{RowMask}
 use Rattle.device_logic.specs.CellReads.{IsCellOrder}

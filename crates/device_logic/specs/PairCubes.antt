@@ -1,9 +1,6 @@
 -- Rows as what they ask of the column pairs (this project's rule).
 use Rattle.std.specs.Prelude.{◌≡◌, ℕ, ◌<◌, Bool, ◌&&◌, List, get_or, length}
-use Rattle.pld_base.specs.Points.{IsPoint, Levels}
-use Rattle.pld_device.specs.Rows.{pair_values, row_value}
-use Rattle.pld_device.specs.Table.{Table}
-use Rattle.covers.specs.Cubes.{AsksBelow, has_point}
+use Rattle.device_logic.specs.Prelude.{IsPoint, Levels, pair_values, row_value, Table, AsksBelow, has_point}
 use Rattle.covers.specs.declared.cube.Cube.{Cube}
 
 -- it asks of the pairs' values what the row does

@@ -1,9 +1,7 @@
 -- How a row reads a cell, pair by pair. A private helper: no public clause cites it.
 use Rattle.std.specs.Prelude.{ℕ, Bool, ◌&&◌, List, get_or}
 use Rattle.pld_device.specs.declared.carry.Carry.TheVariants as carry
-use Rattle.pld_device.specs.Reads.{row_reads}
-use Rattle.pld_device.specs.Table.{Table}
-use Rattle.pld_device.specs.Pins.{carries_cell}
+use Rattle.device_logic.specs.Prelude.{row_reads, Table, carries_cell}
 
 -- the row reads the pair, which carries what the cell feeds back
 abbrev pub pair_reads : Table → List Bool → (row d pair : ℕ) → Bool

@@ -1,8 +1,6 @@
 -- Chains of reads from a device's reset row to a register (this project's rule).
 use Rattle.std.specs.Prelude.{ℕ, Bool, false, not, ◌&&◌, Option, None, Some, List, length}
-use Rattle.pld_device.specs.Registers.{stores}
-use Rattle.pld_device.specs.Table.{Table}
-use Rattle.pld_order.specs.Graphs.{IsPath, HasNoPath}
+use Rattle.device_logic.specs.Prelude.{stores, Table, IsPath, HasNoPath}
 use Rattle.device_logic.specs.CellReads.{row_reads_cell, rest_reads}
 
 -- the row, where there is one, reads the cell

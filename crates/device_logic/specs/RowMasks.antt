@@ -1,9 +1,6 @@
 -- Rows as what they ask of a point's pins and of its Qs (this project's rule).
 use Rattle.std.specs.Prelude.{◌≡◌, ℕ, ◌<◌, Bool, ◌&&◌, List, get_or, length}
-use Rattle.pld_base.specs.Points.{IsPoint, Levels}
-use Rattle.pld_device.specs.Rows.{row_value}
-use Rattle.pld_device.specs.Table.{Table}
-use Rattle.covers.specs.Cubes.{has_point}
+use Rattle.device_logic.specs.Prelude.{IsPoint, Levels, row_value, Table, has_point}
 use Rattle.device_logic.specs.declared.row_mask.RowMask.{RowMask}
 
 -- each pin and each Q has the level that is asked

@@ -1,14 +1,12 @@
 -- A small combinational device of no maker, on which loading is tried (this project's example).
 use Rattle.std.specs.Prelude.{ℕ, ◌+◌, None, [], ◌∷◌}
 use Rattle.std.proofs.Common.{refl}
+use Rattle.device_logic.specs.Prelude.{Row, Table, IsDevice}
 use Rattle.pld_base.specs.declared.device_name.DeviceName.TheVariants.{P16L8}
 use Rattle.pld_device.specs.declared.carry.Carry.TheVariants as carry
 use Rattle.pld_device.specs.declared.cell.Cell.{Cell}
-use Rattle.pld_device.specs.declared.enable.Enable.TheVariants.{Row}
 use Rattle.pld_device.specs.declared.flip.Flip.TheVariants.{Always}
 use Rattle.pld_device.specs.declared.kinds.Kinds.TheVariants.{Combinational}
-use Rattle.pld_device.specs.Table.{Table}
-use Rattle.pld_device.specs.Laws.{IsDevice}
 use Rattle.pld_device.specs.LawTests.{device_by_computation}
 
 -- a cell on this pin, with an enable row and then two data rows

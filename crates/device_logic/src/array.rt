@@ -1,8 +1,7 @@
 //! The array of a device with its fuses: which rows can be true and what they read, and what its cells are.
 
 ghost use Rattle.std.specs.Prelude.{◌≡◌, ◌<◌, length, IfOk, IfSome};
-ghost use Rattle.pld_device.specs.Reads.{row_reads};
-ghost use Rattle.pld_device.specs.Registers.{is_inverted, says, stores};
+ghost use Rattle.device_logic.specs.Prelude.{row_reads, is_inverted, says, stores};
 ghost use Rattle.device_logic.specs.Array.{is_live};
 
 use crate::lookups::cell_of;

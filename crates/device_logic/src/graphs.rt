@@ -2,8 +2,7 @@
 //! from the reset row to a register.
 
 ghost use Rattle.std.specs.Prelude.{◌≡◌, ◌<◌, eqb, IfErr, IfNone, IfOk, IfSome, length};
-ghost use Rattle.std.specs.List.{IsDistinct};
-ghost use Rattle.pld_order.specs.Graphs.{HasNoLoop, IsLeastLoop};
+ghost use Rattle.device_logic.specs.Prelude.{IsDistinct, HasNoLoop, IsLeastLoop};
 ghost use Rattle.device_logic.specs.CellReads.{IsCellOrder, cell_reads};
 ghost use Rattle.device_logic.specs.Graphs.{HasCells, IsGraph, QuestionInRange, holds, reads_as};
 ghost use Rattle.device_logic.specs.ResetPaths.{HasNoResetPath, IsResetPath};

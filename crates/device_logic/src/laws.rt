@@ -1,12 +1,7 @@
 //! Laws of devices with their fuses, as the contracts of calls that do nothing.
 
 ghost use Rattle.std.specs.Prelude.{Bool, List, length};
-ghost use Rattle.pld_device.specs.Given.{IsOneLayer};
-ghost use Rattle.pld_device.specs.Laws.{IsDevice};
-ghost use Rattle.pld_device.specs.Macrocells.{device_logic};
-ghost use Rattle.pld_device.specs.Table.{Table};
-ghost use Rattle.pld_machine.specs.Steps.{IsDetermined};
-ghost use Rattle.pld_order.specs.Graphs.{HasNoLoop};
+ghost use Rattle.device_logic.specs.Prelude.{IsOneLayer, IsDevice, device_logic, Table, IsDetermined, HasNoLoop};
 ghost use Rattle.device_logic.specs.CellReads.{cell_reads};
 ghost use Rattle.device_logic.specs.ResetPaths.{HasNoResetPath};
 

@@ -1,11 +1,8 @@
 //! Loading fuses into a device.
 
 ghost use Rattle.std.specs.Prelude.{◌≡◌, ◌<◌, length, All, IfOk, IfErr};
-ghost use Rattle.pld_device.specs.Macrocells.{device_logic};
-ghost use Rattle.pld_machine.specs.Lookups.{logic_of};
+ghost use Rattle.device_logic.specs.Prelude.{device_logic, logic_of, IsDetermined, HasNoLoop};
 ghost use Rattle.pld_machine.specs.Order.{IsOrdered};
-ghost use Rattle.pld_machine.specs.Steps.{IsDetermined};
-ghost use Rattle.pld_order.specs.Graphs.{HasNoLoop};
 ghost use Rattle.device_logic.specs.CellReads.{cell_reads};
 ghost use Rattle.device_logic.specs.DeviceLookups.{device_lookups};
 ghost use Rattle.device_logic.specs.LoadFaults.{IsLoadFault, pins_of};

@@ -1,8 +1,7 @@
 //! A device with its fuses as a logic.
 
 ghost use Rattle.std.specs.Prelude.{◌≡◌, ◌<◌};
-ghost use Rattle.pld_base.specs.Points.{levels_of};
-ghost use Rattle.pld_device.specs.Rows.{row_value};
+ghost use Rattle.device_logic.specs.Prelude.{levels_of, row_value};
 ghost use Rattle.device_logic.specs.RowMasks.{AreMasks, IsMask};
 ghost use Rattle.device_logic.specs.CellReads.{IsCellOrder};
 

@@ -1,7 +1,7 @@
 //! A device's look-ups, with what the laws say of the numbers that they answer.
 
 ghost use Rattle.std.specs.Prelude.{◌≡◌, ◌+◌, ◌<◌, ◌≤◌, length, slice_get, Some};
-ghost use Rattle.pld_device.specs.Table.{cell_at};
+ghost use Rattle.device_logic.specs.Prelude.{cell_at};
 ghost use Rattle.device_logic.specs.Array.{CarryInRange, EnableInRange};
 
 use pld_device::{Carry, Cell, Device};

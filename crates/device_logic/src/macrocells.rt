@@ -1,11 +1,7 @@
 //! What the cells of a device drive and store, by the masks of its rows.
 
 ghost use Rattle.std.specs.Prelude.{◌≡◌, ◌+◌, ◌<◌, ◌≤◌, IfSome, length};
-ghost use Rattle.std.specs.List.{list_any, range_with_len};
-ghost use Rattle.pld_base.specs.Points.{levels_of};
-ghost use Rattle.pld_device.specs.Macrocells.{data_complements, is_enabled, next_q, or_value};
-ghost use Rattle.pld_device.specs.Macrocells.{output_value, pin_complements, pin_level, row_if_any};
-ghost use Rattle.pld_device.specs.Rows.{row_value};
+ghost use Rattle.device_logic.specs.Prelude.{list_any, range_with_len, levels_of, data_complements, is_enabled, next_q, or_value, output_value, pin_complements, pin_level, row_if_any, row_value};
 
 use crate::logic::DeviceLogic;
 use crate::lookups::cell_of;

@@ -1,8 +1,7 @@
 //! The masks of a device's rows, each gathered pair by pair.
 
 ghost use Rattle.std.specs.Prelude.{◌≡◌, ◌<◌, ◌||◌, IfOk, IsTrue, length};
-ghost use Rattle.pld_base.specs.Bits.{is_on, same_level};
-ghost use Rattle.pld_device.specs.Rows.{carried, pair_values, row_fuses};
+ghost use Rattle.device_logic.specs.Prelude.{is_on, same_level, carried, pair_values, row_fuses};
 ghost use Rattle.pld_device.specs.declared.carry.Carry.TheVariants as carry;
 ghost use Rattle.device_logic.specs.Array.{CarryInRange, is_live, passes};
 ghost use Rattle.device_logic.specs.RowMasks.{AreMasks, HoldsWith, IsMask};

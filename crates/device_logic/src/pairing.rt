@@ -4,8 +4,7 @@
 //! one can be held against rows of the other by these cubes, as covers over the pairs.
 
 ghost use Rattle.std.specs.Prelude.{◌≡◌, ◌<◌, ◌||◌, IfOk, IsTrue, length};
-ghost use Rattle.pld_base.specs.Bits.{is_on, same_level};
-ghost use Rattle.pld_device.specs.Rows.{row_fuses};
+ghost use Rattle.device_logic.specs.Prelude.{is_on, same_level, row_fuses};
 ghost use Rattle.device_logic.specs.Array.{is_live, passes};
 ghost use Rattle.device_logic.specs.PairCubes.{ArePairCubes, AsksBesides, IsPairCube};
 

@@ -1,11 +1,9 @@
 //! Which cells a cell reads while it comes to rest.
 
 ghost use Rattle.std.specs.Prelude.{◌≡◌, ◌+◌, ◌<◌, ◌≤◌, IfSome, length};
-ghost use Rattle.std.specs.List.{list_any, range_with_len};
-ghost use Rattle.pld_device.specs.Given.{enables_never};
+ghost use Rattle.device_logic.specs.Prelude.{list_any, range_with_len, enables_never};
 ghost use Rattle.device_logic.specs.Array.{EnableInRange};
-ghost use Rattle.device_logic.specs.CellReads.{cell_reads, data_reads};
-ghost use Rattle.device_logic.specs.CellReads.{enable_reads, rest_reads, row_reads_cell};
+ghost use Rattle.device_logic.specs.CellReads.{cell_reads, data_reads, enable_reads, rest_reads, row_reads_cell};
 ghost use Rattle.device_logic.specs.PairReads.{pair_reads};
 ghost use Rattle.device_logic.specs.ResetPaths.{plain_reads, row_reads_if_any};
 

@@ -1,9 +1,7 @@
 //! What a row asks of a point.
 
 ghost use Rattle.std.specs.Prelude.{◌≡◌, ◌+◌, ◌*◌, ◌^◌, ◌<◌, Bool, List, false, length, true};
-ghost use Rattle.pld_base.specs.Bits.{bits, is_on, same_level};
-ghost use Rattle.pld_base.specs.Points.{IsPoint, Levels, levels_of};
-ghost use Rattle.covers.specs.Cubes.{has_point};
+ghost use Rattle.device_logic.specs.Prelude.{bits, is_on, same_level, IsPoint, Levels, levels_of, has_point};
 ghost use Rattle.device_logic.specs.RowMasks.{HoldsWith, holds};
 
 use covers::Cube;

@@ -2,9 +2,7 @@
 //! true.
 
 ghost use Rattle.std.specs.Prelude.{◌≡◌, ◌<◌, length, IfOk};
-ghost use Rattle.pld_base.specs.Bits.{is_on};
-ghost use Rattle.pld_device.specs.Reads.{has_whole_pair};
-ghost use Rattle.pld_device.specs.Rows.{is_switched_on, row_fuses};
+ghost use Rattle.device_logic.specs.Prelude.{is_on, has_whole_pair, is_switched_on, row_fuses};
 ghost use Rattle.device_logic.specs.Array.{is_connected, is_live, is_whole, live_rows};
 
 use pld_base::OutOfMemory;

@@ -1,9 +1,6 @@
 use Rattle.std.proofs.Common.{length, sym, subst, arith}
+use Rattle.device_logic.proofs.Common.{IsOrder, IsLeastLoop, HasNoLoop, reads_of, IsCellOrder, cell_reads, IsGraph}
 use Rattle.std.proofs.lemmas.Result.{IfOk-weaker, IfErr-weaker}
-use Rattle.pld_order.specs.Graphs.{IsOrder, IsLeastLoop, HasNoLoop}
-use Rattle.pld_order.specs.Sets.{reads_of}
-use Rattle.device_logic.specs.CellReads.{IsCellOrder, cell_reads}
-use Rattle.device_logic.specs.Graphs.{IsGraph}
 use Rattle.device_logic.proofs.SameOrders.{order_of_graph, no_loop_of_graph, least_of_graph}
 use Rattle.device_logic.proofs.graphs.cell_order.Goals as goal
 

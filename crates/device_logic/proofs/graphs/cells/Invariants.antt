@@ -1,6 +1,5 @@
-use Rattle.std.proofs.Common.{◌≡◌, ℕ, ◌&&◌}
-use Rattle.std.specs.Prelude.{nat_lt}
-use Rattle.pld_base.specs.Bits.{is_on}
+use Rattle.std.proofs.Common.{◌≡◌, ℕ, ◌&&◌, nat_lt}
+use Rattle.device_logic.proofs.Common.{is_on}
 use Rattle.device_logic.specs.Graphs.{holds}
 use Rattle.device_logic.proofs.graphs.cells.Given as goal
 

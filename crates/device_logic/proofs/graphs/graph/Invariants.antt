@@ -1,5 +1,5 @@
 use Rattle.std.proofs.Common.{◌≡◌, ℕ, ◌<◌, [], length, get_or}
-use Rattle.device_logic.specs.Graphs.{HasCells, reads_as}
+use Rattle.device_logic.proofs.Common.{HasCells, reads_as}
 use Rattle.device_logic.proofs.graphs.graph.Given as goal
 
 abbrev pub invariant-loop-cell : goal.invariant-loop-cell

@@ -1,10 +1,5 @@
 use Rattle.std.proofs.Common.{length, sym, subst, arith}
-use Rattle.pld_base.specs.Bits.{is_on}
-use Rattle.pld_order.specs.Graphs.{IsPath, HasNoPath}
-use Rattle.pld_order.specs.Sets.{reads_of}
-use Rattle.pld_device.specs.Registers.{stores}
-use Rattle.device_logic.specs.Graphs.{IsGraph}
-use Rattle.device_logic.specs.ResetPaths.{IsResetPath, HasNoResetPath, plain_reads, reset_reads}
+use Rattle.device_logic.proofs.Common.{is_on, IsPath, HasNoPath, reads_of, stores, IsGraph, IsResetPath, HasNoResetPath, plain_reads, reset_reads}
 use Rattle.device_logic.proofs.Loads.{some_weaker, none_weaker}
 use Rattle.device_logic.proofs.SameOrders.{path_of_graph, no_path_of_graph}
 use Rattle.device_logic.proofs.graphs.reset_path.Goals as goal

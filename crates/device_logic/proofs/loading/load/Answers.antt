@@ -1,7 +1,5 @@
 use Rattle.std.proofs.Common.{length, subst}
-use Rattle.pld_device.specs.Macrocells.{device_logic}
-use Rattle.pld_machine.specs.Steps.{IsDetermined}
-use Rattle.device_logic.specs.ResetPaths.{HasNoResetPath}
+use Rattle.device_logic.proofs.Common.{device_logic, IsDetermined, HasNoResetPath}
 use Rattle.device_logic.proofs.CellsOrdered.{determined, same_logic}
 use Rattle.device_logic.proofs.Loads.{each_in}
 use Rattle.device_logic.proofs.OneRun.{device_ordered}

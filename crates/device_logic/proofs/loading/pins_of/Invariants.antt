@@ -1,5 +1,5 @@
 use Rattle.std.proofs.Common.{◌≡◌, map, take}
-use Rattle.pld_device.specs.Table.{cell_at}
+use Rattle.device_logic.proofs.Common.{cell_at}
 use Rattle.device_logic.proofs.loading.pins_of.Given as goal
 
 abbrev pub invariant-loop-cell : goal.invariant-loop-cell

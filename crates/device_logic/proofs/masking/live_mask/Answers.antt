@@ -1,5 +1,5 @@
 use Rattle.std.proofs.Common.{◌≡◌, length, subst, arith}
-use Rattle.device_logic.specs.RowMasks.{holds}
+use Rattle.device_logic.proofs.Common.{holds}
 use Rattle.device_logic.proofs.Walked.{PassesBelow, passes_more, passes_row}
 use Rattle.device_logic.proofs.masking.live_mask.Goals as goal
 

@@ -1,4 +1,4 @@
-use Rattle.device_logic.specs.RowMasks.{holds}
+use Rattle.device_logic.proofs.Common.{holds}
 use Rattle.device_logic.proofs.Walked.{PassesBelow}
 use Rattle.device_logic.proofs.masking.live_mask.Given as goal
 

@@ -1,5 +1,5 @@
 use Rattle.std.proofs.Common.{ap, sym, ◌∙◌, arith}
-use Rattle.device_logic.specs.Array.{is_live}
+use Rattle.device_logic.proofs.Common.{is_live}
 use Rattle.device_logic.proofs.LiveRows.{dead_value}
 use Rattle.device_logic.proofs.masking.mask_of.Goals as goal
 

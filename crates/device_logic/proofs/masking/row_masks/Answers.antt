@@ -1,5 +1,5 @@
 use Rattle.std.proofs.Common.{◌+◌, subst, sym}
-use Rattle.device_logic.specs.RowMasks.{IsMask}
+use Rattle.device_logic.proofs.Common.{IsMask}
 use Rattle.device_logic.proofs.Walked.{EachBelow, each_more}
 use Rattle.device_logic.proofs.masking.row_masks.Goals as goal
 

@@ -1,4 +1,4 @@
-use Rattle.device_logic.specs.RowMasks.{IsMask}
+use Rattle.device_logic.proofs.Common.{IsMask}
 use Rattle.device_logic.proofs.Walked.{EachBelow}
 use Rattle.device_logic.proofs.masking.row_masks.Given as goal
 

@@ -1,5 +1,5 @@
 use Rattle.std.proofs.Common.{ap, sym, ◌∙◌}
-use Rattle.device_logic.specs.Array.{is_live}
+use Rattle.device_logic.proofs.Common.{is_live}
 use Rattle.device_logic.proofs.PairedRows.{dead_cube}
 use Rattle.device_logic.proofs.pairing.cube_of.Goals as goal
 

@@ -1,5 +1,5 @@
 use Rattle.std.proofs.Common.{◌+◌, subst, sym}
-use Rattle.device_logic.specs.PairCubes.{IsPairCube}
+use Rattle.device_logic.proofs.Common.{IsPairCube}
 use Rattle.device_logic.proofs.Walked.{EachBelow, each_more}
 use Rattle.device_logic.proofs.pairing.pair_cubes.Goals as goal
 

@@ -1,4 +1,4 @@
-use Rattle.device_logic.specs.PairCubes.{IsPairCube}
+use Rattle.device_logic.proofs.Common.{IsPairCube}
 use Rattle.device_logic.proofs.Walked.{EachBelow}
 use Rattle.device_logic.proofs.pairing.pair_cubes.Given as goal
 

@@ -1,6 +1,5 @@
 use Rattle.std.proofs.Common.{◌+◌, ◌*◌, List, Bool, ap, ◌∙◌}
-use Rattle.pld_base.specs.Bits.{is_on}
-use Rattle.pld_device.specs.Rows.{row_fuses}
+use Rattle.device_logic.proofs.Common.{is_on, row_fuses}
 use Rattle.device_logic.proofs.PairedRows.{besides_pair}
 use Rattle.device_logic.proofs.pairing.with_pair.Goals as goal
 

@@ -1,5 +1,5 @@
 use Rattle.std.proofs.Common.{◌≡◌, ◌<◌, length, false, sym, ◌∙◌, below_more, arith}
-use Rattle.device_logic.specs.PairReads.{pair_reads}
+use Rattle.device_logic.proofs.Common.{pair_reads}
 use Rattle.device_logic.proofs.ReadCells.{row_reads_cell-from, row_reads_cell-none}
 use Rattle.device_logic.proofs.reads.row_reads_cell.Goals as goal
 

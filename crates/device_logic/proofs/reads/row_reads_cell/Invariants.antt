@@ -1,5 +1,5 @@
 use Rattle.std.proofs.Common.{◌≡◌, ℕ, ◌<◌, false}
-use Rattle.device_logic.specs.PairReads.{pair_reads}
+use Rattle.device_logic.proofs.Common.{pair_reads}
 use Rattle.device_logic.proofs.reads.row_reads_cell.Given as goal
 
 abbrev pub invariant-loop-pair : goal.invariant-loop-pair

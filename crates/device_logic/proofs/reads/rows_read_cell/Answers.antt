@@ -1,5 +1,5 @@
 use Rattle.std.proofs.Common.{sym, ◌∙◌, arith}
-use Rattle.device_logic.specs.CellReads.{row_reads_cell}
+use Rattle.device_logic.proofs.Common.{row_reads_cell}
 use Rattle.device_logic.proofs.Runs.{any_at, any_none}
 use Rattle.device_logic.proofs.reads.rows_read_cell.Goals as goal
 

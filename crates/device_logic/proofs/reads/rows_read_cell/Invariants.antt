@@ -1,5 +1,5 @@
 use Rattle.std.proofs.Common.{◌≡◌, ℕ, ◌<◌, ◌≤◌, false}
-use Rattle.device_logic.specs.CellReads.{row_reads_cell}
+use Rattle.device_logic.proofs.Common.{row_reads_cell}
 use Rattle.device_logic.proofs.reads.rows_read_cell.Given as goal
 
 abbrev pub invariant-loop-row : goal.invariant-loop-row

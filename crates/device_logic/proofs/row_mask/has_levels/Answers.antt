@@ -1,5 +1,5 @@
 use Rattle.std.proofs.Common.{◌∙◌}
-use Rattle.std.specs.Int.{bit_not, w32}
+use Rattle.device_logic.proofs.Common.{bit_not, w32}
 use Rattle.device_logic.proofs.JoinedWords.{joined_meets}
 use Rattle.device_logic.proofs.MaskedPoints.{meets_own}
 use Rattle.device_logic.proofs.row_mask.has_levels.Goals as goal

@@ -1,6 +1,5 @@
 use Rattle.std.proofs.Common.{◌≡◌, ℕ, ◌<◌, false}
-use Rattle.pld_device.specs.Rows.{row_fuses}
-use Rattle.device_logic.specs.Array.{is_whole}
+use Rattle.device_logic.proofs.Common.{row_fuses, is_whole}
 use Rattle.device_logic.proofs.rows.has_whole_pair.Given as goal
 
 abbrev pub invariant-loop-pair : goal.invariant-loop-pair

@@ -1,5 +1,5 @@
 use Rattle.std.proofs.Common.{sym, arith}
-use Rattle.pld_device.specs.Laws.{Switches}
+use Rattle.device_logic.proofs.Common.{Switches}
 use Rattle.device_logic.proofs.rows.is_switched_on.Goals as goal
 
 pub bounds-fuses-from : goal.bounds-fuses-from

@@ -1,6 +1,5 @@
 use Rattle.std.proofs.Common.{sym, ◌∙◌, zero-add}
-use Rattle.std.proofs.lemmas.List.FromFn.{map-range_with_len_more}
-use Rattle.device_logic.specs.Array.{is_live}
+use Rattle.device_logic.proofs.Common.{map-range_with_len_more, is_live}
 use Rattle.device_logic.proofs.rows.live_rows.Goals as goal
 
 pub loop-row-preserved : goal.loop-row-preserved

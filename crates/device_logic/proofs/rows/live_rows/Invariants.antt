@@ -1,6 +1,5 @@
 use Rattle.std.proofs.Common.{◌≡◌, map}
-use Rattle.std.specs.List.{range_with_len}
-use Rattle.device_logic.specs.Array.{is_live}
+use Rattle.device_logic.proofs.Common.{range_with_len, is_live}
 use Rattle.device_logic.proofs.rows.live_rows.Given as goal
 
 abbrev pub invariant-loop-row : goal.invariant-loop-row

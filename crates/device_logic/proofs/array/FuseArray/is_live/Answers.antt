@@ -1,5 +1,5 @@
 use Rattle.std.proofs.Common.{get_or, ◌∙◌, ap, arith}
-use Rattle.device_logic.specs.Array.{is_live}
+use Rattle.device_logic.proofs.Common.{is_live}
 use Rattle.device_logic.proofs.LiveRows.{live_length, live_at}
 use Rattle.device_logic.proofs.array.FuseArray.is_live.Goals as goal
 

@@ -1,6 +1,5 @@
 use Rattle.std.proofs.Common.{◌≡◌, true, sym, ◌∙◌, ap}
-use Rattle.pld_device.specs.Rows.{row_fuses}
-use Rattle.device_logic.specs.Array.{is_connected, is_live}
+use Rattle.device_logic.proofs.Common.{row_fuses, is_connected, is_live}
 use Rattle.device_logic.proofs.PairWalks.{row_connected}
 use Rattle.device_logic.proofs.array.FuseArray.row_reads.Goals as goal
 

@@ -1,9 +1,5 @@
 use Rattle.std.proofs.Common.{ap, ◌∙◌}
-use Rattle.pld_base.specs.Points.{levels_of}
-use Rattle.pld_device.specs.Rows.{row_value}
-use Rattle.device_logic.specs.DeviceLookups.{Loaded}
-use Rattle.device_logic.specs.RowMasks.{holds}
-use Rattle.device_logic.specs.declared.row_mask.RowMask.{RowMask}
+use Rattle.device_logic.proofs.Common.{levels_of, row_value, Loaded, holds, RowMask}
 use Rattle.device_logic.proofs.MaskedRows.{is_point}
 use Rattle.device_logic.proofs.logic.DeviceLogic.holds_at.Goals as goal
 

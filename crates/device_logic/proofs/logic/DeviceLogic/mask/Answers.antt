@@ -1,8 +1,5 @@
 use Rattle.std.proofs.Common.{get_or, ap, ◌∙◌}
-use Rattle.pld_device.specs.Rows.{row_value}
-use Rattle.device_logic.specs.DeviceLookups.{Loaded}
-use Rattle.device_logic.specs.RowMasks.{holds}
-use Rattle.device_logic.specs.declared.row_mask.RowMask.{RowMask}
+use Rattle.device_logic.proofs.Common.{row_value, Loaded, holds, RowMask}
 use Rattle.device_logic.proofs.logic.DeviceLogic.mask.Goals as goal
 
 pub returns : goal.returns

@@ -1,7 +1,5 @@
 use Rattle.std.proofs.Common.{◌+◌, ◌*◌, ◌%◌, inl, inr, sym, ◌∙◌, arith}
-use Rattle.std.proofs.lemmas.Bool.{cases_Bool, cases_lt}
-use Rattle.pld_base.specs.Points.{levels_of}
-use Rattle.pld_device.specs.Rows.{row_value}
+use Rattle.device_logic.proofs.Common.{cases_Bool, cases_lt, levels_of, row_value}
 use Rattle.device_logic.proofs.Runs.{any_at, any_none, one_of}
 use Rattle.device_logic.proofs.SomeRows.{none_at}
 use Rattle.device_logic.proofs.logic.DeviceLogic.some_row.Goals as goal

@@ -1,6 +1,5 @@
 use Rattle.std.proofs.Common.{◌≡◌, ℕ, ◌+◌, ◌*◌, ◌<◌, ◌≤◌, false}
-use Rattle.pld_base.specs.Points.{levels_of}
-use Rattle.pld_device.specs.Rows.{row_value}
+use Rattle.device_logic.proofs.Common.{levels_of, row_value}
 use Rattle.device_logic.proofs.logic.DeviceLogic.some_row.Given as goal
 
 abbrev pub invariant-loop-pair : goal.invariant-loop-pair

@@ -1,5 +1,5 @@
 use Rattle.std.proofs.Common.{length, arith}
-use Rattle.pld_order.proofs.Lists.{few}
+use Rattle.device_logic.proofs.Common.{few}
 use Rattle.device_logic.proofs.logic.DeviceLogicLogic.slots.Goals as goal
 
 pub overflow_cast-result : goal.overflow_cast-result
