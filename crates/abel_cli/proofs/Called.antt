@@ -1,6 +1,5 @@
 -- From what a command's own sources come to, to what words and files call for.
-use Rattle.std.proofs.Common.{◌≡◌, ℕ, suc, ◌<◌, ◌≤◌, Bool, true, false, List, [], length, Option, Some, get_or, refl, sym, subst, inl, inr, arith}
-use Rattle.std.specs.Prelude.{nat_lt, replicate, Contains}
+use Rattle.std.proofs.Common.{◌≡◌, ℕ, suc, ◌<◌, ◌≤◌, Bool, true, false, List, [], length, Option, Some, get_or, refl, sym, subst, inl, inr, arith, nat_lt, replicate, Contains}
 use Rattle.abel_cli.proofs.Common.{length-replicate, get_or-map, get_or-replicate, Rose, Map, SameFiles, SameBut, bytes_at, Asked, HasRisen, HasStayed, Ending, file_fault, Puts, Comes, CallsFor, Ends, EndsOn, source_at, Command, command_of, source_count}
 use Rattle.std.proofs.lemmas.Bool.{ltb-true, ltb-false}
 use Rattle.abel_commands.specs.Limit.{limit}

@@ -1,6 +1,5 @@
 -- A run keeps its promises.
-use Rattle.std.proofs.Common.{◌≡◌, ℕ, ◌≤◌, ◌⊎◌, List, [], ◌∷◌, ◌++◌, get_or, map, Option, Some, None, refl, sym, ◌∙◌, ap, subst, inl, inr, arith}
-use Rattle.std.specs.Prelude.{unwrap_or}
+use Rattle.std.proofs.Common.{◌≡◌, ℕ, ◌≤◌, ◌⊎◌, List, [], ◌∷◌, ◌++◌, get_or, map, Option, Some, None, refl, sym, ◌∙◌, ap, subst, inl, inr, arith, unwrap_or}
 use Rattle.abel_cli.proofs.Common.{none-some, Map, bytes_at, Asked, Heard, HasRisen, HasStayed, table_of, Ending, Output, memory_line, file_fault, Puts, TakesFront, TakesFrontAndMemory, MeansOn, IsMeant, EndsAsCalled, EndsInFileFault, LeavesFiles, Promises, HasCompiled, IsRightOrOld, IsRight, Ends, Means, CallsFor, IsCalledFor, Comes, Runs, written, listed, source_at, Command, Task, Compile, ListSource, Simulate, Check, Demo, Decompile, Compare, IsCompile, command_of}
 use Rattle.abel_compile.specs.declared.compiled.Compiled.{Compiled}
 use Rattle.abel_compile.specs.Correct.{IsCompiled}

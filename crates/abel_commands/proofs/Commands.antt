@@ -1,6 +1,5 @@
 -- A command has as many inputs as its task works on.
-use Rattle.std.proofs.Common.{◌≡◌, ℕ, Bool, true, false, cond, List, [], ◌∷◌, length, Option, Some, None, get_or, refl, sym, subst, arith}
-use Rattle.std.specs.Prelude.{codes, option_and_then, option_map}
+use Rattle.std.proofs.Common.{◌≡◌, ℕ, Bool, true, false, cond, List, [], ◌∷◌, length, Option, Some, None, get_or, refl, sym, subst, arith, codes, option_and_then, option_map}
 use Rattle.abel_commands.proofs.Common.{DeviceName, named_device, Command, Task, Compare, Demo, command_of, on_device, on_file, on_files, on_nothing, seed_of, source_count}
 use Rattle.std.specs.Str.{bytes_eq}
 

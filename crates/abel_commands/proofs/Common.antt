@@ -23,7 +23,8 @@ unfoldable pub use Rattle.jedec_file.specs.FieldLists.{behind_design, field_at, 
 pub use Rattle.jedec_file.specs.FileText.{ETX, STX, byte, four_hex, level_char}
 pub use Rattle.jedec_file.specs.Frame.{four_hex_value}
 unfoldable pub use Rattle.jedec_file.specs.Frame.{check_sum, frame_of, length_of, start_of, sum_at}
-pub use Rattle.jedec_file.specs.FuseFile.{FuseFile, by_pins, default_fuse, default_said, first_unlisted, fuse_count, is_size, last_of, none_unlisted, order_of, size_said, sum_agrees, sum_said, vector_at}
+pub use Rattle.jedec_file.specs.FuseFile.{FuseFile, by_pins, default_fuse, default_said, first_unlisted, fuse_count, is_size, last_of, none_unlisted, order_of}
+pub use Rattle.jedec_file.specs.FuseFile.{size_said, sum_agrees, sum_said, vector_at}
 unfoldable pub use Rattle.jedec_file.specs.FuseFile.{contents_of, default_of, file_of, fuse_sum_read, fuses_said, size_of, vectors_of}
 pub use Rattle.jedec_file.specs.FuseSums.{fuse_sum_of}
 pub use Rattle.jedec_file.specs.Refusals.{Read, Refuses, some_or, ◌>>=◌}
@@ -53,4 +54,5 @@ pub use Rattle.abel_commands.specs.Simulating.{Agrees, CanRun, Disagrees, HasNoR
 pub use Rattle.abel_commands.specs.SourceCommands.{Fits, IsRefused, IsUnfit, SourceEnds, SourceMeans}
 pub use Rattle.abel_commands.specs.Sources.{sources_seen, texts}
 pub use Rattle.abel_commands.specs.View.{ending_seen}
-pub use Rattle.abel_commands.specs.Words.{Command, Compare, Demo, Task, are_few_digits, command_of, is_seed, on_device, on_file, on_files, on_nothing, seed_of, source_count}
+pub use Rattle.abel_commands.specs.Words.{Command, Compare, Demo, Task, are_few_digits, command_of, is_seed, on_device, on_file, on_files, on_nothing, seed_of}
+pub use Rattle.abel_commands.specs.Words.{source_count}

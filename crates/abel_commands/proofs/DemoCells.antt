@@ -1,6 +1,5 @@
 -- The number of cells in a summary.
-use Rattle.std.proofs.Common.{◌≡◌, ℕ, ◌+◌, ◌^◌, ◌<◌, Bool, true, List, [], ◌∷◌, ◌++◌, length, take, drop, refl, ap, ◌∙◌, append_assoc, arith}
-use Rattle.std.specs.Prelude.{codes, is_some}
+use Rattle.std.proofs.Common.{◌≡◌, ℕ, ◌+◌, ◌^◌, ◌<◌, Bool, true, List, [], ◌∷◌, ◌++◌, length, take, drop, refl, ap, ◌∙◌, append_assoc, arith, codes, is_some}
 use Rattle.abel_commands.proofs.Common.{is_ascii_digit, decimal, list_all, prefix_len, range_with_len, length-append, length-range_with_len, DeviceName, device_text, Table, four_hex, fuse_sum_of, design_cells, products_used, summary_of, table_of}
 use Rattle.std.proofs.lemmas.Fmt.{digits_decimal}
 use Rattle.std.proofs.lemmas.List.Sums.{count_by-le-length}

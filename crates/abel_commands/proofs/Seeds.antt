@@ -1,6 +1,5 @@
 -- The number that a word of digits is, as `parse` reads it.
-use Rattle.std.proofs.Common.{◌≡◌, ℕ, ◌^◌, ◌<◌, Bool, true, false, ◌&&◌, nat_lt, List, length, Some, Ok, Err, refl, ap, rules}
-use Rattle.std.specs.Prelude.{Result}
+use Rattle.std.proofs.Common.{◌≡◌, ℕ, ◌^◌, ◌<◌, Bool, true, false, ◌&&◌, nat_lt, List, length, Some, Ok, Err, refl, ap, rules, Result}
 use Rattle.abel_commands.proofs.Common.{is_ascii_digit, list_all, lt-ltb, ltb-true, are_few_digits, is_seed, seed_of}
 use Rattle.std.specs.Result.{OkIff, result_ok}
 use Rattle.std.specs.Str.Parse.{ParsesUnsigned, digits_value}

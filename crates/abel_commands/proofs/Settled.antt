@@ -1,6 +1,5 @@
 -- What holds where a call is not refused so.
-use Rattle.std.proofs.Common.{◌≡◌, Ok, Err, inl, inr}
-use Rattle.std.specs.Prelude.{IsErrOf, Result, ◌⊎◌}
+use Rattle.std.proofs.Common.{◌≡◌, Ok, Err, inl, inr, IsErrOf, Result, ◌⊎◌}
 use Rattle.abel_commands.proofs.Common.{ReadFault}
 use Rattle.outside.specs.declared.files.ReadFault.TheVariants as read
 

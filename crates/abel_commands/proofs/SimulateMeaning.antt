@@ -1,6 +1,5 @@
 -- What the endings of `simulate` mean.
-use Rattle.std.proofs.Common.{◌≡◌, ◌≢◌, ℕ, true, false, None, List, [], length, Ok, sym, ◌∙◌, subst, ap, refl, inl, inr, arith}
-use Rattle.std.specs.Prelude.{Option, is_some}
+use Rattle.std.proofs.Common.{◌≡◌, ◌≢◌, ℕ, true, false, None, List, [], length, Ok, sym, ◌∙◌, subst, ap, refl, inl, inr, arith, Option, is_some}
 use Rattle.abel_commands.proofs.Common.{FuseFile, file_of, Table, SimFault, UnsupportedCondition, DeviceLoop, DeviceResetReadsRegister, OutOfMemory, Mismatch, IsSimFault, first_unsupported, Ending, ends, Agrees, Disagrees, CanRun, RunHas, HasNoRun, IsReportedRun}
 use Rattle.pld_order.specs.Graphs.{IsLoop}
 use Rattle.device_logic.specs.CellReads.{cell_reads}

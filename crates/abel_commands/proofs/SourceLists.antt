@@ -1,6 +1,5 @@
 -- Lists of sources, each within the limit, and the loop that reads them.
-use Rattle.std.proofs.Common.{◌≡◌, ℕ, ◌+◌, ◌<◌, ◌≤◌, List, [], ◌∷◌, ◌++◌, length, get_or, map, take, All, Some, Option, refl, sym, ap, ◌∙◌, subst, arith}
-use Rattle.std.specs.Prelude.{option_map, slice_get, string_bytes, String, unwrap_or}
+use Rattle.std.proofs.Common.{◌≡◌, ℕ, ◌+◌, ◌<◌, ◌≤◌, List, [], ◌∷◌, ◌++◌, length, get_or, map, take, All, Some, Option, refl, sym, ap, ◌∙◌, subst, arith, option_map, slice_get, string_bytes, String, unwrap_or}
 use Rattle.abel_commands.proofs.Common.{Vec, get_or-map, map-append, map_more, slice_get-map, slice_get_within, get_or_from_slice_get, Map, SameFiles, bytes_at, limit, sources_seen, texts}
 use Rattle.std.specs.declared.alloc.Global.{Global}
 use Rattle.std.proofs.lemmas.List.Elements.{All-append, All-cons, All-nil}

@@ -1,6 +1,5 @@
 -- What the phases answer for the module of a text, as an answer for the text.
-use Rattle.std.proofs.Common.{◌≡◌, ℕ, Some, List, Result, Ok, Err, sym, ap, ◌∙◌, subst, inl, inr}
-use Rattle.std.specs.Prelude.{IfOk, IfErr}
+use Rattle.std.proofs.Common.{◌≡◌, ℕ, Some, List, Result, Ok, Err, sym, ap, ◌∙◌, subst, inl, inr, IfOk, IfErr}
 use Rattle.abel_compile.proofs.Common.{DeviceName, canonical_file, Word, ModuleTree, device_named, names_of, source_vectors, SpellsModule, IsRead, IsPlacedModule, Compiled, CompileFault, Source, Place, Fit, OutOfMemory, SourceFault, Expand, Scan, Parse, Names, Sections, Design, Width, CompileAnswers, IsRightFile, table_of, IsOfSource, IsTextFault, IsNameFault, IsUnnamed, IsReadAlone, IsRefusedBy, IsPlacedFor, IsCompiledFor, IsCompiledOn, IsSourceRefused, placed_name}
 use Rattle.abel_compile.proofs.NeverRefused.{spelled}
 

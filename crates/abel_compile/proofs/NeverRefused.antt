@@ -1,6 +1,5 @@
 -- A source that is accepted and fits as it is written is refused for nothing but want of memory.
-use Rattle.std.proofs.Common.{◌≡◌, ◌≢◌, ℕ, Some, None, List, Result, Ok, Err, refl, sym, ap, ◌∙◌, subst}
-use Rattle.std.specs.Prelude.{IfErr}
+use Rattle.std.proofs.Common.{◌≡◌, ◌≢◌, ℕ, Some, None, List, Result, Ok, Err, refl, sym, ap, ◌∙◌, subst, IfErr}
 use Rattle.abel_compile.proofs.Common.{DeviceName, IsDevice, Table, ModuleTree, device_named, name_order, name_refusals, SpellsModule, IsRead, read_or_not, Compiled, CompileFault, Source, Place, Fit, OutOfMemory, SourceFault, Expand, Scan, Parse, Names, Sections, Design, Width, FitsAsWritten, IsUnfitFor, IsNeverRefused, table_of, IsOfSource, IsTextFault, IsNameFault, IsUnnamed, IsReadAlone, IsRefusedBy, IsPlacedFor, IsAcceptedFor, IsRefusedSo, no_first, not_fit, not_source, one_placed, placed_not_unplaced}
 use Rattle.module_reader.specs.declared.fault.ReadFault.TheVariants as reading
 

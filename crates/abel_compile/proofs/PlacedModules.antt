@@ -1,6 +1,5 @@
 -- Either answer for a placed module, as one for its source.
-use Rattle.std.proofs.Common.{Result, Ok, Err}
-use Rattle.std.specs.Prelude.{IfErr, IfOk}
+use Rattle.std.proofs.Common.{Result, Ok, Err, IfErr, IfOk}
 use Rattle.abel_compile.proofs.Common.{DeviceName, Table, ModuleTree, names_of, HasNumberedNames, IsPlacedModule, CompileFault, IsRefusedBy, IsRefusedFor, IsPlacedFor, of_placed, Compiled, IsCompiledOn}
 
 pub compiled_placed : (t : Table) (device : DeviceName) (m placed : ModuleTree) (r : Result Compiled CompileFault) → IsPlacedModule t m placed

@@ -1,6 +1,5 @@
 -- What is done stays done.
-use Rattle.std.proofs.Common.{◌≡◌, ◌<◌, ◌+◌, ℕ, Bool, true, false, List, [], ◌∷◌, ◌++◌, Result, Ok, Err, length, take, refl, sym, ap, ◌∙◌, arith, add-one, append-nil}
-use Rattle.std.specs.Prelude.{◌==◌, nat_lt}
+use Rattle.std.proofs.Common.{◌≡◌, ◌<◌, ◌+◌, ℕ, Bool, true, false, List, [], ◌∷◌, ◌++◌, Result, Ok, Err, length, take, refl, sym, ap, ◌∙◌, arith, add-one, append-nil, ◌==◌, nat_lt}
 use Rattle.abel_expand.proofs.Common.{take-length, take-append_seam, length-take, Cause, Move, Done, Rewritten, Refused, move, Config, turn, moved, within_limits, limit, most_rewritings, take_next, after, turned, Reading, bytes_given, bytes_waiting}
 
 abbrev After : Config → Config → Type 0

@@ -1,6 +1,5 @@
 -- What a turn makes of the parts of a reader.
-use Rattle.std.proofs.Common.{◌≡◌, ◌-◌, ◌+◌, ◌*◌, ◌<◌, ◌≤◌, ℕ, Bool, true, false, List, [], ◌∷◌, ◌++◌, Result, Ok, Err, length, take, drop, refl, sym, ap, ◌∙◌, subst, arith, add-one, append-nil, length-drop, length-append}
-use Rattle.std.specs.Prelude.{◌==◌, nat_lt}
+use Rattle.std.proofs.Common.{◌≡◌, ◌-◌, ◌+◌, ◌*◌, ◌<◌, ◌≤◌, ℕ, Bool, true, false, List, [], ◌∷◌, ◌++◌, Result, Ok, Err, length, take, drop, refl, sym, ap, ◌∙◌, subst, arith, add-one, append-nil, length-drop, length-append, ◌==◌, nat_lt}
 use Rattle.abel_expand.proofs.Common.{take-length, take-append_seam, drop-append_seam, take-append-drop, length-take-le, Place, place_past, first_place, Kept, tables_of, Tables, Cause, TooLong, ExpansionLimit, Done, Rewritten, Refused, move, Config, turn, moved, within_limits, limit, most_rewritings, changed, IsFront, after, turned, IsRefused, Stands, left_to_do}
 use Rattle.std.specs.Global.{Vec}
 use Rattle.std.proofs.lemmas.Bool.{eqb-true, eq-eqb, lt-ltb, le-ltb}

@@ -1,6 +1,5 @@
 -- What declares names, written as it is read: the names first, and then what may come behind them.
-use Rattle.std.proofs.Common.{◌≡◌, ℕ, ◌⊎◌, inl, inr, false, List, [], ◌∷◌, Option, Some, None, refl, sym, ap, subst, ◌∙◌, map}
-use Rattle.std.specs.Prelude.{option_map}
+use Rattle.std.proofs.Common.{◌≡◌, ℕ, ◌⊎◌, inl, inr, false, List, [], ◌∷◌, Option, Some, None, refl, sym, ap, subst, ◌∙◌, map, option_map}
 use Rattle.abel_grammar.proofs.Common.{Form, ◌then◌, followed, either, made, nothing, SpellsList, Token, Word, Item, Tree, Declaration, Device, Pin, Node, Equal, Comma, Semicolon, one, each_apart_by, name, text, expr, item, names, istype, device_of, device, kept, pins_of, pins, nodes_of, nodes, attributes_of, attributes, constants_of, values_for, constants, naming, bare_item, only_name, bare_names, declared_in}
 use Rattle.std.specs.Option.{option_and_then}
 use Rattle.abel_grammar.proofs.SameForms.{Same}

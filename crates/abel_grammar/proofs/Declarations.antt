@@ -1,6 +1,5 @@
 -- The places of declarations lie along their tokens, at each depth of nesting.
-use Rattle.std.proofs.Common.{◌≡◌, ℕ, List, [], ◌∷◌, ◌++◌, length, Option, Some, None, refl, ap}
-use Rattle.std.specs.Prelude.{option_map, unwrap_or}
+use Rattle.std.proofs.Common.{◌≡◌, ℕ, List, [], ◌∷◌, ◌++◌, length, Option, Some, None, refl, ap, option_map, unwrap_or}
 use Rattle.abel_grammar.proofs.Common.{flat_map, Form, Place, Token, Word, Span, Tree, Terminal, Not, Range, Istype, Device, Pin, Node, Semicolon, Comma, Equal, item, names, num, nums, texts, istype, option, device, Kept, kept, pins, nodes, attributes, values_for, constants, naming, option_decl, dont_care_decl, decl, other_decl, places_of_some, places_of_word, places_of_number, places_of_item, places_of_span, places_of_expr, places_of_decl}
 use Rattle.abel_grammar.proofs.Forms.{Lies, token_lies, followed_lies, both, behind, before, turned, or_lies, nothing_lies, some_lies, apart_lies, times_lies}
 use Rattle.abel_grammar.proofs.Expressions.{one_lies, end_lies, name_lies, number_lies, text_lies, dont_care_lies, expr_lies}

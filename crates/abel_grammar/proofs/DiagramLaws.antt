@@ -1,6 +1,5 @@
 -- The laws of state diagrams, as they are read: an arm with the `;` behind it.
-use Rattle.std.proofs.Common.{◌≡◌, ℕ, zero, suc, Bool, true, false, List, [], ◌∷◌, ◌++◌, Option, Some, None, refl}
-use Rattle.std.specs.Prelude.{◌||◌, ◌&&◌, not, is_some}
+use Rattle.std.proofs.Common.{◌≡◌, ℕ, zero, suc, Bool, true, false, List, [], ◌∷◌, ◌++◌, Option, Some, None, refl, ◌||◌, ◌&&◌, not, is_some}
 use Rattle.abel_grammar.proofs.Common.{Form, ◌then◌, followed, either, optional, repeated, nothing, Reader, ◌then_read◌, read_followed, read_either, read_optional, read_deep, unless, read_unless, Place, Token, Tree, Statement, Branch, Terminal, Semicolon, Colon, Then, Else, BraceOpen, BraceClose, With, Endwith, Goto, If, Case, Endcase, number_of, terminal_of, among, one, end, read_one, read_end, expr, read_expr, stmt, plain_stmt, plain_starts, stmt_starts, read_stmts, read_stmt, read_plain_stmt, braced_of, braced, listed_of, listed, with_of, with_part, goal_of, goal, behind_goto, behind_word, is_open_arm, is_closed, read_braced, read_listed, read_with_part, read_goal, Ended, if_ended_of, choice_ended_of, case_ended_of, read_allowed, read_if, read_choice, read_choices, read_case, read_goal_arm, goal_starts, read_arm, read_goto, read_leading, branch_in, read_trans, trans_starts}
 use Rattle.abel_grammar.proofs.Laws.{Lawful}
 use Rattle.abel_grammar.proofs.TokenLaws.{given_laws}

@@ -1,6 +1,5 @@
 -- The places of transitions and diagrams lie along their tokens, at each depth of nesting.
-use Rattle.std.proofs.Common.{◌≡◌, ℕ, zero, suc, Bool, true, false, List, [], ◌∷◌, ◌++◌, Option, Some, None, refl, sym, ap, ◌∙◌}
-use Rattle.std.specs.Prelude.{option_map}
+use Rattle.std.proofs.Common.{◌≡◌, ℕ, zero, suc, Bool, true, false, List, [], ◌∷◌, ◌++◌, Option, Some, None, refl, sym, ap, ◌∙◌, option_map}
 use Rattle.abel_grammar.proofs.Common.{flat_map, append_assoc, append-nil, Form, Place, Token, Tree, Statement, Branch, other_of, choices_of, BraceOpen, BraceClose, With, Endwith, If, Then, Else, Case, Endcase, Colon, Semicolon, Goto, State, StateDiagram, braced, listed_of, listed, with_part, goal, is_open_arm, else_in, if_form, choice, case_form, goal_arm, arm, is_closed, ending, leading, trans, state, diagram, places_of_some, places_of_expr, places_of_stmt, places_of_branch, places_of_other, places_of_choices, places_of_state, places_of_section}
 use Rattle.abel_grammar.proofs.Forms.{Lies, dropped, followed_lies, both, behind, before, turned, or_lies, nothing_lies, some_lies, many_lies, unless_lies, takes_before, placed_lies}
 use Rattle.abel_grammar.proofs.Expressions.{one_lies, end_lies, expr_lies, expr_takes}

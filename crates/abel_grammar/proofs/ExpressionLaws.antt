@@ -1,6 +1,5 @@
 -- The laws of expressions, at each depth of nesting.
-use Rattle.std.proofs.Common.{◌≡◌, ℕ, zero, suc, ◌≤◌, ◌⊎◌, inl, inr, Bool, true, false, List, [], ◌∷◌, ◌++◌, length, None, Result, Ok, refl, sym, ap, subst, ◌∙◌, arith, length-append}
-use Rattle.std.specs.Prelude.{◌&&◌}
+use Rattle.std.proofs.Common.{◌≡◌, ℕ, zero, suc, ◌≤◌, ◌⊎◌, inl, inr, Bool, true, false, List, [], ◌∷◌, ◌++◌, length, None, Result, Ok, refl, sym, ap, subst, ◌∙◌, arith, length-append, ◌&&◌}
 use Rattle.abel_grammar.proofs.Common.{Form, token, ◌then◌, either, made, nothing, Stop, Reader, starts, ◌then_read◌, read_many, read_made, read_either, read_deep, starts_two, Token, Tree, ANumber, SetMember, OneMember, Terminal, Identifier, Number, Special, Extension, Open, Close, Left, Right, Comma, Range, Not, Minus, Semicolon, DontCare, Text, number_of, terminal_of, among, one, each_apart_by, name, number, text, ext, word_of, numeral_of, end, dont_care, dont_care_of, read_one, read_apart_by, read_name, read_number, read_text, read_ext, read_end, read_dont_care, name_tree_of, name_tree, number_tree, special_of, special, simple, relations, sums, products, joined, level, expr_over, paren_of, paren, span_member_of, span_member, member, set_of, set, negated_of, negations, negated, operand, expr, set_at, read_name_tree, read_number_tree, read_special, read_simple, read_link, read_level, read_expr_over, read_paren, read_span_member, read_member, read_set, read_negated, read_operand, read_expr, read_set_at}
 use Rattle.abel_grammar.proofs.Laws.{Within}
 use Rattle.abel_grammar.proofs.PickLaws.{picked_laws}

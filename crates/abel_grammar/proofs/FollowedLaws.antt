@@ -1,6 +1,5 @@
 -- One form behind another keeps the laws where nothing that starts the second may go on behind the first.
-use Rattle.std.proofs.Common.{◌≡◌, ◌≤◌, ◌<◌, ◌⊎◌, inl, inr, Bool, true, false, List, [], ◌∷◌, ◌++◌, length, Result, Ok, Err, refl, sym, ap, subst, ◌∙◌, append_assoc, arith, length-append}
-use Rattle.std.specs.Prelude.{◌||◌, ◌&&◌}
+use Rattle.std.proofs.Common.{◌≡◌, ◌≤◌, ◌<◌, ◌⊎◌, inl, inr, Bool, true, false, List, [], ◌∷◌, ◌++◌, length, Result, Ok, Err, refl, sym, ap, subst, ◌∙◌, append_assoc, arith, length-append, ◌||◌, ◌&&◌}
 use Rattle.abel_grammar.proofs.Common.{Form, followed, Stop, Syntax, TooDeep, left_of, Reader, ◌>>=◌, starts, read_followed}
 use Rattle.abel_grammar.proofs.Laws.{Within, Lawful, bind_ok, bind_err, or_left, or_right, starts_apart, starts_wider, starts_or_false, never_grows, Within-less}
 

@@ -1,6 +1,5 @@
 -- The forms placed, times and unless, and the form that nothing spells, keep the laws.
-use Rattle.std.proofs.Common.{◌≡◌, ℕ, zero, suc, ◌≤◌, ◌<◌, ◌⊎◌, inl, inr, Bool, true, false, cond, List, [], ◌∷◌, ◌++◌, length, Option, Some, None, Result, Ok, Err, refl, sym, ap, subst, ◌∙◌, arith, length-append}
-use Rattle.std.specs.Prelude.{◌||◌, ◌&&◌, not}
+use Rattle.std.proofs.Common.{◌≡◌, ℕ, zero, suc, ◌≤◌, ◌<◌, ◌⊎◌, inl, inr, Bool, true, false, cond, List, [], ◌∷◌, ◌++◌, length, Option, Some, None, Result, Ok, Err, refl, sym, ap, subst, ◌∙◌, arith, length-append, ◌||◌, ◌&&◌, not}
 use Rattle.abel_grammar.proofs.Common.{Form, token, ◌then◌, followed, made, given, nothing, Stop, Syntax, TooDeep, left_of, Reader, ◌>>=◌, starts, read_token, ◌then_read◌, read_followed, read_made, read_given, read_deep, placed, times, unless, read_placed, read_times, read_unless, read_nothing}
 use Rattle.abel_grammar.proofs.Laws.{Within, Lawful, result_cases, bind_ok, bind_err, starts_apart, never_grows}
 use Rattle.abel_grammar.proofs.TokenLaws.{given_laws}

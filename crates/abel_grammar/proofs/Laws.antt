@@ -4,8 +4,7 @@
 -- rb' read them; fa and fb pass the tokens that they may start with, ga and gb those that may go on behind them; na
 -- and nb tell whether they may take no token; la and lb are their laws. us, ts and rest are lists of tokens, c a
 -- front of one, t and u trees, s what is spelled or why reading stopped, and e, d, h, k equations.
-use Rattle.std.proofs.Common.{◌≡◌, ◌≤◌, ◌<◌, ◌⊎◌, inl, inr, Bool, true, false, cond, List, [], ◌∷◌, ◌++◌, length, Result, Ok, Err, refl, sym, ap, subst, arith, length-append}
-use Rattle.std.specs.Prelude.{◌||◌}
+use Rattle.std.proofs.Common.{◌≡◌, ◌≤◌, ◌<◌, ◌⊎◌, inl, inr, Bool, true, false, cond, List, [], ◌∷◌, ◌++◌, length, Result, Ok, Err, refl, sym, ap, subst, arith, length-append, ◌||◌}
 use Rattle.abel_grammar.proofs.Common.{Form, Stop, Syntax, TooDeep, left_of, Reader, ◌>>=◌, starts}
 
 -- no further than the tokens that come after

@@ -1,6 +1,5 @@
 -- The laws of states, sections and modules.
-use Rattle.std.proofs.Common.{◌≡◌, ℕ, suc, inl, inr, Bool, true, false, List, [], ◌∷◌, ◌++◌, length, refl, ap, arith, length-append}
-use Rattle.std.specs.Prelude.{◌||◌, ◌&&◌, not}
+use Rattle.std.proofs.Common.{◌≡◌, ℕ, suc, inl, inr, Bool, true, false, List, [], ◌∷◌, ◌++◌, length, refl, ap, arith, length-append, ◌||◌, ◌&&◌, not}
 use Rattle.abel_grammar.proofs.Common.{◌then◌, followed, repeated, SpellsList, ◌then_read◌, read_followed, read_repeated, flatten, unless, read_unless, Token, Tree, Statement, Branch, Declaration, StateTree, SectionTree, DontCareSection, Terminal, Identifier, Text, Module, Title, End, Semicolon, Comma, Colon, DontCare, State, StateDiagram, Declarations, Equations, TruthTable, TestVectors, Not, Left, When, BraceOpen, Else, number_of, terminal_of, among, stmt, stmt_starts, read_stmts, read_stmt, option_words, decl_starts, other_starts, trans, state_of, state, diagram_of, diagram, trans_starts, read_trans, read_state, read_diagram, options, declarations_of, declarations, equations_of, equations, proper, dont_care_section, is_empty, last_is_bare, takes_dont_care, section_group_of, sections, decls_of, first_decls, title_of, title, module_of, source, read_options, read_declarations, read_equations, read_proper, read_dont_care_section, proper_starts, read_sections, read_first_decls, read_title, read_source}
 use Rattle.abel_grammar.proofs.Laws.{Lawful}
 use Rattle.abel_grammar.proofs.SameForms.{same_laws}

@@ -1,6 +1,5 @@
 -- Any number of a form keeps the laws.
-use Rattle.std.proofs.Common.{◌≡◌, ℕ, zero, suc, ◌≤◌, ◌<◌, ◌⊎◌, inl, inr, Bool, true, false, List, [], ◌∷◌, ◌++◌, length, Result, Ok, Err, refl, sym, ap, subst, ◌∙◌, append_assoc, arith, length-append}
-use Rattle.std.specs.Prelude.{◌||◌}
+use Rattle.std.proofs.Common.{◌≡◌, ℕ, zero, suc, ◌≤◌, ◌<◌, ◌⊎◌, inl, inr, Bool, true, false, List, [], ◌∷◌, ◌++◌, length, Result, Ok, Err, refl, sym, ap, subst, ◌∙◌, append_assoc, arith, length-append, ◌||◌}
 use Rattle.abel_grammar.proofs.Common.{Form, repeated, SpellsList, Stop, Syntax, TooDeep, left_of, Reader, ◌>>=◌, starts, read_many, read_repeated}
 use Rattle.abel_grammar.proofs.Laws.{Within, Lawful, result_cases, bind_ok, bind_err, chosen, or_false, starts_or_false, starts_append, Within-less}
 

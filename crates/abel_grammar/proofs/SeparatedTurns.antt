@@ -1,6 +1,5 @@
 -- A loop that reads an entry and then a sign each turn reads what separated reads.
-use Rattle.std.proofs.Common.{◌≡◌, ◌<◌, inl, inr, Bool, true, false, cond, List, [], ◌∷◌, ◌++◌, length, Option, Some, None, Result, Ok, Err, refl, sym, ap, ◌∙◌, arith}
-use Rattle.std.specs.Prelude.{map}
+use Rattle.std.proofs.Common.{◌≡◌, ◌<◌, inl, inr, Bool, true, false, cond, List, [], ◌∷◌, ◌++◌, length, Option, Some, None, Result, Ok, Err, refl, sym, ap, ◌∙◌, arith, map}
 use Rattle.abel_grammar.proofs.Common.{entries_of, Stop, Syntax, Reader, ◌>>=◌, starts, behind, read_token, read_followed, ◌then_read◌, read_repeated, read_made, read_separated}
 use Rattle.abel_grammar.proofs.Laws.{result_cases, chosen}
 use Rattle.abel_grammar.proofs.RepeatedTurns.{repeated_turn, repeated_fails, repeated_ends}

@@ -1,7 +1,6 @@
 -- The laws of forms with lists of terminals for what may start a form and what may go on behind it; what doesn't
 -- depend on this grammar, but for the terminals.
-use Rattle.std.proofs.Common.{◌≡◌, ◌<◌, inl, inr, Bool, true, false, List, [], ◌∷◌, ◌++◌, length, Option, None, Ok, refl}
-use Rattle.std.specs.Prelude.{◌||◌, ◌&&◌, not, ◌==◌}
+use Rattle.std.proofs.Common.{◌≡◌, ◌<◌, inl, inr, Bool, true, false, List, [], ◌∷◌, ◌++◌, length, Option, None, Ok, refl, ◌||◌, ◌&&◌, not, ◌==◌}
 use Rattle.abel_grammar.proofs.Common.{Form, token, ◌then◌, followed, either, optional, repeated, made, nothing, Reader, read_token, ◌then_read◌, read_followed, read_either, read_optional, read_repeated, read_made, read_deep, placed, unless, read_placed, read_unless, Token, Terminal, number_of, terminal_of, among, one, each_apart_by, read_one, read_apart_by}
 use Rattle.abel_grammar.proofs.Laws.{Lawful}
 use Rattle.abel_grammar.proofs.FollowedLaws.{followed_laws}

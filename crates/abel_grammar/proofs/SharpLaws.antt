@@ -1,6 +1,5 @@
 -- Laws that say by the last part what may go on behind the whole.
-use Rattle.std.proofs.Common.{◌≡◌, ℕ, zero, suc, ◌≤◌, ◌<◌, ◌⊎◌, inl, inr, Bool, true, false, cond, List, [], ◌∷◌, ◌++◌, length, Option, Some, None, Result, Ok, Err, refl, sym, ap, subst, ◌∙◌, arith, length-append}
-use Rattle.std.specs.Prelude.{◌||◌, ◌&&◌, not, is_some}
+use Rattle.std.proofs.Common.{◌≡◌, ℕ, zero, suc, ◌≤◌, ◌<◌, ◌⊎◌, inl, inr, Bool, true, false, cond, List, [], ◌∷◌, ◌++◌, length, Option, Some, None, Result, Ok, Err, refl, sym, ap, subst, ◌∙◌, arith, length-append, ◌||◌, ◌&&◌, not, is_some}
 use Rattle.abel_grammar.proofs.Common.{Form, ◌then◌, followed, optional, repeated, SpellsList, Stop, Reader, ◌>>=◌, starts, ◌then_read◌, read_followed, read_optional, read_many, read_repeated, unless, read_unless}
 use Rattle.abel_grammar.proofs.Laws.{Lawful, or_false, starts_apart, starts_or_false}
 use Rattle.abel_grammar.proofs.FollowedLaws.{followed_laws}

@@ -1,6 +1,5 @@
 -- The laws of statements, at each depth of nesting.
-use Rattle.std.proofs.Common.{◌≡◌, ℕ, zero, suc, Bool, true, false, List, [], ◌∷◌, ◌++◌, Option, Some, None, refl}
-use Rattle.std.specs.Prelude.{◌||◌, ◌&&◌, not}
+use Rattle.std.proofs.Common.{◌≡◌, ℕ, zero, suc, Bool, true, false, List, [], ◌∷◌, ◌++◌, Option, Some, None, refl, ◌||◌, ◌&&◌, not}
 use Rattle.abel_grammar.proofs.Common.{Form, ◌then◌, followed, either, optional, repeated, nothing, Reader, ◌then_read◌, read_followed, read_either, read_optional, read_deep, unless, read_unless, Token, Tree, Statement, ADontCare, Terminal, Identifier, Left, Not, Extension, Semicolon, DontCare, When, Then, Else, BraceOpen, BraceClose, among, one, end, read_one, read_end, expr, read_expr, assigns, bare_target, plain_of, complemented_of, complemented_at, target, assign_of, assign, dont_care_stmt, is_open, when_of, when, group_of, group, stmt, plain_stmt, read_bare_target, read_complemented_at, read_target, read_assign, read_dont_care_stmt, read_when, assign_starts, plain_starts, stmt_starts, read_stmts, read_group, read_stmt, read_plain_stmt}
 use Rattle.abel_grammar.proofs.Laws.{Lawful}
 use Rattle.abel_grammar.proofs.MadeLaws.{made_laws}

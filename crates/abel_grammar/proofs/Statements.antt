@@ -1,6 +1,5 @@
 -- The places of statements lie along their tokens, at each depth of nesting.
-use Rattle.std.proofs.Common.{◌≡◌, ℕ, zero, suc, Bool, List, [], ◌∷◌, ◌++◌, Option, Some, None, refl, ap}
-use Rattle.std.specs.Prelude.{option_map}
+use Rattle.std.proofs.Common.{◌≡◌, ℕ, zero, suc, Bool, List, [], ◌∷◌, ◌++◌, Option, Some, None, refl, ap, option_map}
 use Rattle.abel_grammar.proofs.Common.{flat_map, Form, Place, Token, Tree, Statement, statements_of, otherwise_of, Not, Semicolon, When, Then, Else, BraceOpen, BraceClose, bare_target, complemented_at, target, assign, dont_care_stmt, is_open, when, group, stmt, plain_stmt, places_of_some, places_of_expr, places_of_stmt, places_of_else, places_of_stmts}
 use Rattle.abel_grammar.proofs.Forms.{Lies, token_lies, followed_lies, both, behind, before, turned, or_lies, nothing_lies, some_lies, many_lies, unless_lies, takes_token, takes_behind, takes_before, placed_lies}
 use Rattle.abel_grammar.proofs.Expressions.{one_lies, end_lies, dont_care_lies, name_tree_lies, expr_lies, set_at_lies}

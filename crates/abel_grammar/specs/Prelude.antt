@@ -2,7 +2,12 @@
 pub use Rattle.std.specs.List.{All, flat_map, list_any}
 pub use Rattle.std.specs.Str.{bytes_eq, str_eq_ignore_ascii_case}
 pub use Rattle.abel_lexer.specs.declared.token.Token.{Token}
-pub use Rattle.abel_tree.specs.Tree.{ABinary, ABranch, ACase, ADevice, ADiagram, ADontCare, AGoal, AGroup, AName, ANumber, AParen, ASet, ASpecial, ATable, AUnary, AWhen, AnAssign, AnElse, AnIf, Branch, Choices, Declaration, Declarations, DontCareFor, DontCareSection, Equations, Members, ModuleTree, MoreChoices, MoreMembers, MoreStatements, NoBranch, NoChoice, NoElse, NoMember, NoStatement, OneMember, OtherBranch, Otherwise, RowTree, SectionTree, SetMember, SomeAttributes, SomeConstants, SomeNodes, SomeOptions, SomePins, SomeVectors, SpanMember, StateTree, Statement, Statements, Tree, choices_of, members_of, other_of, otherwise_of, statements_of}
+pub use Rattle.abel_tree.specs.Tree.{ABinary, ABranch, ACase, ADevice, ADiagram, ADontCare, AGoal, AGroup, AName, ANumber, AParen, ASet, ASpecial, ATable}
+pub use Rattle.abel_tree.specs.Tree.{AUnary, AWhen, AnAssign, AnElse, AnIf, Branch, Choices, Declaration, Declarations, DontCareFor, DontCareSection, Equations}
+pub use Rattle.abel_tree.specs.Tree.{Members, ModuleTree, MoreChoices, MoreMembers, MoreStatements, NoBranch, NoChoice, NoElse, NoMember, NoStatement}
+pub use Rattle.abel_tree.specs.Tree.{OneMember, OtherBranch, Otherwise, RowTree, SectionTree, SetMember, SomeAttributes, SomeConstants, SomeNodes, SomeOptions}
+pub use Rattle.abel_tree.specs.Tree.{SomePins, SomeVectors, SpanMember, StateTree, Statement, Statements, Tree, choices_of, members_of, other_of, otherwise_of}
+pub use Rattle.abel_tree.specs.Tree.{statements_of}
 pub use Rattle.abel_tree.specs.declared.words.DontCare.{DontCare}
 pub use Rattle.abel_tree.specs.declared.words.Item.{Item}
 pub use Rattle.abel_tree.specs.declared.words.Number.{Number}

@@ -10,12 +10,15 @@ pub use Rattle.pld_base.specs.declared.place.Place.{Place}
 pub use Rattle.abel_lexer.specs.Bytes.{backslash, caret, dot, is_blank, is_letter, is_name_first, is_name_later, is_radix_letter, quote, starts}
 pub use Rattle.abel_lexer.specs.Keywords.{is_listed}
 unfoldable pub use Rattle.abel_lexer.specs.Keywords.{is_keyword}
-pub use Rattle.abel_lexer.specs.Kinds.{IsPiece, IsQuoted, IsShaped, IsToken, IsWord, directives, extension_head, fault_of, letter_special, marked_head, no_byte, number_head, value_of, voltage_special}
-pub use Rattle.abel_lexer.specs.Lengths.{behind_blanks, behind_semicolon, directive_len, larger, listed_len, longer, number_len, quote_end, quoted_len, shaped_end, shaped_len, special_len, word_at, word_kind}
+pub use Rattle.abel_lexer.specs.Kinds.{IsPiece, IsQuoted, IsShaped, IsToken, IsWord, directives, extension_head, fault_of, letter_special, marked_head, no_byte}
+pub use Rattle.abel_lexer.specs.Kinds.{number_head, value_of, voltage_special}
+pub use Rattle.abel_lexer.specs.Lengths.{behind_blanks, behind_semicolon, directive_len, larger, listed_len, longer, number_len, quote_end, quoted_len}
+pub use Rattle.abel_lexer.specs.Lengths.{shaped_end, shaped_len, special_len, word_at, word_kind}
 unfoldable pub use Rattle.abel_lexer.specs.Lengths.{behind_radix_word, known_radix, longest_at, longest_word, radix_at, radix_set}
 pub use Rattle.abel_lexer.specs.Numbers.{are_good_digits, is_good_number, is_radix, number_value}
 pub use Rattle.abel_lexer.specs.Remainders.{IsFaultAt, IsTokenAt, remainder}
-pub use Rattle.abel_lexer.specs.Scans.{AreOnlyTokens, Faults, IsFirstFault, IsFront, IsLongest, IsOnlyFault, IsRadixForm, IsTokensOf, Leads, Lexeme, Passes, Radix, Remainder, Shown, place_past, tokens_among, whole}
+pub use Rattle.abel_lexer.specs.Scans.{AreOnlyTokens, Faults, IsFirstFault, IsFront, IsLongest, IsOnlyFault, IsRadixForm, IsTokensOf, Leads, Lexeme, Passes}
+pub use Rattle.abel_lexer.specs.Scans.{Radix, Remainder, Shown, place_past, tokens_among, whole}
 pub use Rattle.abel_lexer.specs.Signs.{is_sign, signs}
 pub use Rattle.abel_lexer.specs.declared.fault.ScanFault.{ScanFault}
 pub use Rattle.abel_lexer.specs.declared.fault.ScanFault.TheVariants.{OutOfMemory}

@@ -1,6 +1,5 @@
 -- The first bytes of a token tell its kind, and the first is no blank.
-use Rattle.std.proofs.Common.{◌≡◌, ℕ, ◌+◌, ◌≤◌, ◌<◌, ◌⊎◌, inl, inr, Bool, true, false, not, cond, List, [], ◌∷◌, ◌++◌, refl, sym, ap, subst, ◌∙◌, arith}
-use Rattle.std.specs.Prelude.{◌==◌, ◌&&◌, ◌||◌, nat_le, nat_lt, codes, if◌then◌else◌}
+use Rattle.std.proofs.Common.{◌≡◌, ℕ, ◌+◌, ◌≤◌, ◌<◌, ◌⊎◌, inl, inr, Bool, true, false, not, cond, List, [], ◌∷◌, ◌++◌, refl, sym, ap, subst, ◌∙◌, arith, ◌==◌, ◌&&◌, ◌||◌, nat_le, nat_lt, codes, if◌then◌else◌}
 use Rattle.abel_lexer.proofs.Common.{list_all, list_any, is_in_range, is_ascii_digit, is_ascii_alphabetic, is_ascii_alphanumeric, to_ascii_lowercase, bytes_eq, str_eq_ignore_ascii_case, str_to_ascii_lowercase, leb-true, ltb-false, eqb-true, TokenKind, quote, dot, caret, is_blank, is_letter, is_name_first, is_name_later, starts, is_listed, signs, is_sign, IsWord, IsShaped, IsToken, no_byte, letter_special, voltage_special, directives, word_kind}
 use Rattle.abel_lexer.specs.declared.token.TokenKind.TheVariants as kind
 use Rattle.abel_lexer.proofs.Munches.{same_bytes}

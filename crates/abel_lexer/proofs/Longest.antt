@@ -1,6 +1,5 @@
 -- The longest of the kinds' lengths is that of the longest token at the front.
-use Rattle.std.proofs.Common.{ℕ, ◌≤◌, ◌<◌, inl, inr, true, false, cond, ltb, List, [], ◌∷◌, ◌++◌, length, take, refl, arith}
-use Rattle.std.specs.Prelude.{◌==◌}
+use Rattle.std.proofs.Common.{ℕ, ◌≤◌, ◌<◌, inl, inr, true, false, cond, ltb, List, [], ◌∷◌, ◌++◌, length, take, refl, arith, ◌==◌}
 use Rattle.abel_lexer.proofs.Common.{is_ascii_digit, is_ascii_alphabetic, is_ascii_alphanumeric, ltb-false, ltb-true, TokenKind, caret, dot, is_letter, is_name_first, is_name_later, is_radix_letter, is_keyword, signs, IsWord, IsToken, no_byte, extension_head, shaped_len, number_len, special_len, quoted_len, listed_len, directive_len, word_kind, word_at, longer, longest_word, longest_at}
 use Rattle.abel_lexer.specs.declared.token.TokenKind.TheVariants as kind
 use Rattle.abel_lexer.proofs.Munches.{Munches, shaped_munches, either_munches, listed_munches, directive_munches}

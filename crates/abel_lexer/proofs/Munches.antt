@@ -1,6 +1,5 @@
 -- The length of a shape, and of a listed word, at the front is that of the longest one there.
-use Rattle.std.proofs.Common.{◌≡◌, ℕ, suc, ◌+◌, ◌≤◌, ◌<◌, inl, inr, Bool, true, false, cond, ltb, ◌⊎◌, List, [], ◌∷◌, ◌++◌, length, take, refl, sym, ap, subst, ◌∙◌, arith, add-one}
-use Rattle.std.specs.Prelude.{◌&&◌, ◌==◌, nat_le, nat_lt, nat_eq}
+use Rattle.std.proofs.Common.{◌≡◌, ℕ, suc, ◌+◌, ◌≤◌, ◌<◌, inl, inr, Bool, true, false, cond, ltb, ◌⊎◌, List, [], ◌∷◌, ◌++◌, length, take, refl, sym, ap, subst, ◌∙◌, arith, add-one, ◌&&◌, ◌==◌, nat_le, nat_lt, nat_eq}
 use Rattle.abel_lexer.proofs.Common.{list_all, list_any, prefix_len, starts_with, bytes_eq, str_eq_ignore_ascii_case, take_at, take_all, length-take, ltb-true, ltb-false, leb-true, eqb-true, starts, IsShaped, no_byte, directives, is_listed, shaped_end, shaped_len, listed_len, larger, directive_len}
 use Rattle.std.proofs.lemmas.Slice.Eq.{bytes_eq-Decides}
 use Rattle.abel_lexer.proofs.Booleans.{bool_cases, and_parts, and_both, or_cases, or_left, or_right}

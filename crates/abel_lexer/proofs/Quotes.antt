@@ -1,6 +1,5 @@
 -- The length of a text in quotes at the front is that of the only one there.
-use Rattle.std.proofs.Common.{◌≡◌, ℕ, ◌+◌, ◌≤◌, ◌<◌, inl, inr, Bool, false, not, List, [], ◌∷◌, ◌++◌, length, take, refl, sym, ap, subst, ◌∙◌, arith, append_assoc, length-append}
-use Rattle.std.specs.Prelude.{◌==◌, ◌&&◌, ◌||◌}
+use Rattle.std.proofs.Common.{◌≡◌, ℕ, ◌+◌, ◌≤◌, ◌<◌, inl, inr, Bool, false, not, List, [], ◌∷◌, ◌++◌, length, take, refl, sym, ap, subst, ◌∙◌, arith, append_assoc, length-append, ◌==◌, ◌&&◌, ◌||◌}
 use Rattle.abel_lexer.proofs.Common.{AllByRecursion, concat, take_at, eqb-true, quote, backslash, IsPiece, IsQuoted, quote_end, quoted_len}
 use Rattle.std.proofs.lemmas.List.Elements.{All-from_recursion, recursion_from_All}
 use Rattle.abel_lexer.proofs.Munches.{Munches}

@@ -1,6 +1,5 @@
 -- The `@RADIX` form that is found at the front is the only one there.
-use Rattle.std.proofs.Common.{◌≡◌, ℕ, zero, suc, ◌+◌, ◌≤◌, ◌<◌, inl, inr, Bool, true, false, cond, ltb, List, [], ◌∷◌, ◌++◌, length, take, drop, Option, None, Some, refl, sym, ap, subst, ◌∙◌, arith, append_assoc, length-append}
-use Rattle.std.specs.Prelude.{◌==◌, ◌&&◌, ◌||◌, codes, option_map}
+use Rattle.std.proofs.Common.{◌≡◌, ℕ, zero, suc, ◌+◌, ◌≤◌, ◌<◌, inl, inr, Bool, true, false, cond, ltb, List, [], ◌∷◌, ◌++◌, length, take, drop, Option, None, Some, refl, sym, ap, subst, ◌∙◌, arith, append_assoc, length-append, ◌==◌, ◌&&◌, ◌||◌, codes, option_map}
 use Rattle.abel_lexer.proofs.Common.{list_all, prefix_len, is_in_range, str_eq_ignore_ascii_case, is_ascii_digit, is_ascii_alphanumeric, eqb-true, ltb-true, ltb-false, take_at, drop_at, take-append-drop, length-take, caret, is_blank, is_radix_letter, starts, number_value, is_good_number, is_radix, IsShaped, IsToken, number_head, marked_head, shaped_end, shaped_len, larger, number_len, behind_blanks, behind_radix_word, known_radix, behind_semicolon, radix_set, radix_at, IsRadixForm}
 use Rattle.std.specs.Option.{option_and_then}
 use Rattle.std.proofs.lemmas.Option.{option_and_then_some}

@@ -1,7 +1,6 @@
 -- What stands at the front of a remainder is one thing alone, and so are the tokens of a text or its
 -- first fault.
-use Rattle.std.proofs.Common.{◌≡◌, ℕ, ◌+◌, ◌-◌, ◌≤◌, ◌<◌, ◌⊎◌, inl, inr, Bool, true, false, List, [], ◌∷◌, ◌++◌, length, take, drop, Option, None, Some, refl, sym, ap, subst, ◌∙◌, arith, length-append}
-use Rattle.std.specs.Prelude.{◌==◌, codes}
+use Rattle.std.proofs.Common.{◌≡◌, ℕ, ◌+◌, ◌-◌, ◌≤◌, ◌<◌, ◌⊎◌, inl, inr, Bool, true, false, List, [], ◌∷◌, ◌++◌, length, take, drop, Option, None, Some, refl, sym, ap, subst, ◌∙◌, arith, length-append, ◌==◌, codes}
 use Rattle.abel_lexer.proofs.Common.{str_eq_ignore_ascii_case, str_to_ascii_lowercase, take_at, drop_at, Place, Token, TokenKind, ScanFault, is_blank, starts, is_listed, IsToken, directives, value_of, fault_of, radix_at, Remainder, Lexeme, Shown, Radix, place_past, IsRadixForm, IsLongest, IsFront, Passes, Leads, Faults, tokens_among}
 use Rattle.abel_lexer.specs.declared.token.TokenKind.TheVariants as kind
 use Rattle.abel_lexer.specs.declared.fault.ScanFault.TheVariants as fault

@@ -1,6 +1,5 @@
 -- Digits are good where each is one of the radix and the value stays small.
-use Rattle.std.proofs.Common.{◌≡◌, ℕ, zero, suc, ◌+◌, ◌*◌, ◌^◌, ◌<◌, ◌≤◌, ◌⊎◌, inl, inr, Bool, true, false, List, [], ◌∷◌, length, drop, drop-cons, get_or, refl, sym, ap, subst, ◌∙◌, arith}
-use Rattle.std.specs.Prelude.{◌&&◌, nat_lt}
+use Rattle.std.proofs.Common.{◌≡◌, ℕ, zero, suc, ◌+◌, ◌*◌, ◌^◌, ◌<◌, ◌≤◌, ◌⊎◌, inl, inr, Bool, true, false, List, [], ◌∷◌, length, drop, drop-cons, get_or, refl, sym, ap, subst, ◌∙◌, arith, ◌&&◌, nat_lt}
 use Rattle.abel_lexer.proofs.Common.{list_all, digit_value, is_digit, digits_value, digits_value_after, ltb-true, ltb-false, are_good_digits}
 use Rattle.std.proofs.Math.Nat.{le-mul_of_pos_right}
 use Rattle.abel_lexer.proofs.Booleans.{bool_cases, and_both}

@@ -1,6 +1,5 @@
 -- What was read stands before what stands behind it.
-use Rattle.std.proofs.Common.{◌++◌, ◌≡◌, ◌<◌, ◌≤◌, ◌-◌, ℕ, List, Option, Some, None, Bool, length, take, drop, ap, arith, length-drop, length-take, refl}
-use Rattle.std.specs.Prelude.{option_map}
+use Rattle.std.proofs.Common.{◌++◌, ◌≡◌, ◌<◌, ◌≤◌, ◌-◌, ℕ, List, Option, Some, None, Bool, length, take, drop, ap, arith, length-drop, length-take, refl, option_map}
 use Rattle.abel_macros.proofs.Common.{lt-ltb, before, behind_some, given}
 
 pub before_drop : (w : List ℕ) (n : ℕ) → n ≤ length w → before w (drop n w) ≡ take n w

@@ -1,6 +1,5 @@
 -- Texts in pieces against bytes, and the result of a call that was kept.
-use Rattle.std.proofs.Common.{◌≡◌, ◌+◌, ◌<◌, ◌≤◌, ℕ, zero, suc, List, [], ◌∷◌, ◌++◌, length, take, drop, get_or, refl, sym, ap, ◌∙◌, subst, arith, add-one, append-nil, append_assoc}
-use Rattle.std.specs.Prelude.{Option, true, bytes_eq}
+use Rattle.std.proofs.Common.{◌≡◌, ◌+◌, ◌<◌, ◌≤◌, ℕ, zero, suc, List, [], ◌∷◌, ◌++◌, length, take, drop, get_or, refl, sym, ap, ◌∙◌, subst, arith, add-one, append-nil, append_assoc, Option, true, bytes_eq}
 use Rattle.abel_macros.proofs.Common.{bytes_eq-Decides, Vec, take-suc, map_more, take-append-drop, joined, joined-push, names, texts, Macro, IsResult}
 use Rattle.abel_macros.proofs.Lists.{names_push}
 

@@ -18,7 +18,8 @@ pub use Rattle.text_pieces.proofs.Pieces.{joined-push}
 pub use Rattle.text_pieces.specs.Stacks.{Look, ahead, joined}
 pub use Rattle.text_pieces.specs.declared.mode.Mode.{Mode}
 pub use Rattle.abel_macros.specs.Forms.{argument, argument_end, arguments_in, closes_block, closing, ends_argument, nested, parameters_in, trimmed, trimmed_end}
-pub use Rattle.abel_macros.specs.Gaps.{before, behind_sign, behind_some, ends_gap, gap, gap_in, given, is_plain, name, passing, quoting, rest_of, sign, starts_byte, word, ◌>>=◌}
+pub use Rattle.abel_macros.specs.Gaps.{before, behind_sign, behind_some, ends_gap, gap, gap_in, given, is_plain, name, passing, quoting, rest_of, sign}
+pub use Rattle.abel_macros.specs.Gaps.{starts_byte, word, ◌>>=◌}
 pub use Rattle.abel_macros.specs.Kept.{IsResult, Kept, by_bytes, tables_of, under}
 pub use Rattle.abel_macros.specs.Pieces.{names, texts}
 pub use Rattle.abel_macros.specs.Rules.{BadDirective, Cause, ExpansionLimit, Macro, Tables, TooLong, Unsupported, past_sign, token_len, with_name}

@@ -1,6 +1,5 @@
 -- Arguments and parameters, one after another.
-use Rattle.std.proofs.Common.{◌≡◌, ℕ, suc, ◌-◌, ◌<◌, Bool, true, false, List, [], ◌∷◌, ◌++◌, Option, None, Some, refl, sym, ap, ◌∙◌, arith, append_assoc}
-use Rattle.std.specs.Prelude.{if◌then◌else◌}
+use Rattle.std.proofs.Common.{◌≡◌, ℕ, suc, ◌-◌, ◌<◌, Bool, true, false, List, [], ◌∷◌, ◌++◌, Option, None, Some, refl, sym, ap, ◌∙◌, arith, append_assoc, if◌then◌else◌}
 use Rattle.abel_macros.proofs.Common.{Vec, map-append, joined, ◌>>=◌, given, starts_byte, rest_of, gap, name, argument, arguments_in, parameters_in, texts, names}
 use Rattle.abel_lexer.proofs.RadixForms.{unwrapped}
 use Rattle.abel_macros.proofs.Behind.{behind_all}

@@ -1,9 +1,8 @@
 -- Look-ups in the tables, and one name more.
-use Rattle.std.proofs.Common.{◌≡◌, ℕ, Bool, true, false, List, [], ◌∷◌, Option, None, Some, refl, sym, ap, ◌∙◌, inl, inr, if◌then◌else◌}
+use Rattle.std.proofs.Common.{◌≡◌, ℕ, Bool, true, false, List, [], ◌∷◌, Option, None, Some, refl, sym, ap, ◌∙◌, inl, inr, if◌then◌else◌, IfSome, IfNone}
 use Rattle.abel_macros.proofs.Common.{Vec, bytes_eq, option_copied, bytes_eq-Decides, bool_cases, same_bytes, with_name, under, by_bytes}
 use Rattle.std.specs.Map.{lookup}
 use Rattle.std.specs.Borrow.{Bor}
-use Rattle.std.specs.Prelude.{IfSome, IfNone}
 use Rattle.indexmap.specs.IndexMap.{insert_entry}
 
 pub looked_up : {X : Type 0} (es : List (Vec ℕ × X)) (w : List ℕ) → lookup (λ k. bytes_eq w k.items) es ≡ under (by_bytes es) w

@@ -1,6 +1,5 @@
 -- The length of a token that is no name, string or directive, from the lengths of its kinds.
-use Rattle.std.proofs.Common.{◌≡◌, ◌≤◌, ℕ, suc, ◌+◌, inl, inr, Bool, true, false, ltb, List, [], ◌∷◌, length, take, drop, None, Some, refl, sym, ap, ◌∙◌, arith}
-use Rattle.std.specs.Prelude.{◌==◌, codes, nat_lt, if◌then◌else◌}
+use Rattle.std.proofs.Common.{◌≡◌, ◌≤◌, ℕ, suc, ◌+◌, inl, inr, Bool, true, false, ltb, List, [], ◌∷◌, length, take, drop, None, Some, refl, sym, ap, ◌∙◌, arith, ◌==◌, codes, nat_lt, if◌then◌else◌}
 use Rattle.abel_macros.proofs.Common.{is_ascii_alphabetic, is_ascii_digit, str_eq_ignore_ascii_case, ltb-true, ltb-false, dot, is_letter, is_name_later, starts, shaped_len, larger, longer, number_len, special_len, quoted_len, listed_len, directive_len, word_at, longest_word, longest_at, bool_cases, or_cases, at_begins, none_passes, listed_munches, starts_byte, word, behind_some, given, token_len}
 use Rattle.abel_lexer.specs.declared.token.TokenKind.{TokenKind}
 use Rattle.abel_lexer.specs.declared.token.TokenKind.TheVariants as kind

@@ -1,6 +1,5 @@
 -- An operand, by what it begins with.
-use Rattle.std.proofs.Common.{◌≡◌, ℕ, zero, suc, ◌-◌, ◌<◌, Bool, true, false, List, Option, None, Some, refl, sym, ap, ◌∙◌, arith}
-use Rattle.std.specs.Prelude.{codes, option_map}
+use Rattle.std.proofs.Common.{◌≡◌, ℕ, zero, suc, ◌-◌, ◌<◌, Bool, true, false, List, Option, None, Some, refl, sym, ap, ◌∙◌, arith, codes, option_map}
 use Rattle.abel_macros.proofs.Common.{bytes_eq, Prefix, given, sign, gap, behind_sign, past_sign, prefix_of, past_prefix, begun, closed, primary, operand, prefixed}
 use Rattle.abel_macros.specs.declared.operator.Prefix.TheVariants as prefix
 

@@ -1,6 +1,5 @@
 -- Stretches of plain text in which nothing ends, by what is counted in them.
-use Rattle.std.proofs.Common.{◌≡◌, ℕ, zero, suc, ◌+◌, ◌-◌, ◌<◌, ◌≤◌, inl, inr, Bool, true, false, List, [], ◌∷◌, ◌++◌, Option, Some, length, take, drop, get_or, refl, sym, ap, ◌∙◌, arith, length-take}
-use Rattle.std.specs.Prelude.{◌==◌, ◌&&◌, ◌||◌, if◌then◌else◌}
+use Rattle.std.proofs.Common.{◌≡◌, ℕ, zero, suc, ◌+◌, ◌-◌, ◌<◌, ◌≤◌, inl, inr, Bool, true, false, List, [], ◌∷◌, ◌++◌, Option, Some, length, take, drop, get_or, refl, sym, ap, ◌∙◌, arith, length-take, ◌==◌, ◌&&◌, ◌||◌, if◌then◌else◌}
 use Rattle.abel_macros.proofs.Common.{count_by, take-append-drop, drop-drop, take-add, eqb-true, bool_cases, Mode, is_plain, passing, quoting, nested, closes_block, closing, ends_argument, argument_end}
 use Rattle.std.proofs.lemmas.List.Sums.{sum_by-cons, sum_by-append, count_by_more_yes, count_by_more_no, count_by-le-length}
 use mir.Val.{bool_byte}

@@ -1,5 +1,5 @@
 -- What a text expands to in at most so many turns, as numbers.
-use Rattle.std.specs.Prelude.{ℕ, zero, suc, ◌+◌, ◌==◌, List, [], ◌∷◌, Ok, Err, if◌then◌else◌}
+use Rattle.std.proofs.Common.{ℕ, zero, suc, ◌+◌, ◌==◌, List, [], ◌∷◌, Ok, Err, if◌then◌else◌}
 use Rattle.abel_macros.proofs.Common.{Cause, TooLong, ExpansionLimit, BadDirective, Unsupported, Config, turn}
 
 -- a text expands to these bytes, or is refused behind these bytes

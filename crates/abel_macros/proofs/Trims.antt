@@ -1,8 +1,7 @@
 -- A text without the blanks at its ends, byte by byte.
-use Rattle.std.proofs.Common.{◌≡◌, ℕ, suc, ◌+◌, ◌-◌, ◌≤◌, ◌<◌, inl, inr, Bool, true, false, List, [], ◌∷◌, ◌++◌, length, take, drop, get_or, refl, sym, ap, ◌∙◌, arith, length-take}
+use Rattle.std.proofs.Common.{◌≡◌, ℕ, suc, ◌+◌, ◌-◌, ◌≤◌, ◌<◌, inl, inr, Bool, true, false, List, [], ◌∷◌, ◌++◌, length, take, drop, get_or, refl, sym, ap, ◌∙◌, arith, length-take, ◌&&◌}
 use Rattle.abel_macros.proofs.Common.{take-length, take-suc, joined, joined-push, list_all, prefix_len, drop-take, is_blank, bool_cases, not_all, trimmed, trimmed_end}
 use Rattle.abel_macros.proofs.Passed.{take_within, and_false}
-use Rattle.std.specs.Prelude.{◌&&◌}
 
 pub take_some : (n b : ℕ) (w x : List ℕ) → 0 < n → w ≡ b ∷ x → take n w ≡ b ∷ take (n - 1) x
 take_some n b w x h e = let m : n ≡ suc (n - 1) = omega arith in ap (λ (v : List ℕ). take n v) e ∙ ap (λ (k : ℕ). take k (b ∷ x)) m

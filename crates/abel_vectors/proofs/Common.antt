@@ -6,7 +6,8 @@ pub use Rattle.abel_meaning.specs.Designs.{Context, context_of, name_at}
 pub use Rattle.abel_meaning.specs.Rows.{Level, Mark, Pulsed, Released, Unknown, marks_of}
 pub use Rattle.abel_meaning.specs.Targets.{targets_of}
 pub use Rattle.abel_meaning.specs.Terms.{Term, term_of}
-pub use Rattle.abel_meaning.specs.Vectors.{char_by, char_given, char_or_plain, design_vectors, first_char, given_to, input_char, output_char, pin_char, row_chars, section_vectors, sections_vectors}
+pub use Rattle.abel_meaning.specs.Vectors.{char_by, char_given, char_or_plain, design_vectors, first_char, given_to, input_char, output_char, pin_char}
+pub use Rattle.abel_meaning.specs.Vectors.{row_chars, section_vectors, sections_vectors}
 pub use Rattle.abel_tree.proofs.FirstRefusals.{earlier_assoc, earlier_none, first_append, none_refused}
 pub use Rattle.abel_tree.specs.Entries.{AConstant, ADeviceName, ANode, APin, Entry, Kind}
 pub use Rattle.abel_tree.specs.FirstRefusal.{earlier, first_refusal}
@@ -29,5 +30,9 @@ pub use Rattle.source_sections.specs.SectionAnswers.{AnswersSections, IsTold, se
 pub use Rattle.truth_tables.proofs.ReadLaws.{inside_first, none_met, none_unmet}
 pub use Rattle.truth_tables.specs.EntryMarks.{view_mark}
 pub use Rattle.truth_tables.specs.EntryTerms.{IsOver}
-pub use Rattle.abel_vectors.specs.{AnswersVectors, Finds, FindsRows, FindsSection, IsAnswer, IsFound, IsReadAs, IsRowRead, IsRowVector, NamesPins, NothingFound, all_given, all_read, all_vectors_refused, char_for, chars_for, chars_read, disagree, entries_refused, fault_in, found_at, gives_another, header_refused, header_term, if_none, is_pin_or_unknown, marks_refused, names_pins, one_too_many, pin_of, position_gives, pulse_read, refused_behind, row_refused, rows_refused, side_refused, tests_pulse, vectors_refused, view_vectors}
+pub use Rattle.abel_vectors.specs.{AnswersVectors, Finds, FindsRows, FindsSection, IsAnswer, IsFound, IsReadAs, IsRowRead, IsRowVector, NamesPins, NothingFound}
+pub use Rattle.abel_vectors.specs.{all_given, all_read, all_vectors_refused, char_for, chars_for, chars_read, disagree, entries_refused, fault_in, found_at}
+pub use Rattle.abel_vectors.specs.{gives_another, header_refused, header_term, if_none, is_pin_or_unknown, marks_refused, names_pins, one_too_many, pin_of}
+pub use Rattle.abel_vectors.specs.{position_gives, pulse_read, refused_behind, row_refused, rows_refused, side_refused, tests_pulse, vectors_refused}
+pub use Rattle.abel_vectors.specs.{view_vectors}
 pub use Rattle.abel_vectors.specs.declared.finding.Found.{Found}

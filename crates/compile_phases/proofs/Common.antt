@@ -1,7 +1,8 @@
 -- The words that the proofs of this crate are said in, passed on from one place. Declares nothing.
 pub use Rattle.abel_meaning.specs.Designs.{Context, design_of, no_name}
 pub use Rattle.abel_meaning.specs.Kinds.{names_of}
-pub use Rattle.abel_meaning.specs.Netlists.{PlainNetlist, Wanted, node_at, plain_control, plain_function, plain_netlist, plain_wanted, shared_function, wanted_at}
+pub use Rattle.abel_meaning.specs.Netlists.{PlainNetlist, Wanted, node_at, plain_control, plain_function, plain_netlist, plain_wanted, shared_function}
+pub use Rattle.abel_meaning.specs.Netlists.{wanted_at}
 pub use Rattle.abel_meaning.specs.SoundIds.{IsSoundNetlist}
 pub use Rattle.abel_tree.specs.Entries.{AConstant, ADeviceName, ANode, APin, Entry, Kind, entries_of}
 pub use Rattle.abel_tree.specs.FirstRefusal.{Ranks, first_refusal}

@@ -1,6 +1,5 @@
 -- Two netlists over arenas that stand for one netlist over formulas fit alike, as they are written.
-use Rattle.std.proofs.Common.{◌≡◌, ◌⊎◌, inl, inr, ℕ, ◌<◌, ◌≤◌, Bool, true, false, not, ◌&&◌, ◌||◌, if◌then◌else◌, List, length, Option, Some, None, Err, refl, sym, ap, ◌∙◌, subst}
-use Rattle.std.specs.Prelude.{unwrap_or}
+use Rattle.std.proofs.Common.{◌≡◌, ◌⊎◌, inl, inr, ℕ, ◌<◌, ◌≤◌, Bool, true, false, not, ◌&&◌, ◌||◌, if◌then◌else◌, List, length, Option, Some, None, Err, refl, sym, ap, ◌∙◌, subst, unwrap_or}
 use Rattle.compile_phases.proofs.Common.{IsDevice, complement_if, Table, cell_at, Netlist, ExprId, arena, formula_at, Formula, Const, Or, PlainNetlist, Wanted, plain_control, plain_netlist, plain_wanted, shared_function, wanted_at, IsSoundNetlist, Products, written, bit_list, IsSoundId, IsControlTooWide, IsTooWide, NoneWide, IsFirstWide, FitFault, FitAnswers, HasControls, IsOfFit, HasRoom}
 use Rattle.std.specs.Option.{option_map}
 use Rattle.pld_base.specs.Bits.{same_level}

@@ -4,7 +4,8 @@ pub use Rattle.abel_meaning.specs.Declarations.{are_numbered, is_unnumbered}
 pub use Rattle.abel_meaning.specs.Held.{asks_q, is_shared, part_shares, read_names, sections_parts}
 pub use Rattle.abel_meaning.specs.Kinds.{is_buffer, is_open, is_registered, names_of, settled_words, with_assigned}
 pub use Rattle.abel_tree.specs.Assigned.{Assigned, is_clocked, target_extension, without_extension}
-pub use Rattle.abel_tree.specs.Entries.{AConstant, ADeviceName, ANode, APin, Entry, Kind, Words, entries_of, find, follows_q, is_signal, is_stored, view_attributes, view_declared, view_meaning}
+pub use Rattle.abel_tree.specs.Entries.{AConstant, ADeviceName, ANode, APin, Entry, Kind, Words, entries_of, find, follows_q, is_signal, is_stored}
+pub use Rattle.abel_tree.specs.Entries.{view_attributes, view_declared, view_meaning}
 pub use Rattle.abel_tree.specs.SoundNames.{IsNamed, IsSoundKind, SoundNames}
 pub use Rattle.abel_tree.specs.Tree.{SectionTree, Tree}
 pub use Rattle.abel_tree.specs.View.{view, view_module}

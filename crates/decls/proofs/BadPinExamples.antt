@@ -1,6 +1,5 @@
 -- Pins that no name may have, and counts that differ: sources as trees, and what a second implementation of the language answers.
-use Rattle.std.proofs.Common.{◌≡◌, Some, None, [], ◌∷◌, refl}
-use Rattle.std.specs.Prelude.{codes}
+use Rattle.std.proofs.Common.{◌≡◌, Some, None, [], ◌∷◌, refl, codes}
 use Rattle.decls.proofs.Common.{digits, is_before, ADevice, SomePins, SomeNodes, first_name_refusal}
 use Rattle.decls.specs.declared.fault.NameFault.TheVariants as fault
 use Rattle.decls.proofs.WrittenModules.{at, word, item, items, pin, pins_to, module_of, pal16l8, pal16r4, pal16r6, pal16r8, gal22v10}

@@ -1,6 +1,5 @@
 -- One more name in the table.
-use Rattle.std.proofs.Common.{◌≡◌, ℕ, true, false, List, [], ◌∷◌, ◌++◌, Option, Some, map, refl, sym, ap, ap₂, ◌∙◌}
-use Rattle.std.specs.Prelude.{is_some}
+use Rattle.std.proofs.Common.{◌≡◌, ℕ, true, false, List, [], ◌∷◌, ◌++◌, Option, Some, map, refl, sym, ap, ap₂, ◌∙◌, is_some}
 use Rattle.decls.proofs.Common.{Vec, map-append, Place, Table, Kind, Words, Entry, kind_of, view_meaning, earlier, first_refusal, first_push, entry, NameFault, Known, NameTable, name_order, Progress, refuse, entered, Shows, kept_kind, kept, view_known, view_said, view_given}
 use Rattle.decls.specs.declared.fault.NameFault.TheVariants.{Redeclared}
 

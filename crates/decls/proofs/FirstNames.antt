@@ -1,6 +1,5 @@
 -- Each name as it is declared first.
-use Rattle.std.proofs.Common.{◌≡◌, ℕ, Bool, true, false, Option, Some, None, List, [], ◌∷◌, ◌++◌, fold, if◌then◌else◌, refl, sym, ap, ap₂, ◌∙◌, append_assoc}
-use Rattle.std.specs.Prelude.{is_some}
+use Rattle.std.proofs.Common.{◌≡◌, ℕ, Bool, true, false, Option, Some, None, List, [], ◌∷◌, ◌++◌, fold, if◌then◌else◌, refl, sym, ap, ap₂, ◌∙◌, append_assoc, is_some}
 use Rattle.decls.proofs.Common.{bytes_eq, append-nil, fold-append, bytes_eq-Decides, Place, Kind, Entry, kind_of, passes, names_any, is_signal, is_value, Use, OneName, Range, ends_agree, names_between, item_names, is_bad, Item, GivenName, enter, first_entries, words_named, words_of_names, refused_if, first_undeclared, use_refused, uses_refused, items_refused}
 use Rattle.decls.specs.declared.fault.NameFault.TheVariants as fault
 

@@ -1,6 +1,5 @@
 -- The first numbers of a declaration are the same however many are written out.
-use Rattle.std.proofs.Common.{◌≡◌, ◌⊎◌, inl, inr, ℕ, zero, suc, ◌+◌, ◌-◌, ◌<◌, ◌≤◌, Bool, true, false, List, [], ◌∷◌, ◌++◌, Option, Some, None, map, fold, take, drop, length, get_or, refl, sym, ap, ap₂, ◌∙◌, append_assoc, arith}
-use Rattle.std.specs.Prelude.{min}
+use Rattle.std.proofs.Common.{◌≡◌, ◌⊎◌, inl, inr, ℕ, zero, suc, ◌+◌, ◌-◌, ◌<◌, ◌≤◌, Bool, true, false, List, [], ◌∷◌, ◌++◌, Option, Some, None, map, fold, take, drop, length, get_or, refl, sym, ap, ap₂, ◌∙◌, append_assoc, arith, min}
 use Rattle.decls.proofs.Common.{range_with_len, take-append-add, leb_tells, take-append-drop, take-append-le, drop-take, length-append, length-map, length-range_with_len, take-map-range_with_len, fold-append, Table, Item, Number, Span, Words, span_count, span_numbers, numbers_of, item_names, GivenName, given_names, number_at, HasNumbers, given_by, Progress, node_step, pin_step, with_numbers}
 use Rattle.std.proofs.Math.Dec.{leb}
 use Rattle.std.proofs.Math.Nat.{min-eq_left, min_comm}

@@ -1,6 +1,5 @@
 -- One item more of a list that is gone through.
-use Rattle.std.proofs.Common.{◌≡◌, ℕ, zero, suc, ◌+◌, ◌-◌, ◌<◌, ◌≤◌, ◌==◌, nat_le, Bool, true, false, ◌||◌, List, [], ◌∷◌, ◌++◌, map, fold, take, drop, length, get_or, if◌then◌else◌, Some, None, refl, sym, ap, ◌∙◌, append_assoc, arith}
-use Rattle.std.specs.Prelude.{slice_get, min}
+use Rattle.std.proofs.Common.{◌≡◌, ℕ, zero, suc, ◌+◌, ◌-◌, ◌<◌, ◌≤◌, ◌==◌, nat_le, Bool, true, false, ◌||◌, List, [], ◌∷◌, ◌++◌, map, fold, take, drop, length, get_or, if◌then◌else◌, Some, None, refl, sym, ap, ◌∙◌, append_assoc, arith, slice_get, min}
 use Rattle.decls.proofs.Common.{list_any, range_with_len, nat_tests, append-nil, get_or_default, take_more, length-map, length-take-le, take-append-drop, fold-append, Item, Number, Span, Words, Entry, is_bad, item_names, span_count, count_numbers, span_numbers, numbers_of, GivenName, given_names, NameFault, words_named, words_of_names, refused_if, ranges_refused, item_refused, items_refused, given_by, number_at, Progress, refuse_all, with_numbers}
 use Rattle.decls.specs.declared.fault.NameFault.TheVariants as fault
 use Rattle.decls.specs.Spans.{range_length}

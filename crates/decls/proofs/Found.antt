@@ -1,6 +1,5 @@
 -- Looking a name up in the table.
-use Rattle.std.proofs.Common.{◌≡◌, ℕ, ◌+◌, Bool, true, false, List, [], ◌∷◌, ◌++◌, Option, Some, None, map, refl, sym, ap, ◌∙◌, if◌then◌else◌, cond}
-use Rattle.std.specs.Prelude.{is_some, option_map, option_copied}
+use Rattle.std.proofs.Common.{◌≡◌, ℕ, ◌+◌, Bool, true, false, List, [], ◌∷◌, ◌++◌, Option, Some, None, map, refl, sym, ap, ◌∙◌, if◌then◌else◌, cond, is_some, option_map, option_copied}
 use Rattle.decls.proofs.Common.{Vec, position, position_from, position_from-zero, bytes_eq, lookup, keys_of, Table, Kind, APin, ANode, AConstant, ADeviceName, Entry, kind_of, find, passes, view_meaning, Known, kept_kind, kept, view_known, wanted}
 use denote.Ref.{Bor}
 

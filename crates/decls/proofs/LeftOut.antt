@@ -1,6 +1,5 @@
 -- A pass that leaves names out keeps the first refusal.
-use Rattle.std.proofs.Common.{◌≡◌, Bool, true, false, not, List, Option, Some, None, refl, sym, ap, ◌∙◌}
-use Rattle.std.specs.Prelude.{is_some}
+use Rattle.std.proofs.Common.{◌≡◌, Bool, true, false, not, List, Option, Some, None, refl, sym, ap, ◌∙◌, is_some}
 use Rattle.decls.proofs.Common.{Place, Table, first_refusal, NameFault, Pass, NameTable, name_order, is_behind, AreBehind, MayLeave, Way, way, Follows, wants_names, Shows, Progress, nothing, refuse_all}
 use Rattle.decls.proofs.FirstStays.{adds_first, first_stays}
 

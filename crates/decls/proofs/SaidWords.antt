@@ -1,6 +1,5 @@
 -- What was said of a name, in the table and in the entries.
-use Rattle.std.proofs.Common.{◌≡◌, ℕ, zero, suc, ◌<◌, length, get_or, arith, ◌&&◌, Bool, true, false, ◌||◌, List, [], ◌∷◌, Option, Some, None, map, refl, sym, ap, ◌∙◌, if◌then◌else◌, cond}
-use Rattle.std.specs.Prelude.{option_map}
+use Rattle.std.proofs.Common.{◌≡◌, ℕ, zero, suc, ◌<◌, length, get_or, arith, ◌&&◌, Bool, true, false, ◌||◌, List, [], ◌∷◌, Option, Some, None, map, refl, sym, ap, ◌∙◌, if◌then◌else◌, cond, option_map}
 use Rattle.decls.proofs.Common.{list_any, Vec, lookup, bytes_eq, Table, Words, Entry, Said, Known, words_named, kept, view_known, view_said, said_before}
 use Rattle.std.proofs.Math.Bool.{beq}
 

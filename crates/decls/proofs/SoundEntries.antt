@@ -1,6 +1,5 @@
 -- Names that are sound by the names before them.
-use Rattle.std.proofs.Common.{◌≡◌, ℕ, zero, suc, ◌<◌, ◌≤◌, ◌==◌, nat_le, nat_lt, Bool, true, false, not, ◌&&◌, ◌||◌, if◌then◌else◌, Some, List, [], ◌∷◌, ◌++◌, zip, take, refl, sym, ap, ap₂, subst, ◌∙◌, append_assoc, arith}
-use Rattle.std.specs.Prelude.{is_some, slice_get}
+use Rattle.std.proofs.Common.{◌≡◌, ℕ, zero, suc, ◌<◌, ◌≤◌, ◌==◌, nat_le, nat_lt, Bool, true, false, not, ◌&&◌, ◌||◌, if◌then◌else◌, Some, List, [], ◌∷◌, ◌++◌, zip, take, refl, sym, ap, ap₂, subst, ◌∙◌, append_assoc, arith, is_some, slice_get}
 use Rattle.decls.proofs.Common.{true≢false, and_parts, nat_tests, append-nil, list_all-append, Table, Word, Kind, APin, ANode, AConstant, ADeviceName, Words, Entry, kind_of, IsSoundKind, is_named, are_named, Tree, uses, all_uses, GivenName, is_unnumbered, pin_entries, node_entries, constant_entries, is_on_pin, is_taken, refused_if, is_signal_pin, number_refused}
 use Rattle.decls.specs.declared.fault.NameFault.TheVariants as fault
 use Rattle.decls.proofs.NoRefusals.{not_refused}

@@ -1,6 +1,5 @@
 -- Where nothing is refused, each name is declared once, the table keeps it as it is, and it is sound.
-use Rattle.std.proofs.Common.{◌≡◌, ℕ, zero, suc, Bool, true, false, List, [], ◌∷◌, ◌++◌, map, zip, length, if◌then◌else◌, refl, sym, ap, ap₂, subst, ◌∙◌, append_assoc}
-use Rattle.std.specs.Prelude.{is_some}
+use Rattle.std.proofs.Common.{◌≡◌, ℕ, zero, suc, Bool, true, false, List, [], ◌∷◌, ◌++◌, map, zip, length, if◌then◌else◌, refl, sym, ap, ap₂, subst, ◌∙◌, append_assoc, is_some}
 use Rattle.decls.proofs.Common.{true≢false, append-nil, map-append, Table, ADeviceName, Words, Entry, kind_of, numbers_of, IsSoundKind, Declaration, ADevice, SomePins, SomeNodes, SomeAttributes, SomeConstants, SomeOptions, DontCareFor, all_uses, GivenName, given_names, entry, no_words, all_said, is_unnumbered, pin_entries, node_entries, constant_entries, node_count, with_words, declared, first_entries, added, number_refused, name_refused, names_refused, given_count, parts_refused, kept, kept_kind}
 use Rattle.decls.specs.declared.fault.NameFault.TheVariants as fault
 use Rattle.decls.proofs.DeclarationsGo.{added_is}

@@ -1,6 +1,5 @@
 -- More words for names that are declared already.
-use Rattle.std.proofs.Common.{◌≡◌, ℕ, ◌+◌, Bool, true, false, ◌||◌, Option, Some, None, List, [], ◌∷◌, ◌++◌, fold, map, if◌then◌else◌, refl, sym, ap, ap₂, ◌∙◌}
-use Rattle.std.specs.Prelude.{is_some}
+use Rattle.std.proofs.Common.{◌≡◌, ℕ, ◌+◌, Bool, true, false, ◌||◌, Option, Some, None, List, [], ◌∷◌, ◌++◌, fold, map, if◌then◌else◌, refl, sym, ap, ap₂, ◌∙◌, is_some}
 use Rattle.decls.proofs.Common.{list_any, bytes_eq, map-append, bytes_eq-Decides, Place, Kind, APin, ANode, AConstant, ADeviceName, Words, Entry, kind_of, GivenName, said_by_either, with_words, node_count, enter, first_entries, is_on_pin, is_taken, Progress, said_of, say_step}
 use Rattle.decls.proofs.FirstNames.{kind_append, or_else, same_bytes}
 use Rattle.decls.proofs.Goes.{count_append}

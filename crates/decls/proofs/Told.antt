@@ -1,6 +1,5 @@
 -- More words for a name in the table.
-use Rattle.std.proofs.Common.{◌≡◌, ℕ, zero, suc, ◌+◌, ◌-◌, ◌≤◌, Bool, true, false, List, [], ◌∷◌, Option, Some, None, map, if◌then◌else◌, refl, sym, ap, ap₂, ◌∙◌, cond, arith}
-use Rattle.std.specs.Prelude.{slice_get}
+use Rattle.std.proofs.Common.{◌≡◌, ℕ, zero, suc, ◌+◌, ◌-◌, ◌≤◌, Bool, true, false, List, [], ◌∷◌, Option, Some, None, map, if◌then◌else◌, refl, sym, ap, ap₂, ◌∙◌, cond, arith, slice_get}
 use Rattle.decls.proofs.Common.{Vec, position_from, values_of, bytes_eq, position_from-zero, Table, Words, Entry, find, said_by_either, Said, Known, kept, view_known, view_said, said_of}
 use Rattle.indexmap.specs.IndexMap.{set_value_at}
 

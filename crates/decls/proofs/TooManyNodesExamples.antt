@@ -1,6 +1,5 @@
 -- The 129th node: sources as trees, and what a second implementation of the language answers.
-use Rattle.std.proofs.Common.{◌≡◌, Some, [], ◌∷◌, refl}
-use Rattle.std.specs.Prelude.{codes}
+use Rattle.std.proofs.Common.{◌≡◌, Some, [], ◌∷◌, refl, codes}
 use Rattle.decls.proofs.Common.{digits, is_before, ADevice, SomeNodes, first_name_refusal}
 use Rattle.decls.specs.declared.fault.NameFault.TheVariants as fault
 use Rattle.decls.proofs.WrittenModules.{at, word, item, items, module_of, pal16l8}

@@ -1,6 +1,5 @@
 -- Names that are not declared before: sources as trees, and what a second implementation of the language answers.
-use Rattle.std.proofs.Common.{◌≡◌, Some, None, [], ◌∷◌, false, refl}
-use Rattle.std.specs.Prelude.{codes}
+use Rattle.std.proofs.Common.{◌≡◌, Some, None, [], ◌∷◌, false, refl, codes}
 use Rattle.decls.proofs.Common.{digits, is_before, ADevice, SomePins, SomeAttributes, SomeConstants, Equations, ATable, ADiagram, SomeVectors, first_name_refusal}
 use Rattle.abel_tree.specs.declared.words.Extension.TheVariants as extension
 use Rattle.abel_tree.specs.declared.words.Binary.TheVariants as binary

@@ -1,6 +1,5 @@
 -- Names that are not declared before: sources as trees, and what a second implementation of the language answers.
-use Rattle.std.proofs.Common.{◌≡◌, Some, [], ◌∷◌, refl}
-use Rattle.std.specs.Prelude.{codes}
+use Rattle.std.proofs.Common.{◌≡◌, Some, [], ◌∷◌, refl, codes}
 use Rattle.decls.proofs.Common.{digits, is_before, ADevice, SomePins, SomeAttributes, SomeConstants, Declarations, Equations, first_name_refusal}
 use Rattle.decls.specs.declared.fault.NameFault.TheVariants as fault
 use Rattle.decls.proofs.WrittenModules.{at, word, number, name, one, set, assign, clocked, item, items, pin, module_of, pal16l8, pal16r4}

@@ -1,6 +1,5 @@
 -- Constants one after the other.
-use Rattle.std.proofs.Common.{◌≡◌, ℕ, ◌+◌, ◌<◌, Option, Some, None, List, [], ◌∷◌, ◌++◌, fold, take, length, zip, get_or, refl, sym, ap, ◌∙◌, arith}
-use Rattle.std.specs.Prelude.{slice_get}
+use Rattle.std.proofs.Common.{◌≡◌, ℕ, ◌+◌, ◌<◌, Option, Some, None, List, [], ◌∷◌, ◌++◌, fold, take, length, zip, get_or, refl, sym, ap, ◌∙◌, arith, slice_get}
 use Rattle.decls.proofs.Common.{take_more, length-take-le, fold-append, Word, Tree, Progress, constant_at, constant_step}
 
 -- a pair, if there is a value

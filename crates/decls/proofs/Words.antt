@@ -1,7 +1,6 @@
 -- The words of a string, one more, and the pieces that a text is split into.
-use Rattle.std.proofs.Common.{◌≡◌, ℕ, ◌+◌, ◌-◌, ◌==◌, nat_lt, Bool, true, false, not, ◌||◌, List, [], ◌∷◌, ◌++◌, map, filter, length, take, drop, refl, sym, ap, ap₂, ◌∙◌, arith, cond}
+use Rattle.std.proofs.Common.{◌≡◌, ℕ, ◌+◌, ◌-◌, ◌==◌, nat_lt, Bool, true, false, not, ◌||◌, List, [], ◌∷◌, ◌++◌, map, filter, length, take, drop, refl, sym, ap, ap₂, ◌∙◌, arith, cond, codes}
 use Rattle.decls.proofs.Common.{nat_tests, list_any-append, slice_split, onto_first, str_to_ascii_lowercase, bytes_eq, said_by_either, parts_words, words_of, has_word, said_words, StringWords, has_unknown, known_words, view_said, lower_words, Tells}
-use Rattle.std.specs.Prelude.{codes}
 use Rattle.std.specs.Char.{to_ascii_lowercase}
 
 or_mixed : (a b c d : Bool) → ((a || c) || (b || d)) ≡ ((a || b) || (c || d))

@@ -1,8 +1,7 @@
 -- Modules written as trees with the places of their names, and what is answered of them.
 use Rattle.decls.proofs.Common.{DeviceName, Place, Flip, Table, Word, Item, Span, Extension, Kind, APin, ANode, AConstant, ADeviceName, Entry, is_signal, Tree, ANumber, ASpecial, AName, ASet, AParen, AUnary, ABinary, SetMember, OneMember, SpanMember, members_of, Statement, AnAssign, AWhen, AGroup, ADontCare, NoElse, AnElse, statements_of, Branch, AGoal, AnIf, ACase, NoBranch, ABranch, choices_of, RowTree, StateTree, Declaration, SectionTree, ModuleTree, names_of, NameFault, first_name_refusal}
 use Prim.Native.String.{String}
-use Rattle.std.proofs.Common.{ℕ, ◌+◌, ◌*◌, Bool, true, false, not, ◌&&◌, Option, None, Some, List, [], map}
-use Rattle.std.specs.Prelude.{codes}
+use Rattle.std.proofs.Common.{ℕ, ◌+◌, ◌*◌, Bool, true, false, not, ◌&&◌, Option, None, Some, List, [], map, codes}
 use Rattle.pld_base.specs.declared.device_name.DeviceName.TheVariants.{P16L8, P16R4, P16R6, P16R8, GAL22V10}
 use Rattle.pld_device.specs.declared.flip.Flip.TheVariants.{Always, AfterRegister}
 use Rattle.abel_tree.specs.declared.words.DontCare.{DontCare}

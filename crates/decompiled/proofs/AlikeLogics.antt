@@ -1,6 +1,5 @@
 -- The two logics allow the same.
-use Rattle.std.proofs.Common.{◌≡◌, ℕ, ◌<◌, inl, inr, Bool, true, false, not, Option, List, [], length, refl, sym, ap, ◌∙◌, arith, ltb-true}
-use Rattle.std.specs.Prelude.{nat_lt}
+use Rattle.std.proofs.Common.{◌≡◌, ℕ, ◌<◌, inl, inr, Bool, true, false, not, Option, List, [], length, refl, sym, ap, ◌∙◌, arith, ltb-true, nat_lt}
 use Rattle.decompiled.proofs.Common.{cases_Bool, true≢false, same_level, Logic, Levels, AllowsOne, HasNoDontCare, Refines, IsDevice, device_logic, is_enabled, next_q, pin_level, row_if_any, stores, Table, cell_at, Leaf, Formula, formula_value, Function, allows, drives, may_drive, may_store, netlist_logic, netlist_stores, registers_as, PlainNetlist, Wanted, function_at, node_at, own_or_shared, wanted_at, PinLiteral, has_lines, HasRowSizes, ReadsPairs, IsFusesNetlist, LogicsAreAlike}
 use Rattle.device_logic.proofs.Ranges.{preset_in, reset_in}
 use Rattle.decompiled.proofs.Values.{shared_value, spare_stores, spare_enabled, spare_is_off, own_enabled, own_next, own_level}

@@ -1,6 +1,5 @@
 -- The lines of a cell's signal are found at the cell alone.
-use Rattle.std.proofs.Common.{◌≡◌, ℕ, zero, suc, ◌+◌, ◌<◌, ◌≤◌, inl, inr, Bool, true, false, Option, None, Some, List, [], ◌∷◌, ◌++◌, length, filter, flat_map, refl, ap, ◌∙◌, arith, append-nil, eqb-true, eq-eqb}
-use Rattle.std.specs.Prelude.{◌==◌, ◌&&◌, if◌then◌else◌}
+use Rattle.std.proofs.Common.{◌≡◌, ℕ, zero, suc, ◌+◌, ◌<◌, ◌≤◌, inl, inr, Bool, true, false, Option, None, Some, List, [], ◌∷◌, ◌++◌, length, filter, flat_map, refl, ap, ◌∙◌, arith, append-nil, eqb-true, eq-eqb, ◌==◌, ◌&&◌, if◌then◌else◌}
 use Rattle.decompiled.proofs.Common.{range_with_len, cases_Bool, cases_lt, Enable, Row, PinLow, is_never_true, stores, Table, cell_at, Extension, is_data, is_the_control, SumLine, is_data_line, is_control_line, cell_lines, lines_of, control_line, data_line, enable_lines, first_register, has_lines, shared_lines, IsOwnSignal, CellsHaveTheirLines}
 use Rattle.abel_tree.specs.declared.words.Extension.TheVariants as extension
 

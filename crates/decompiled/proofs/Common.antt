@@ -35,7 +35,8 @@ pub use Rattle.abel_meaning.specs.Controls.{control_by, control_if_stored, contr
 pub use Rattle.abel_meaning.specs.Declarations.{all_said, declared, declared_names, entry, no_words}
 pub use Rattle.abel_meaning.specs.Designs.{Context, Design, design_of, name_at, no_name}
 pub use Rattle.abel_meaning.specs.FormulaBits.{bits_of, formulas, make_source, met_by, met_word, operator_word}
-pub use Rattle.abel_meaning.specs.Functions.{Function, allows, any_of, both_function, function_of, gives_some, is_both, is_complement, is_data_in, is_data_to, is_free_elsewhere, is_raw_signal, same_gives, single_function, some_holds}
+pub use Rattle.abel_meaning.specs.Functions.{Function, allows, any_of, both_function, function_of, gives_some, is_both, is_complement, is_data_in, is_data_to}
+pub use Rattle.abel_meaning.specs.Functions.{is_free_elsewhere, is_raw_signal, same_gives, single_function, some_holds}
 pub use Rattle.abel_meaning.specs.Held.{Holds, holds_of}
 pub use Rattle.abel_meaning.specs.Kinds.{names_of, with_kind, with_kinds}
 pub use Rattle.abel_meaning.specs.NetlistLogic.{drives, may_drive, may_store, netlist_logic, netlist_stores, netlist_values, registers_as}
@@ -44,11 +45,14 @@ pub use Rattle.abel_meaning.specs.Sections.{section_gives, sections_give, unguar
 pub use Rattle.abel_meaning.specs.SignalReads.{given_formulas}
 pub use Rattle.abel_meaning.specs.SourceLogic.{is_negated, is_node_number, node_signal, source_logic, source_values}
 pub use Rattle.abel_meaning.specs.Sources.{Held, Source, on_pin, source_of as read_of, register_source, source_by}
-pub use Rattle.abel_meaning.specs.Terms.{BinaryOf, Known, Read, Read as ReadTerm, Term, UnaryOf, extended_if, known_after, known_of, term_meant, term_named, term_of}
-pub use Rattle.abel_tree.specs.Assigned.{Assigned, Named, assigned_by, is_assigned, is_clocked_target, list_assigns, named_of, sections_assign, signals_of_name, statement_assigns}
+pub use Rattle.abel_meaning.specs.Terms.{BinaryOf, Known, Read, Read as ReadTerm, Term, UnaryOf, extended_if, known_after, known_of, term_meant, term_named}
+pub use Rattle.abel_meaning.specs.Terms.{term_of}
+pub use Rattle.abel_tree.specs.Assigned.{Assigned, Named, assigned_by, is_assigned, is_clocked_target, list_assigns, named_of, sections_assign, signals_of_name}
+pub use Rattle.abel_tree.specs.Assigned.{statement_assigns}
 pub use Rattle.abel_tree.specs.Entries.{ADeviceName, APin, Entry, Kind, Words, follows_q, is_stored}
 pub use Rattle.abel_tree.specs.Extensions.{is_data, is_raw}
-pub use Rattle.abel_tree.specs.Tree.{ABinary, ADevice, AName, ANumber, AUnary, AnAssign, Declaration, Equations, ModuleTree, SectionTree, SomePins, Statement, Tree, statements_of}
+pub use Rattle.abel_tree.specs.Tree.{ABinary, ADevice, AName, ANumber, AUnary, AnAssign, Declaration, Equations, ModuleTree, SectionTree, SomePins, Statement}
+pub use Rattle.abel_tree.specs.Tree.{Tree, statements_of}
 pub use Rattle.abel_tree.specs.declared.words.Extension.{Extension}
 pub use Rattle.abel_tree.specs.declared.words.Number.{Number}
 unfoldable pub use Rattle.bit_expr.specs.Folding.{make_and, make_not, make_or}
@@ -64,7 +68,8 @@ pub use Rattle.pld_base.specs.Points.{Levels}
 pub use Rattle.pld_base.specs.declared.place.Place.{Place}
 pub use Rattle.pld_device.proofs.OwnPins.{own_pins}
 pub use Rattle.pld_device.specs.Laws.{IsDevice, IsPair, IsSignalPin}
-pub use Rattle.pld_device.specs.Macrocells.{complement_if, data_complements, data_rows, device_logic, enabled_by, is_enabled, next_q, or_value, pin_complements, pin_level, row_if_any}
+pub use Rattle.pld_device.specs.Macrocells.{complement_if, data_complements, data_rows, device_logic, enabled_by, is_enabled, next_q, or_value, pin_complements}
+pub use Rattle.pld_device.specs.Macrocells.{pin_level, row_if_any}
 pub use Rattle.pld_device.specs.Pins.{cell_on}
 pub use Rattle.pld_device.specs.Reads.{connected_pairs, has_whole_pair, is_never_true, row_reads}
 pub use Rattle.pld_device.specs.Registers.{is_inverted, says, stores, stores_by}
@@ -83,14 +88,22 @@ pub use Rattle.decompiled.specs.LineGives.{IsKnownLine, LinesGive, OneLineIsAFun
 pub use Rattle.decompiled.specs.OwnLines.{CellsHaveTheirLines, HasOwnLines, IsOwnSignal}
 pub use Rattle.decompiled.specs.Pieces.{Piece, place_behind, place_in, text_of, token_at, tokens_from}
 pub use Rattle.decompiled.specs.PinNames.{ArePinEntries, ArePinsApart, PinsAreDeclared, PinsAreKnown, said}
-pub use Rattle.decompiled.specs.Plain.{ArePlain, IsApart, IsPlainPiece, PlainTextsExpandToThemselves, PlainTextsHaveTheirTokens, is_marked, is_text_kind, is_word_kind}
-pub use Rattle.decompiled.specs.RowLiterals.{ColumnLiteral, RowsAreProducts, RowsReadLiterals, if_intact, literal, literal_value, literals_of, row_literals, some_read}
+pub use Rattle.decompiled.specs.Plain.{ArePlain, IsApart, IsPlainPiece, PlainTextsExpandToThemselves, PlainTextsHaveTheirTokens, is_marked, is_text_kind}
+pub use Rattle.decompiled.specs.Plain.{is_word_kind}
+pub use Rattle.decompiled.specs.RowLiterals.{ColumnLiteral, RowsAreProducts, RowsReadLiterals, if_intact, literal, literal_value, literals_of, row_literals}
+pub use Rattle.decompiled.specs.RowLiterals.{some_read}
 pub use Rattle.decompiled.specs.RowSums.{HasRowSizes, ReadsPairs, SumsHaveRows, pair_leaf}
 pub use Rattle.decompiled.specs.Signals.{leaf_of, place_of, signal_of}
-pub use Rattle.decompiled.specs.SourcePieces.{attribute_pieces, extension, extension as extension_piece, extension_pieces, feed, further, identifier, keyword, line_pieces, lines_pieces, literal_pieces, name_pieces, none, number, number as number_piece, pin_pieces, pins_pieces, product_pieces, sign, source_pieces, space, string, sum_pieces}
-pub use Rattle.decompiled.specs.SourceText.{attributes_text, extension_text, line_text, literal_text, name_text, pin_text, product_text, q_if, sign_text, source_text, sum_text}
-pub use Rattle.decompiled.specs.SourceTrees.{AreLines, ArePins, IsJoined, IsLine, IsLiteral, IsNamed, IsNumber, IsPinLine, IsProduct, IsSigned, IsSourceTree, IsSum, attributes_in, word}
-pub use Rattle.decompiled.specs.Sources.{cell_lines, control_line, control_products, data_line, enable_lines, first_register, follows_by, has_lines, is_register_on, lines_of, live_rows, named, named_by, names_pin, pin_line, pins_of, product_names, product_of, register_on, shared_lines, source_of}
+pub use Rattle.decompiled.specs.SourcePieces.{attribute_pieces, extension, extension as extension_piece, extension_pieces, feed, further, identifier, keyword}
+pub use Rattle.decompiled.specs.SourcePieces.{line_pieces, lines_pieces, literal_pieces, name_pieces, none, number, number as number_piece, pin_pieces}
+pub use Rattle.decompiled.specs.SourcePieces.{pins_pieces, product_pieces, sign, source_pieces, space, string, sum_pieces}
+pub use Rattle.decompiled.specs.SourceText.{attributes_text, extension_text, line_text, literal_text, name_text, pin_text, product_text, q_if, sign_text}
+pub use Rattle.decompiled.specs.SourceText.{source_text, sum_text}
+pub use Rattle.decompiled.specs.SourceTrees.{AreLines, ArePins, IsJoined, IsLine, IsLiteral, IsNamed, IsNumber, IsPinLine, IsProduct, IsSigned, IsSourceTree}
+pub use Rattle.decompiled.specs.SourceTrees.{IsSum, attributes_in, word}
+pub use Rattle.decompiled.specs.Sources.{cell_lines, control_line, control_products, data_line, enable_lines, first_register, follows_by, has_lines}
+pub use Rattle.decompiled.specs.Sources.{is_register_on, lines_of, live_rows, named, named_by, names_pin, pin_line, pins_of, product_names, product_of}
+pub use Rattle.decompiled.specs.Sources.{register_on, shared_lines, source_of}
 pub use Rattle.decompiled.specs.SumFormulas.{ReadsLeaf, SumsHaveFormulas, literal_formula, product_formula, sum_formula}
 pub use Rattle.decompiled.specs.declared.literal.PinLiteral.{PinLiteral}
 pub use Rattle.decompiled.specs.declared.pin_line.PinLine.{PinLine}

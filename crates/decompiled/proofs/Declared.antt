@@ -1,6 +1,5 @@
 -- The declarations of a source declare its pins.
-use Rattle.std.proofs.Common.{◌≡◌, Bool, true, false, Option, None, Some, List, [], ◌∷◌, ◌++◌, refl, sym, ap, ◌∙◌, append_assoc, append-nil, codes}
-use Rattle.std.specs.Prelude.{fold}
+use Rattle.std.proofs.Common.{◌≡◌, Bool, true, false, Option, None, Some, List, [], ◌∷◌, ◌++◌, refl, sym, ap, ◌∙◌, append_assoc, append-nil, codes, fold}
 use Rattle.decompiled.proofs.Common.{Place, APin, ADeviceName, Entry, Words, Declaration, all_said, declared, declared_names, entry, no_words, PinLine, name_text, attributes_in, IsPinLine, ArePins, said, ArePinEntries, PinsAreDeclared}
 
 -- where a string stands says nothing

@@ -1,6 +1,5 @@
 -- A plain text expands to itself.
-use Rattle.std.proofs.Common.{◌≡◌, ℕ, suc, inl, inr, Bool, true, false, List, [], ◌∷◌, ◌++◌, length, None, Result, Ok, Err, refl, sym, ap, subst, ◌∙◌, arith, append_assoc, append-nil}
-use Rattle.std.specs.Prelude.{◌==◌, ◌&&◌, codes}
+use Rattle.std.proofs.Common.{◌≡◌, ℕ, suc, inl, inr, Bool, true, false, List, [], ◌∷◌, ◌++◌, length, None, Result, Ok, Err, refl, sym, ap, subst, ◌∙◌, arith, append_assoc, append-nil, ◌==◌, ◌&&◌, codes}
 use Rattle.decompiled.proofs.Common.{list_all, str_eq_ignore_ascii_case, cases_Bool, true≢false, TokenKind, quote, is_blank, is_name_first, starts, longest_at, begins_dark, gap, Cause, Done, move, macro_word, Config, turn, moved, nothing_defined, turned, after, Piece, text_of, ArePlain, is_marked, is_word_kind, is_text_kind, PlainTextsExpandToThemselves}
 use Rattle.decompiled.proofs.Tokens.{is_token}
 use Rattle.decompiled.proofs.Turns.{before_is, blank_turn, gap_behind, no_gap, piece_turn, word_read, no_word_read}

@@ -1,6 +1,5 @@
 -- The whole source is spelled.
-use Rattle.std.proofs.Common.{◌≡◌, ℕ, suc, inl, inr, Bool, false, Option, None, Some, List, [], ◌∷◌, ◌++◌, refl, ap, codes}
-use Rattle.std.specs.Prelude.{if◌then◌else◌}
+use Rattle.std.proofs.Common.{◌≡◌, ℕ, suc, inl, inr, Bool, false, Option, None, Some, List, [], ◌∷◌, ◌++◌, refl, ap, codes, if◌then◌else◌}
 use Rattle.decompiled.proofs.Common.{decimal, SpellsList, Place, device_text, Token, number_value, first_place, Number, Statement, Declaration, ADevice, SomePins, Equations, ModuleTree, terminal_of, name, text, numeral_of, Piece, token_at, place_in, place_behind, tokens_from, PinLine, SumLine, PinSource, name_text, none, space, feed, sign, keyword, identifier, number_piece, string, pin_pieces, pins_pieces, lines_pieces, source_pieces, word, IsPinLine, ArePins, AreLines, IsSourceTree}
 use Rattle.abel_tree.specs.declared.words.Word.{Word}
 use Rattle.abel_grammar.specs.Words.{number}

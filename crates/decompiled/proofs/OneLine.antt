@@ -1,6 +1,5 @@
 -- A signal with one line has its sum.
-use Rattle.std.proofs.Common.{◌≡◌, ℕ, inl, inr, Bool, true, false, not, is_some, Some, List, [], ◌∷◌, filter, map, refl, sym, ap, subst, ◌∙◌}
-use Rattle.std.specs.Prelude.{◌&&◌, ◌||◌, if◌then◌else◌}
+use Rattle.std.proofs.Common.{◌≡◌, ℕ, inl, inr, Bool, true, false, not, is_some, Some, List, [], ◌∷◌, filter, map, refl, sym, ap, subst, ◌∙◌, ◌&&◌, ◌||◌, if◌then◌else◌}
 use Rattle.decompiled.proofs.Common.{list_all, list_any, cases_Bool, true≢false, same_level, Leaf, make_or, Formula, Const, Extension, Contribution, One, Any, control_by, control_of, is_control, Context, formulas, Function, any_of, both_function, function_of, gives_some, is_both, is_complement, is_data_in, is_data_to, is_free_elsewhere, same_gives, single_function, some_holds, PinLiteral, SumLine, sum_formula, line_gives, is_data_line, is_control_line, OneLineIsAFunction}
 
 -- the sum of nothing and one is the one

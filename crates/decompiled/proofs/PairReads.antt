@@ -1,6 +1,5 @@
 -- A row reads the pairs of its literals.
-use Rattle.std.proofs.Common.{◌≡◌, ℕ, suc, ◌*◌, Bool, true, false, not, List, [], ◌∷◌, ◌++◌, length, refl, sym, ap, ◌∙◌, arith}
-use Rattle.std.specs.Prelude.{◌&&◌, ◌||◌}
+use Rattle.std.proofs.Common.{◌≡◌, ℕ, suc, ◌*◌, Bool, true, false, not, List, [], ◌∷◌, ◌++◌, length, refl, sym, ap, ◌∙◌, arith, ◌&&◌, ◌||◌}
 use Rattle.decompiled.proofs.Common.{list_any, is_on, Carry, connected_pairs, row_reads, row_fuses, ColumnLiteral, literal, if_intact, literals_of, some_read, RowsReadLiterals}
 
 module _ (test : Carry → Bool) where

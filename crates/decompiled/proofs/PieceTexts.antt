@@ -1,6 +1,5 @@
 -- The text of the pieces is that of the source.
-use Rattle.std.proofs.Common.{◌≡◌, ℕ, Bool, true, false, Option, None, Some, List, [], ◌∷◌, ◌++◌, refl, sym, ap, ◌∙◌, append_assoc}
-use Rattle.std.specs.Prelude.{flat_map, codes}
+use Rattle.std.proofs.Common.{◌≡◌, ℕ, Bool, true, false, Option, None, Some, List, [], ◌∷◌, ◌++◌, refl, sym, ap, ◌∙◌, append_assoc, flat_map, codes}
 use Rattle.decompiled.proofs.Common.{decimal, device_text, Extension, Piece, text_of, PinLiteral, PinLine, SumLine, PinSource, q_if, name_text, sign_text, literal_text, product_text, sum_text, extension_text, line_text, attributes_text, pin_text, source_text, none, space, feed, sign, keyword, name_pieces, extension_pieces, literal_pieces, further, product_pieces, sum_pieces, line_pieces, lines_pieces, attribute_pieces, pin_pieces, pins_pieces, source_pieces}
 
 name_is : (gap : List ℕ) (negated : Bool) (pin : ℕ) (more : List Piece) (rest : List ℕ)

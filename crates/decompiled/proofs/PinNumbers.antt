@@ -1,6 +1,5 @@
 -- The numbers of pins in words: below 32, each by computing.
-use Rattle.std.proofs.Common.{◌≡◌, ℕ, zero, suc, ◌<◌, inl, inr, Bool, true, false, not, List, [], ◌∷◌, length, refl, subst, arith, eqb-true}
-use Rattle.std.specs.Prelude.{◌==◌, ◌&&◌, nat_lt}
+use Rattle.std.proofs.Common.{◌≡◌, ℕ, zero, suc, ◌<◌, inl, inr, Bool, true, false, not, List, [], ◌∷◌, length, refl, subst, arith, eqb-true, ◌==◌, ◌&&◌, nat_lt}
 use Rattle.decompiled.proofs.Common.{list_all, decimal, digits, is_ascii_digit, is_ascii_alphanumeric, and_parts, not-true, cases_lt, is_name_later, is_keyword, is_good_number, number_value, name_text}
 
 -- a digit and further ones

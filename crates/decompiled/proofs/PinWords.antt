@@ -1,6 +1,5 @@
 -- What the names of a decompiled source are: which are registers, and which of them invert.
-use Rattle.std.proofs.Common.{◌≡◌, ℕ, zero, suc, ◌+◌, ◌<◌, ◌≤◌, ◌⊎◌, inl, inr, Bool, true, false, not, is_some, Option, Some, None, List, length, refl, sym, ap, subst, ◌∙◌, arith, eqb-true}
-use Rattle.std.specs.Prelude.{◌==◌, ◌&&◌}
+use Rattle.std.proofs.Common.{◌≡◌, ℕ, zero, suc, ◌+◌, ◌<◌, ◌≤◌, ◌⊎◌, inl, inr, Bool, true, false, not, is_some, Option, Some, None, List, length, refl, sym, ap, subst, ◌∙◌, arith, eqb-true, ◌==◌, ◌&&◌}
 use Rattle.decompiled.proofs.Common.{find, range_with_len, and_parts, cases_Bool, cases_lt, eq-eqb, true≢false, Place, Flip, IsDevice, pin_complements, is_inverted, stores, Table, cell_at, own_pins, Assigned, is_assigned, is_clocked_target, APin, Entry, follows_q, is_stored, ModuleTree, is_free, entry, design_of, name_at, Holds, with_kind, name_text, IsSourceTree, said, follows_by, has_lines, is_register_on, register_on, source_of, signal_of}
 use Rattle.decompiled.proofs.SourcePins.{IsDeclared}
 use Rattle.decompiled.proofs.SourceNames.{held, found, name_is, pin_named}

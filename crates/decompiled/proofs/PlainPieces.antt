@@ -1,6 +1,5 @@
 -- The pieces of such a source are plain and apart from one another.
-use Rattle.std.proofs.Common.{◌≡◌, ℕ, ◌+◌, ◌<◌, Bool, true, false, Option, None, Some, List, [], ◌∷◌, ◌++◌, refl, sym, ap, subst, arith, ◌-◌}
-use Rattle.std.specs.Prelude.{◌==◌, codes}
+use Rattle.std.proofs.Common.{◌≡◌, ℕ, ◌+◌, ◌<◌, Bool, true, false, Option, None, Some, List, [], ◌∷◌, ◌++◌, refl, sym, ap, subst, arith, ◌-◌, ◌==◌, codes}
 use Rattle.decompiled.proofs.Common.{AllByRecursion, list_all, decimal, is_ascii_digit, is_ascii_alphanumeric, str_eq_ignore_ascii_case, and_parts, true≢false, device_text, quote, is_blank, is_name_first, is_name_later, starts, longest_at, is_good_number, in_range, Extension, Piece, text_of, is_marked, IsPlainPiece, IsApart, ArePlain, PinLiteral, PinLine, SumLine, PinSource, q_if, name_text, extension_text, literal_text, product_text, sum_text, none, space, feed, sign, keyword, identifier, number, name_pieces, extension_pieces, literal_pieces, further, product_pieces, sum_pieces, line_pieces, lines_pieces, attribute_pieces, pin_pieces, pins_pieces, source_pieces}
 use Rattle.abel_lexer.specs.declared.token.TokenKind.TheVariants as kind
 use Rattle.abel_tree.specs.declared.words.Extension.TheVariants as an_extension

@@ -1,6 +1,5 @@
 -- A row has the value of its product.
-use Rattle.std.proofs.Common.{◌≡◌, ◌*◌, Bool, true, false, not, List, [], ◌∷◌, ◌++◌, length, map, refl, sym, ap, ◌∙◌, arith}
-use Rattle.std.specs.Prelude.{◌&&◌, ◌||◌}
+use Rattle.std.proofs.Common.{◌≡◌, ◌*◌, Bool, true, false, not, List, [], ◌∷◌, ◌++◌, length, map, refl, sym, ap, ◌∙◌, arith, ◌&&◌, ◌||◌}
 use Rattle.decompiled.proofs.Common.{list_all, true≢false, Levels, Carry, has_whole_pair, carried, columns_of, pair_values, row_fuses, row_is_true, is_switched_on, Table, ColumnLiteral, literal, if_intact, literals_of, row_literals, literal_value, RowsAreProducts}
 
 module _ (t : Table) (fuses : List Bool) (at : Levels) where

@@ -1,6 +1,5 @@
 -- The rows that reset and preset: one line at the first register, or none; and the registers share it.
-use Rattle.std.proofs.Common.{◌≡◌, ℕ, zero, suc, ◌+◌, ◌⊎◌, inl, inr, Bool, true, false, Option, Some, None, List, [], ◌∷◌, ◌++◌, length, filter, flat_map, map, slice_get, unwrap_or, refl, sym, ap, ◌∙◌, arith, append-nil}
-use Rattle.std.specs.Prelude.{◌==◌, ◌&&◌, if◌then◌else◌}
+use Rattle.std.proofs.Common.{◌≡◌, ℕ, zero, suc, ◌+◌, ◌⊎◌, inl, inr, Bool, true, false, Option, Some, None, List, [], ◌∷◌, ◌++◌, length, filter, flat_map, map, slice_get, unwrap_or, refl, sym, ap, ◌∙◌, arith, append-nil, ◌==◌, ◌&&◌, if◌then◌else◌}
 use Rattle.decompiled.proofs.Common.{range_with_len, eq-eqb, Enable, Row, PinLow, is_never_true, stores, Table, cell_at, Leaf, Formula, Const, Extension, Entry, Contribution, control_if_stored, control_of, is_the_control, shared_from, Context, formulas, PinLiteral, SumLine, is_control_line, line_gives, cell_lines, control_line, data_line, enable_lines, first_register, has_lines, lines_of, shared_lines, shared_formula}
 use Rattle.abel_tree.specs.declared.words.Extension.TheVariants as extension
 use Rattle.decompiled.proofs.OneLine.{says}

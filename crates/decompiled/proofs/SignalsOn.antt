@@ -1,6 +1,5 @@
 -- The signal that is assigned on a cell: that of its pin, where the cell has lines.
-use Rattle.std.proofs.Common.{◌≡◌, ℕ, zero, suc, ◌+◌, ◌<◌, ◌≤◌, ◌⊎◌, inl, inr, Bool, true, false, Option, Some, None, List, ◌++◌, length, slice_get, get_or, flat_map, refl, sym, ap, subst, ◌∙◌, arith}
-use Rattle.std.specs.Prelude.{◌&&◌, ◌||◌, position, IsSome}
+use Rattle.std.proofs.Common.{◌≡◌, ℕ, zero, suc, ◌+◌, ◌<◌, ◌≤◌, ◌⊎◌, inl, inr, Bool, true, false, Option, Some, None, List, ◌++◌, length, slice_get, get_or, flat_map, refl, sym, ap, subst, ◌∙◌, arith, ◌&&◌, ◌||◌, position, IsSome}
 use Rattle.decompiled.proofs.Common.{list_any, range_with_len, and_parts, cases_Bool, cases_lt, eq-eqb, eqb-true, or_right, true≢false, list_any-append, get_or_from_slice_get, slice_get_within, IsDevice, Table, cell_at, Kind, APin, Entry, is_stored, ModuleTree, cell_on, is_pin, signal_on, design_of, name_at, no_name, names_of, cell_by, cell_of, SumLine, IsSourceTree, cell_lines, first_register, has_lines, lines_of, names_pin, pins_of, shared_lines, source_of, place_of, signal_of}
 use Rattle.std.proofs.lemmas.List.Quantifiers.{position-Some}
 use Rattle.abel_tree.specs.declared.words.Extension.TheVariants as extension

@@ -1,6 +1,5 @@
 -- The names of a decompiled source: the device's, and one for each pin that is declared.
-use Rattle.std.proofs.Common.{◌≡◌, ℕ, zero, suc, ◌+◌, ◌⊎◌, inl, inr, Bool, false, Option, Some, None, List, [], ◌∷◌, ◌++◌, slice_get, get_or, refl, sym, ap, subst, ◌∙◌, arith}
-use Rattle.std.specs.Prelude.{codes}
+use Rattle.std.proofs.Common.{◌≡◌, ℕ, zero, suc, ◌+◌, ◌⊎◌, inl, inr, Bool, false, Option, Some, None, List, [], ◌∷◌, ◌++◌, slice_get, get_or, refl, sym, ap, subst, ◌∙◌, arith, codes}
 use Rattle.decompiled.proofs.Common.{option_map, get_or_from_slice_get, Place, Flip, IsDevice, Table, Assigned, named_of, sections_assign, APin, ADeviceName, Entry, is_stored, ModuleTree, declared_names, entry, no_words, design_of, name_at, no_name, Holds, holds_of, names_of, with_kind, with_kinds, Known, Read, known_after, known_of, term_meant, term_named, PinLine, name_text, IsSourceTree, said, ArePinEntries, pin_line, pins_of, source_of, place_of, signal_of}
 use Rattle.abel_meaning.specs.Terms.{Number}
 use Rattle.decompiled.proofs.Declared.{declares}

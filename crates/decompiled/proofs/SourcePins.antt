@@ -1,6 +1,5 @@
 -- The pins that a decompiled source declares: each pin of a line is one of them, and each stands once.
-use Rattle.std.proofs.Common.{◌≡◌, ℕ, Option, None, ◌<◌, Bool, true, Some, List, [], ◌∷◌, length, slice_get, refl, sym, ap, subst, ◌∙◌, arith, eq-eqb}
-use Rattle.std.specs.Prelude.{◌==◌}
+use Rattle.std.proofs.Common.{◌≡◌, ℕ, Option, None, ◌<◌, Bool, true, Some, List, [], ◌∷◌, length, slice_get, refl, sym, ap, subst, ◌∙◌, arith, eq-eqb, ◌==◌}
 use Rattle.decompiled.proofs.Common.{AllByRecursion, list_any, or_right, slice_get-map, slice_get_within, option_map, Carry, IsSignalPin, IsPair, IsDevice, Table, cell_at, no_cell, PinLiteral, PinLine, SumLine, lines_of, named_by, names_pin, pin_line, pins_of, product_names, source_of, ArePinsApart, place_of, signal_of}
 use Rattle.pld_device.specs.declared.carry.Carry.TheVariants as carry
 use Rattle.decompiled.proofs.Each.{each_member, each_weaker}

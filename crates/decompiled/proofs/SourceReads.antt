@@ -1,6 +1,5 @@
 -- What the literals of a decompiled source read, and what its lines give.
-use Rattle.std.proofs.Common.{◌≡◌, ℕ, ◌<◌, Bool, true, false, Option, Some, None, List, length, map, unwrap_or, refl, sym, ap, subst, ◌∙◌, append-nil}
-use Rattle.std.specs.Prelude.{if◌then◌else◌}
+use Rattle.std.proofs.Common.{◌≡◌, ℕ, ◌<◌, Bool, true, false, Option, Some, None, List, length, map, unwrap_or, refl, sym, ap, subst, ◌∙◌, append-nil, if◌then◌else◌}
 use Rattle.decompiled.proofs.Common.{AllByRecursion, eq-eqb, eqb-true, true≢false, Carry, Cell, IsPair, IsDevice, stores, Table, cell_at, no_cell, Formula, Extension, Kind, Entry, follows_q, is_stored, SectionTree, Equations, ModuleTree, cell_on, Contribution, Design, design_of, formulas, section_gives, sections_give, given_formulas, Source, Held, on_pin, register_source, source_by, read_of, is_cell, is_cell_on, PinLiteral, SumLine, q_if, IsSourceTree, IsKnownLine, line_gives, ReadsLeaf, lines_of, named_by, source_of, pair_leaf, leaf_of, signal_of}
 use Rattle.pld_device.specs.declared.carry.Carry.TheVariants as carry
 use Rattle.bit_expr.specs.declared.node.Leaf.TheVariants as leaf

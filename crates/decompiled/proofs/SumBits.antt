@@ -1,6 +1,5 @@
 -- A printed sum is a number of one bit, or one bit, with its formula.
-use Rattle.std.proofs.Common.{◌≡◌, ℕ, ◌⊎◌, inl, inr, Bool, true, false, Option, None, Some, List, [], ◌∷◌, refl, sym, ap, subst, ◌∙◌}
-use Rattle.std.specs.Prelude.{◌||◌, if◌then◌else◌, fold, reverse}
+use Rattle.std.proofs.Common.{◌≡◌, ℕ, ◌⊎◌, inl, inr, Bool, true, false, Option, None, Some, List, [], ◌∷◌, refl, sym, ap, subst, ◌∙◌, ◌||◌, if◌then◌else◌, fold, reverse}
 use Rattle.decompiled.proofs.Common.{AllByRecursion, Leaf, make_not, make_and, make_or, Formula, Const, Not, Extension, Tree, ABinary, Context, formulas, bits_of, met_word, met_by, make_source, operator_word, Source, Held, Term, ReadTerm, UnaryOf, BinaryOf, term_of, extended_if, PinLiteral, q_if, IsNumber, IsNamed, IsSigned, IsLiteral, IsJoined, IsProduct, IsSum, ReadsLeaf, literal_formula, product_formula, sum_formula, SumsHaveFormulas}
 use Rattle.bit_expr.specs.Formulas.{Read}
 use Rattle.abel_tree.specs.declared.words.Unary.TheVariants as unary

@@ -1,6 +1,5 @@
 -- A printed sum has the value of its rows.
-use Rattle.std.proofs.Common.{◌≡◌, ℕ, ◌<◌, inl, inr, Bool, true, false, not, List, [], ◌∷◌, filter, map, refl, sym, ap, ◌∙◌, arith}
-use Rattle.std.specs.Prelude.{◌&&◌, ◌||◌, if◌then◌else◌, fold}
+use Rattle.std.proofs.Common.{◌≡◌, ℕ, ◌<◌, inl, inr, Bool, true, false, not, List, [], ◌∷◌, filter, map, refl, sym, ap, ◌∙◌, arith, ◌&&◌, ◌||◌, if◌then◌else◌, fold}
 use Rattle.decompiled.proofs.Common.{AllByRecursion, list_all, list_any, cases_Bool, is_on, Levels, Carry, IsDevice, complement_if, data_rows, is_never_true, stores, row_value, Table, cell_at, no_cell, Leaf, make_and, make_or, Formula, Not, formula_value, leaf_value, ColumnLiteral, literal, literal_value, row_literals, PinLiteral, literal_formula, product_formula, sum_formula, live_rows, named, product_of, HasRowSizes, ReadsPairs, SumsHaveRows}
 use Rattle.pld_device.specs.declared.carry.Carry.TheVariants as carry
 use Rattle.bit_expr.specs.declared.node.Leaf.TheVariants as leaf

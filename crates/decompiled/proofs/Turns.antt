@@ -1,6 +1,5 @@
 -- What a turn makes of a plain piece, and of a blank.
-use Rattle.std.proofs.Common.{◌≡◌, ℕ, ◌-◌, ◌<◌, inl, inr, Bool, true, false, List, [], ◌∷◌, ◌++◌, length, take, drop, Option, Some, None, refl, sym, ap, subst, ◌∙◌, arith, length-append, lt-ltb, ltb-false}
-use Rattle.std.specs.Prelude.{◌==◌, ◌&&◌, ◌||◌, nat_lt, codes, if◌then◌else◌}
+use Rattle.std.proofs.Common.{◌≡◌, ℕ, ◌-◌, ◌<◌, inl, inr, Bool, true, false, List, [], ◌∷◌, ◌++◌, length, take, drop, Option, Some, None, refl, sym, ap, subst, ◌∙◌, arith, length-append, lt-ltb, ltb-false, ◌==◌, ◌&&◌, ◌||◌, nat_lt, codes, if◌then◌else◌}
 use Rattle.decompiled.proofs.Common.{list_all, take_at, drop_at, cases_Bool, eqb-true, or_cases, true≢false, TokenKind, note_mark, slash, quote, is_blank, is_name_first, is_name_later, word_head, larger, longest_at, longest_word, quoted_len, shaped_len, given, starts_byte, before, comment, gap, string_len, behind_some, Move, Done, move, directed, directive_of, behind_directive, token_len, macro_word, nothing_defined, is_marked, is_word_kind, is_text_kind}
 use Rattle.abel_lexer.proofs.Booleans.{neither}
 use Rattle.abel_macros.specs.Gaps.{word}

@@ -1,6 +1,5 @@
 -- Values of the netlist's functions and controls, as the fuses have them.
-use Rattle.std.proofs.Common.{◌≡◌, ℕ, ◌<◌, Bool, true, false, not, Option, None, Some, List, [], ◌∷◌, length, refl, sym, ap, ◌∙◌}
-use Rattle.std.specs.Prelude.{◌&&◌, ◌||◌, if◌then◌else◌, unwrap_or}
+use Rattle.std.proofs.Common.{◌≡◌, ℕ, ◌<◌, Bool, true, false, not, Option, None, Some, List, [], ◌∷◌, length, refl, sym, ap, ◌∙◌, ◌&&◌, ◌||◌, if◌then◌else◌, unwrap_or}
 use Rattle.decompiled.proofs.Common.{true≢false, is_on, same_level, Levels, Enable, Row, PinLow, IsDevice, complement_if, data_complements, enabled_by, or_value, pin_complements, row_if_any, is_never_true, is_inverted, says, stores, stores_by, row_value, Table, cell_at, no_cell, registered_at, Leaf, Formula, Const, formula_value, Function, allows, drives, may_drive, may_store, registers_as, Wanted, as_named, function_at, PinLiteral, sum_formula, control_products, data_line, has_lines, product_of, HasRowSizes, ReadsPairs, IsCellAsked, enable_formula, shared_formula}
 use Rattle.pld_device.specs.declared.kinds.Kinds.{Kinds}
 use Rattle.pld_device.specs.declared.kinds.Kinds.TheVariants.{Combinational, Registered, Either}

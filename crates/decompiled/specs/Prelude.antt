@@ -7,7 +7,8 @@ pub use Rattle.abel_lexer.specs.declared.token.TokenKind.{TokenKind}
 pub use Rattle.abel_meaning.specs.Designs.{Context}
 pub use Rattle.abel_meaning.specs.FormulaBits.{formulas}
 pub use Rattle.abel_meaning.specs.Terms.{Known, Read, Read as ReadTerm, known_after, term_named, term_of}
-pub use Rattle.abel_tree.specs.Tree.{ABinary, ADevice, AName, ANumber, AUnary, AnAssign, Declaration, Equations, ModuleTree, SomePins, Statement, Tree, statements_of}
+pub use Rattle.abel_tree.specs.Tree.{ABinary, ADevice, AName, ANumber, AUnary, AnAssign, Declaration, Equations, ModuleTree, SomePins, Statement, Tree}
+pub use Rattle.abel_tree.specs.Tree.{statements_of}
 pub use Rattle.abel_tree.specs.declared.words.Extension.{Extension}
 pub use Rattle.bit_expr.specs.Formulas.{Const, Formula, Not, formula_value}
 pub use Rattle.bit_expr.specs.declared.node.Leaf.{Leaf}

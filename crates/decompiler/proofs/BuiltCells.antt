@@ -1,6 +1,5 @@
 -- Cells and nodes over an arena, of ids that hold their formulas.
-use Rattle.std.proofs.Common.{◌≡◌, ℕ, zero, suc, false, List, [], ◌∷◌, ◌++◌, length, map, Option, Some, None, refl, sym, ap, ◌∙◌, arith}
-use Rattle.std.specs.Prelude.{flat_map, unwrap_or}
+use Rattle.std.proofs.Common.{◌≡◌, ℕ, zero, suc, false, List, [], ◌∷◌, ◌++◌, length, map, Option, Some, None, refl, sym, ap, ◌∙◌, arith, flat_map, unwrap_or}
 use Rattle.decompiler.proofs.Common.{All, AllByRecursion, Place, CellWanted, Control, ExprId, formula_at, Formula, Const, Extension, Function, Wanted, plain_control, plain_function, plain_wanted, IsCellIn, IsControlIn, IsFunctionIn, IsIn, IsControlPlaced, IsPlaced, Contribution, first_data, first_target, target_place}
 use Rattle.bit_expr.specs.declared.netlist.Function.{Function as IdFunction}
 use Rattle.abel_tree.specs.declared.words.Extension.TheVariants as extension

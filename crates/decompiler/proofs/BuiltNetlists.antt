@@ -1,6 +1,5 @@
 -- The netlist of a module, over an arena that holds the formulas of its nodes and cells.
-use Rattle.std.proofs.Common.{◌≡◌, List, ◌++◌, length, map, sym, ap, subst, ◌∙◌, arith}
-use Rattle.std.specs.Prelude.{flat_map}
+use Rattle.std.proofs.Common.{◌≡◌, List, ◌++◌, length, map, sym, ap, subst, ◌∙◌, arith, flat_map}
 use Rattle.decompiler.proofs.Common.{range_with_len, get_or-map-range_with_len, IsDevice, Table, Netlist, arena, Formula, ModuleTree, Design, design_of, Function, PlainNetlist, Wanted, plain_netlist, IsCellIn, IsFunctionIn, no_pair, pair_of_cell, pair_of_pin, Contributions, netlist_of, IsTakeable, IsPlaced, AreContributed, IsHeld, all_nodes_of, IsNetlistOf}
 use Rattle.abel_meaning.specs.Soundness.{IsSound}
 use Rattle.netlist_laws.proofs.Sound.{is_sound}

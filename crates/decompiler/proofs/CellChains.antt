@@ -1,7 +1,6 @@
 -- A decompiled source has no loop, and no reset reads a register, as its fuses have none: each signal reads no more than its
 -- cell does.
-use Rattle.std.proofs.Common.{◌≡◌, ℕ, ◌<◌, inl, inr, Bool, true, false, not, if◌then◌else◌, Option, Some, None, List, [], ◌∷◌, length, filter, map, refl, sym, ap, subst, ◌∙◌, arith, eqb-true}
-use Rattle.std.specs.Prelude.{◌==◌, ◌||◌}
+use Rattle.std.proofs.Common.{◌≡◌, ℕ, ◌<◌, inl, inr, Bool, true, false, not, if◌then◌else◌, Option, Some, None, List, [], ◌∷◌, length, filter, map, refl, sym, ap, subst, ◌∙◌, arith, eqb-true, ◌==◌, ◌||◌}
 use Rattle.decompiler.proofs.Common.{AllByRecursion, list_any, and_from, and_parts, and_right, cases_Bool, or_cases, or_left, or_right, true≢false, HasNoLoop, Enable, Row, PinLow, IsDevice, data_rows, stores, Table, cell_at, no_cell, reset_in, Leaf, Formula, Const, names, cell_reads, data_reads, enable_reads, rest_reads, row_reads_cell, HasNoResetPath, plain_reads, reset_reads, row_reads_if_any, ModuleTree, control_of, is_the_control, Design, design_of, name_at, formulas, Function, function_of, HasNoSignalLoop, HasNoSignalPath, function_names, given_formulas, is_one_of, is_stored_signal, names_if_any, reset_equation_reads, settles, signal_names, signal_reads, leaf_of_signal, SumLine, IsSourceTree, is_control_line, line_gives, sum_formula, control_line, control_products, data_line, enable_lines, first_register, lines_of, source_of, shared_formula, HasRowSizes, leaf_of, signal_of, none_passes, given_is}
 use Rattle.pld_device.specs.Given.{never_drives}
 use Rattle.abel_tree.specs.declared.words.Extension.TheVariants as extension

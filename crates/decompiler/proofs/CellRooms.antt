@@ -1,6 +1,5 @@
 -- Each assigned cell has room for its written lists, and its enable is one product.
-use Rattle.std.proofs.Common.{◌≡◌, ℕ, ◌<◌, ◌≤◌, Bool, true, false, not, List, [], ◌∷◌, length, filter, map, Option, Some, None, refl, sym, ap, subst, ◌∙◌, arith, inl, inr}
-use Rattle.std.specs.Prelude.{if◌then◌else◌, unwrap_or}
+use Rattle.std.proofs.Common.{◌≡◌, ℕ, ◌<◌, ◌≤◌, Bool, true, false, not, List, [], ◌∷◌, length, filter, map, Option, Some, None, refl, sym, ap, subst, ◌∙◌, arith, inl, inr, if◌then◌else◌, unwrap_or}
 use Rattle.decompiler.proofs.Common.{option_map, cases_Bool, length-map, length-range_with_len, same_Some, Enable, Row, PinLow, IsDevice, data_rows, is_never_true, is_inverted, stores, Table, cell_at, no_cell, CellWanted, Netlist, ExprId, Leaf, arena, formula_at, Formula, Const, Or, Function, Wanted, plain_netlist, plain_wanted, wanted_at, IsSoundNetlist, Cube, Products, sum_of, bit_list, written, cell_wanted, enable_bit, enable_is, sound_id_at, wanted_is, rows_are_positive, IsFunctionTooWide, IsShort, PinLiteral, sum_formula, control_products, has_lines, live_rows, product_of, IsCellAsked, IsFusesNetlist, enable_formula, ReadNoNode}
 use Rattle.fit_plans.specs.Tries.{allowed_of, needed_of, one_of}
 use Rattle.fitter.proofs.Widths.{cell_low}

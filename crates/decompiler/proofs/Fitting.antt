@@ -1,6 +1,5 @@
 -- A netlist of a decompiled source fits as it is written.
-use Rattle.std.proofs.Common.{◌≡◌, Bool, true, false, List, Option, Some, None, refl, sym, subst, ◌∙◌, inl, inr}
-use Rattle.std.specs.Prelude.{if◌then◌else◌, unwrap_or}
+use Rattle.std.proofs.Common.{◌≡◌, Bool, true, false, List, Option, Some, None, refl, sym, subst, ◌∙◌, inl, inr, if◌then◌else◌, unwrap_or}
 use Rattle.decompiler.proofs.Common.{IsDevice, Table, Control, Netlist, Leaf, ModuleTree, cell_on, plain_netlist, IsSoundNetlist, Preset, Reset, IsControlTooWide, NoneWide, bit_list, IsNetlistOf, IsNoNode, PinLiteral, IsSourceTree, source_of, IsFusesNetlist, leaf_of, netlists_of_fuses, ReadNoNode}
 use Rattle.bit_expr.specs.declared.node.Leaf.TheVariants as leaf
 use Rattle.decompiler.specs.Fit.{FusesNetlistsFit, NetlistFits, SourcesAreNarrow, SourcesFit}

@@ -1,6 +1,5 @@
 -- How a line of a decompiled source assigns its signal: as its cell asks, and in one way alone.
-use Rattle.std.proofs.Common.{◌≡◌, ℕ, zero, suc, ◌<◌, inl, inr, Bool, true, false, if◌then◌else◌, Option, Some, None, List, [], ◌∷◌, length, get_or, refl, sym, ap, subst, ◌∙◌, arith, eq-eqb, eqb-true}
-use Rattle.std.specs.Prelude.{◌==◌, ◌&&◌, ◌||◌}
+use Rattle.std.proofs.Common.{◌≡◌, ℕ, zero, suc, ◌<◌, inl, inr, Bool, true, false, if◌then◌else◌, Option, Some, None, List, [], ◌∷◌, length, get_or, refl, sym, ap, subst, ◌∙◌, arith, eq-eqb, eqb-true, ◌==◌, ◌&&◌, ◌||◌}
 use Rattle.decompiler.proofs.Common.{AllByRecursion, list_any, and_parts, cases_Bool, or_left, or_right, Place, Cell, IsDevice, stores, Table, cell_at, no_cell, own_pins, differ, Extension, Kind, APin, Entry, is_stored, Tree, ModuleTree, is_data, is_raw, Design, design_of, targets_of, Term, extended_if, term_named, term_of, name_found, names_found, found_value, one_position, Found, Manner, differs_from, first_manner, is_against_kind, is_cell_pin, is_output, is_output_kind, is_same_part, may_be_assigned, part_of, TargetFound, left_side, start_of, target_use, SumLine, name_text, word, IsNamed, IsSourceTree, source_of, signal_of, IsDeclared, IsDeclaredLine, own_signal, known_is, cell_name, name}
 use Rattle.abel_tree.specs.declared.words.Extension.TheVariants as extension
 use Rattle.abel_tree.specs.Entries.{find}

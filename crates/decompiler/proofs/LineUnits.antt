@@ -1,6 +1,5 @@
 -- Nothing is refused of a line of a decompiled source: neither of its target nor of its sum.
-use Rattle.std.proofs.Common.{◌≡◌, ℕ, ◌≤◌, Bool, true, false, if◌then◌else◌, List, [], ◌∷◌, ◌++◌, length, map, refl, sym, ap, ◌∙◌, arith, append-nil}
-use Rattle.std.specs.Prelude.{◌||◌}
+use Rattle.std.proofs.Common.{◌≡◌, ℕ, ◌≤◌, Bool, true, false, if◌then◌else◌, List, [], ◌∷◌, ◌++◌, length, map, refl, sym, ap, ◌∙◌, arith, append-nil, ◌||◌}
 use Rattle.decompiler.proofs.Common.{AllByRecursion, Place, IsDevice, Table, Const, Tree, AName, Statement, AnAssign, ModuleTree, guard_nodes, value_nodes, Design, design_of, bits_of, formulas, targets_of, term_of, SectionFault, MixedAssignment, expression_found, names_found, Manner, is_against_kind, mixed, no_output, TargetFound, left_side, CountedUnit, assign_refused, assigned_aims, assigned_manners, statement_manners, statement_places, units_of_statement, PinLiteral, SumLine, name_text, word, IsLine, IsSourceTree, source_of, each_weaker, signal_of, IsDeclaredLiteral, known_is}
 use Rattle.abel_tree.specs.declared.words.Sign.TheVariants as sign
 use Rattle.section_targets.specs.declared.aim.Aim.{Aim}

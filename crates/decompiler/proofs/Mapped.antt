@@ -1,6 +1,5 @@
 -- Loops and paths of one graph as those of another.
-use Rattle.std.proofs.Common.{◌≡◌, ℕ, ◌<◌, inl, inr, Bool, true, false, List, [], ◌∷◌, ◌++◌, map, get_or, refl, sym, ap, subst, ◌∙◌, eqb-true}
-use Rattle.std.specs.Prelude.{◌==◌, eqb}
+use Rattle.std.proofs.Common.{◌≡◌, ℕ, ◌<◌, inl, inr, Bool, true, false, List, [], ◌∷◌, ◌++◌, map, get_or, refl, sym, ap, subst, ◌∙◌, eqb-true, ◌==◌, eqb}
 use Rattle.decompiler.proofs.Common.{AllByRecursion, IsDistinct, list_any, eqb-false, ne_eqb, or_cases, true≢false, map-append, HasNoLoop, HasNoPath, IsChain, has}
 
 module _ (count other : ℕ) (reads reads_other : ℕ → ℕ → Bool) (f : ℕ → ℕ) (On : ℕ → Type 0) (inside : (v : ℕ) → On v → f v < other) where

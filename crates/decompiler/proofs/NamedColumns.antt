@@ -1,6 +1,5 @@
 -- A row reads the cell of each leaf that the formula of its product names.
-use Rattle.std.proofs.Common.{◌≡◌, ℕ, zero, suc, ◌+◌, ◌<◌, ◌≤◌, ◌⊎◌, inl, inr, Bool, true, false, not, if◌then◌else◌, List, [], ◌∷◌, length, filter, fold, map, refl, sym, ap, ◌∙◌, arith, eqb-true, eq-eqb}
-use Rattle.std.specs.Prelude.{◌==◌, ◌&&◌, ◌||◌}
+use Rattle.std.proofs.Common.{◌≡◌, ℕ, zero, suc, ◌+◌, ◌<◌, ◌≤◌, ◌⊎◌, inl, inr, Bool, true, false, not, if◌then◌else◌, List, [], ◌∷◌, length, filter, fold, map, refl, sym, ap, ◌∙◌, arith, eqb-true, eq-eqb, ◌==◌, ◌&&◌, ◌||◌}
 use Rattle.decompiler.proofs.Common.{AllByRecursion, list_any, range_with_len, not-true, or_cases, or_left, or_right, true≢false, Carry, IsPair, IsDevice, data_rows, is_never_true, row_reads, stores, Table, cell_at, no_cell, own_pins, Leaf, Made, make_and, make_or, Formula, Read, Not, names, same_leaf, carries_cell, pairs_read, row_reads_cell, PinLiteral, literal_formula, product_formula, sum_formula, ColumnLiteral, row_literals, some_read, control_products, live_rows, named, product_of, HasRowSizes, pair_leaf, leaf_of, reads_pairs}
 use Rattle.pld_device.specs.declared.carry.Carry.TheVariants as carry
 use Rattle.bit_expr.specs.declared.node.Leaf.TheVariants as leaf

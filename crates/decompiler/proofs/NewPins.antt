@@ -1,6 +1,5 @@
 -- Nothing is refused of the declarations of a source whose pins are apart and are signal pins.
-use Rattle.std.proofs.Common.{◌≡◌, ℕ, suc, ◌<◌, inl, inr, Bool, true, false, Option, None, Some, List, [], ◌∷◌, ◌++◌, length, slice_get, refl, sym, ap, subst, ◌∙◌, arith, append-nil, append_assoc}
-use Rattle.std.specs.Prelude.{◌==◌, ◌||◌, bytes_eq, drop, fold}
+use Rattle.std.proofs.Common.{◌≡◌, ℕ, suc, ◌<◌, inl, inr, Bool, true, false, Option, None, Some, List, [], ◌∷◌, ◌++◌, length, slice_get, refl, sym, ap, subst, ◌∙◌, arith, append-nil, append_assoc, ◌==◌, ◌||◌, bytes_eq, drop, fold}
 use Rattle.decompiler.proofs.Common.{cases_Bool, lt-ltb, ne_eqb, or_from, bytes_eq-Decides, Place, IsSignalPin, Table, APin, Entry, Words, kind_of, Declaration, SomePins, all_said, declared, entry, no_words, NameFault, added, is_on_pin, is_taken, names_behind, declaration_refused, declarations_refused, given_count, is_signal_pin, name_refused, names_refused, parts_refused, PinLine, name_text, attributes_in, word, IsPinLine, ArePins, said, ArePinEntries, ArePinsApart}
 use Rattle.std.proofs.lemmas.List.Folds.{list_any-append}
 use Rattle.std.proofs.lemmas.List.Sums.{fold-append}

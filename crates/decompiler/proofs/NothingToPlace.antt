@@ -1,6 +1,5 @@
 -- A decompiled source gives each pin its number and declares no node, so it has nothing to place.
-use Rattle.std.proofs.Common.{◌≡◌, ℕ, suc, ◌≤◌, Bool, false, Some, List, [], ◌∷◌, slice_get, take, refl, ap, ◌∙◌, arith, codes}
-use Rattle.std.specs.Prelude.{◌&&◌, if◌then◌else◌}
+use Rattle.std.proofs.Common.{◌≡◌, ℕ, suc, ◌≤◌, Bool, false, Some, List, [], ◌∷◌, slice_get, take, refl, ap, ◌∙◌, arith, codes, ◌&&◌, if◌then◌else◌}
 use Rattle.decompiler.proofs.Common.{and_right, ne_eqb, or_from, Place, IsDevice, Table, Assigned, APin, ADeviceName, Entry, ModuleTree, entry, no_words, is_unnumbered, is_buffer_by_default, names_of, with_kind, with_kinds, is_registered_node, PinLine, name_text, IsSourceTree, said, IsPinEntry, ArePinEntries, source_of, found, held}
 use Rattle.abel_meaning.specs.Held.{Holds}
 use Rattle.placer.specs.Signals.{is_buried_register, needs_pin, to_place, to_place_from}

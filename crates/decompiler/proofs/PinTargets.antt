@@ -1,7 +1,6 @@
 -- Nothing is refused of what the lines of a decompiled source assign: each cell may be what its signal is, and has the
 -- controls that are assigned.
-use Rattle.std.proofs.Common.{◌≡◌, ℕ, suc, ◌<◌, inl, inr, Bool, true, false, not, is_none, if◌then◌else◌, Option, Some, None, List, [], ◌∷◌, ◌++◌, length, get_or, refl, sym, ap, subst, ◌∙◌, arith, eqb-true}
-use Rattle.std.specs.Prelude.{◌==◌, ◌||◌}
+use Rattle.std.proofs.Common.{◌≡◌, ℕ, suc, ◌<◌, inl, inr, Bool, true, false, not, is_none, if◌then◌else◌, Option, Some, None, List, [], ◌∷◌, ◌++◌, length, get_or, refl, sym, ap, subst, ◌∙◌, arith, eqb-true, ◌==◌, ◌||◌}
 use Rattle.decompiler.proofs.Common.{AllByRecursion, list_any, and_right, cases_Bool, or_from, Enable, Kinds, Combinational, Registered, Either, IsDevice, says, stores, stores_by, Table, cell_at, no_cell, registered_at, own_pins, formula_at, Formula, Extension, Kind, APin, ANode, AConstant, ADeviceName, Entry, is_stored, ModuleTree, cell_on, is_data, Design, design_of, no_name, cell_by, cell_of, Contribution, view_gives, cell_enables_so, enables_so, is_compared_of, says_always, says_so, is_by_pin, is_cell_by_pin, Rule, refuses, targets_refused, has_wrong_kind, has_wrong_kind_by, has_wrong_kind_on, is_any, is_wrong_cell, is_wrong_kind, lacks_by, lacks_control, node_refused, pin_lacks, registered_nodes, told_if, RefusedUse, SumLine, IsSourceTree, source_of, leaf_of, signal_of, cell_name, name, IsDeclared, cell_here}
 use Rattle.abel_tree.specs.declared.words.Extension.TheVariants as extension
 use Rattle.abel_meaning.specs.Contributions as meant

@@ -1,6 +1,5 @@
 -- The names of a decompiled source: none is a constant, and a pin's name is found as a signal.
-use Rattle.std.proofs.Common.{◌≡◌, ℕ, suc, inl, inr, Bool, true, false, if◌then◌else◌, Some, None, List, [], ◌∷◌, ◌++◌, map, get_or, unwrap_or, refl, sym, ap, subst, ◌∙◌, append-nil, append_assoc}
-use Rattle.std.specs.Prelude.{bytes_eq}
+use Rattle.std.proofs.Common.{◌≡◌, ℕ, suc, inl, inr, Bool, true, false, if◌then◌else◌, Some, None, List, [], ◌∷◌, ◌++◌, map, get_or, unwrap_or, refl, sym, ap, subst, ◌∙◌, append-nil, append_assoc, bytes_eq}
 use Rattle.decompiler.proofs.Common.{AllByRecursion, Place, IsDevice, Table, Kind, APin, ANode, AConstant, ADeviceName, Entry, ModuleTree, no_name, names_of, Term, Known, known_after, term_meant, term_named, SectionFault, NameFound, constants_refused, found_after, found_entry, found_kind, found_refusals, found_use, found_value, at_name, is_pulse_kind, name_found, names_found, nothing_found, one_position, refused_there, MisplacedSpecial, Found, name_text, IsSourceTree, source_of, signal_of, IsDeclared, IsNameAt, known_is, names_at}
 use Rattle.abel_meaning.specs.Terms.{Number, Read}
 use Rattle.set_expr.specs.FoundNames.{named}

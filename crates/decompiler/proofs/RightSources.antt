@@ -1,6 +1,5 @@
 -- The source of a device's fuses is right.
-use Rattle.std.proofs.Common.{◌≡◌, Some, Bool, List, ◌++◌, refl, ap, ◌∙◌}
-use Rattle.std.specs.Prelude.{codes}
+use Rattle.std.proofs.Common.{◌≡◌, Some, Bool, List, ◌++◌, refl, ap, ◌∙◌, codes}
 use Rattle.decompiler.proofs.Common.{DeviceName, P16L8, P16R4, P16R6, P16R8, GAL22V10, GAL16V8C, GAL16V8R4, GAL16V8R6, GAL16V8R8, device_text, named_device, Table, ModuleTree, device_named, unquoted, IsSourceTree, source_of, say_what_they_do, DesignsAreTakeable, SourcesAreRight}
 use Rattle.decompiler.proofs.Accepted.{sources_accepted, sources_fit_as_written}
 use Rattle.decompiler.proofs.NothingToPlace.{sources_placed}

@@ -1,6 +1,5 @@
 -- All registers share one reset and one preset, each one product or 0.
-use Rattle.std.proofs.Common.{◌≡◌, ◌⊎◌, ℕ, suc, ◌<◌, nat_lt, Bool, true, false, List, [], ◌∷◌, length, map, Option, Some, None, refl, sym, ap, subst, ◌∙◌, arith, inl, inr}
-use Rattle.std.specs.Prelude.{Contains, unwrap_or}
+use Rattle.std.proofs.Common.{◌≡◌, ◌⊎◌, ℕ, suc, ◌<◌, nat_lt, Bool, true, false, List, [], ◌∷◌, length, map, Option, Some, None, refl, sym, ap, subst, ◌∙◌, arith, inl, inr, Contains, unwrap_or}
 use Rattle.decompiler.proofs.Common.{option_map, cases_Bool, same_Some, IsDevice, stores, Table, CellWanted, Control, Netlist, ExprId, Leaf, arena, formula_at, Formula, Const, formula_value, Wanted, first_with, own_of, own_or_shared, plain_control, plain_netlist, plain_wanted, shared_function, IsSoundNetlist, bit_list, cell_wanted, found_id, sound_id_at, wanted_is, zero_is, zero_sound, Preset, Reset, IsSharedProduct, PinLiteral, IsFusesNetlist, shared_formula, ReadNoNode}
 use Rattle.netlist_laws.specs.Fitting.{AreShared}
 use Rattle.fitter.specs.declared.shared.SharedControl.{SharedControl}

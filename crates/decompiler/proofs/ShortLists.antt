@@ -1,6 +1,5 @@
 -- Written lists are short: each product that is inserted adds at most one to a list.
-use Rattle.std.proofs.Common.{◌≡◌, ℕ, ◌+◌, ◌*◌, ◌<◌, ◌≤◌, inl, inr, Bool, true, false, not, List, [], ◌∷◌, ◌++◌, length, filter, Some, None, refl, ap, ◌∙◌, arith, length-append, lt-ltb, mul-le-mul, suc-mul}
-use Rattle.std.specs.Prelude.{nat_lt, if◌then◌else◌}
+use Rattle.std.proofs.Common.{◌≡◌, ℕ, ◌+◌, ◌*◌, ◌<◌, ◌≤◌, inl, inr, Bool, true, false, not, List, [], ◌∷◌, ◌++◌, length, filter, Some, None, refl, ap, ◌∙◌, arith, length-append, lt-ltb, mul-le-mul, suc-mul, nat_lt, if◌then◌else◌}
 use Rattle.decompiler.proofs.Common.{cases_Bool, same_level, Netlist, Leaf, Formula, Const, Read, Not, And, Or, Xor, Cube, Products, adds_nothing, others, appended, insert_one, insert_all, insert_unions, insert_products, sum_of, EachLeaf, leaf_list, list_of, node_list, constant_list, pair_of, bound, IsShort, IsNoNode, StaysBelow, WrittenListsAreShort}
 use Rattle.bit_expr.specs.declared.node.Leaf.TheVariants as leaf
 use Rattle.covers.specs.Cubes.{lies_in, union, full_cube, literal_cube}

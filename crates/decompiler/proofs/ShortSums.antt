@@ -1,6 +1,5 @@
 -- A sum of products over pins and Qs has no more written products than it was written of.
-use Rattle.std.proofs.Common.{ℕ, ◌+◌, ◌*◌, ◌≤◌, Bool, true, false, List, [], ◌∷◌, length, arith, mul-le-mul}
-use Rattle.std.specs.Prelude.{fold, if◌then◌else◌}
+use Rattle.std.proofs.Common.{ℕ, ◌+◌, ◌*◌, ◌≤◌, Bool, true, false, List, [], ◌∷◌, length, arith, mul-le-mul, fold, if◌then◌else◌}
 use Rattle.decompiler.proofs.Common.{Leaf, make_and, make_or, Formula, Const, Read, Not, And, Or, EachLeaf, IsNoNode, StaysBelow, bound, PinLiteral, literal_formula, product_formula, sum_formula, ReadNoNode, SumsAreShort}
 use Rattle.decompiler.proofs.ShortLists.{all_short}
 

@@ -1,6 +1,5 @@
 -- The pins that a decompiled source declares are signal pins.
-use Rattle.std.proofs.Common.{◌≡◌, ℕ, inl, inr, Bool, true, Some, List, [], ◌∷◌, slice_get, sym, ap, subst, ◌∙◌, eqb-true}
-use Rattle.std.specs.Prelude.{◌==◌}
+use Rattle.std.proofs.Common.{◌≡◌, ℕ, inl, inr, Bool, true, Some, List, [], ◌∷◌, slice_get, sym, ap, subst, ◌∙◌, eqb-true, ◌==◌}
 use Rattle.decompiler.proofs.Common.{AllByRecursion, list_any, or_cases, true≢false, Carry, IsSignalPin, IsPair, IsDevice, Table, PinLiteral, PinLine, SumLine, lines_of, named_by, names_pin, product_names, source_of, IsPairLiteral, IsCellLine, lines_on, IsTaken, was_taken, cell_pin, declared_at, is_named}
 use Rattle.pld_device.specs.declared.carry.Carry.TheVariants as carry
 

@@ -2,8 +2,7 @@
 use Rattle.std.proofs.Common.{◌≡◌, ℕ, suc, ◌<◌, inl, inr, Bool, true, false, not, Some, List, slice_get, refl, sym, ap, ◌∙◌, eqb-true}
 use Rattle.decompiler.proofs.Common.{true≢false, Flip, Always, AfterRegister, BeforeRegister, IsDevice, pin_complements, is_inverted, Table, arena, Kind, ANode, follows_q, ModuleTree, is_pin, Design, design_of, name_at, HasNoSignalLoop, HasNoSignalPath, NodesAreFew, PinsApart, Contributions, AreContributed, IsSourceTree, pins_of, source_of, taken_once, cell_name, IsNameAt, names_at, is_named, DesignsAreTakeable}
 use Rattle.design.specs.Accepted.{BuffersAreBehind}
-use Rattle.design.specs.Unrefused.{IsUnrefused}
-use Rattle.design.specs.Unrefused.{UnrefusedIsTakeable}
+use Rattle.design.specs.Unrefused.{IsUnrefused, UnrefusedIsTakeable}
 use Rattle.design.specs.AssignedCorrect.{HasSoundDeclarations}
 use Rattle.design.proofs.SoundModules.{all_accepted}
 use Rattle.design_checks.specs.declared.rules.Rule.TheVariants as rule

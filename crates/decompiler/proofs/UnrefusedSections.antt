@@ -1,6 +1,5 @@
 -- Nothing is refused of the equations of a decompiled source.
-use Rattle.std.proofs.Common.{◌≡◌, ℕ, ◌+◌, ◌*◌, ◌≤◌, Bool, true, false, List, [], ◌∷◌, ◌++◌, length, refl, sym, ap, subst, ◌∙◌, arith, append-nil}
-use Rattle.std.specs.Prelude.{nat_lt}
+use Rattle.std.proofs.Common.{◌≡◌, ℕ, ◌+◌, ◌*◌, ◌≤◌, Bool, true, false, List, [], ◌∷◌, ◌++◌, length, refl, sym, ap, subst, ◌∙◌, arith, append-nil, nat_lt}
 use Rattle.decompiler.proofs.Common.{AllByRecursion, and_right, le-ltb, IsDevice, Table, MOST, arena, Const, Statement, Equations, ModuleTree, statements_of, Design, design_of, SectionFault, Manner, CountedUnit, all_refused, is_past, limit_at, limit_refused, units_nodes, units_refused, statement_manners, units_of_statements, source_units, units_of_sections, SumLine, AreLines, IsSourceTree, lines_of, source_of, each_append, IsDeclaredLine, lines_declared}
 use Rattle.source_sections.specs.SectionAnswers.{sections_refused}
 use Rattle.abel_vectors.specs.AllSections.{all_sections_refused}

@@ -1,6 +1,5 @@
 -- Nothing is refused of the uses of names in equations whose pins are declared.
-use Rattle.std.proofs.Common.{◌≡◌, ℕ, zero, suc, Bool, true, false, Option, Some, List, [], ◌∷◌, ◌++◌, slice_get, refl, sym, ap, ◌∙◌, append_assoc}
-use Rattle.std.specs.Prelude.{bytes_eq}
+use Rattle.std.proofs.Common.{◌≡◌, ℕ, zero, suc, Bool, true, false, Option, Some, List, [], ◌∷◌, ◌++◌, slice_get, refl, sym, ap, ◌∙◌, append_assoc, bytes_eq}
 use Rattle.decompiler.proofs.Common.{AllByRecursion, true≢false, bytes_eq-Decides, Place, Extension, APin, Entry, is_value, names_any, Tree, AName, Statement, Use, list_uses, statement_uses, uses, entry, NameFault, use_refused, uses_refused, PinLiteral, PinLine, SumLine, name_text, q_if, word, IsLine, AreLines, said, ArePinEntries, same_some}
 use Rattle.decompiler.proofs.EachTree.{HoldsBySteps, sum_holds}
 

@@ -1,6 +1,5 @@
 -- The vectors' lines, one after another, and the run that they show.
-use Rattle.std.proofs.Common.{◌≡◌, ℕ, zero, suc, ◌+◌, ◌-◌, ◌<◌, ◌≤◌, Bool, true, false, length, Option, Some, None, List, [], ◌∷◌, ◌++◌, flat_map, refl, ap, sym, ◌∙◌, arith, append_assoc, append-nil}
-use Rattle.std.specs.Prelude.{codes}
+use Rattle.std.proofs.Common.{◌≡◌, ℕ, zero, suc, ◌+◌, ◌-◌, ◌<◌, ◌≤◌, Bool, true, false, length, Option, Some, None, List, [], ◌∷◌, ◌++◌, flat_map, refl, ap, sym, ◌∙◌, arith, append_assoc, append-nil, codes}
 use Rattle.demo_source.proofs.Common.{is_on, Levels, logic_of, state_after, many, inputs_drawn, equations_drawn, all_inputs_drawn, machine, outside, pulse, IsDemoSource, equations_text, further_text, head_text, levels_text, vector_text}
 use Rattle.pld_base.specs.Logic.{Logic}
 use Rattle.pld_machine.specs.Steps.{Steps, Run}

@@ -10,13 +10,17 @@ pub use Rattle.std.specs.List.{flat_map, list_all, list_any, position_from}
 pub use Rattle.std.specs.Option.{option_or}
 pub use Rattle.abel_meaning.specs.Designs.{Context, Design, name_at, no_name}
 pub use Rattle.abel_meaning.specs.Targets.{all_targets, some_signals, targets_of}
-pub use Rattle.abel_meaning.specs.Terms.{Before, BinaryOf, Known, NoTerm, Number, Pulse, Read, Release, Set, Term, Terms, UnaryOf, X, extended, extended_each, extended_if, known_of, member_before, named_before, special_term, term_meant, term_named, term_of, terms_of}
+pub use Rattle.abel_meaning.specs.Terms.{Before, BinaryOf, Known, NoTerm, Number, Pulse, Read, Release, Set, Term, Terms, UnaryOf, X, extended, extended_each}
+pub use Rattle.abel_meaning.specs.Terms.{extended_if, known_of, member_before, named_before, special_term, term_meant, term_named, term_of, terms_of}
 pub use Rattle.abel_tree.proofs.FirstRefusals.{before_by, first_append, none_refused}
 pub use Rattle.abel_tree.specs.Entries.{AConstant, ADeviceName, ANode, APin, Entry, Kind, entries_of, find, follows_q, is_stored, view_declared}
 pub use Rattle.abel_tree.specs.Extensions.{innermost}
 pub use Rattle.abel_tree.specs.FirstRefusal.{earlier, first_refusal, sooner}
 pub use Rattle.abel_tree.specs.Ranges.{range_names}
-pub use Rattle.abel_tree.specs.Tree.{ABinary, ABranch, ACase, ADiagram, ADontCare, AGoal, AGroup, AName, ANumber, AParen, ASet, ASpecial, ATable, AUnary, AWhen, AnAssign, AnElse, AnIf, Branch, Choices, Declarations, DontCareSection, Equations, Members, MoreChoices, MoreMembers, MoreStatements, NoBranch, NoChoice, NoElse, NoMember, NoStatement, OneMember, OtherBranch, Otherwise, RowTree, SectionTree, SetMember, SomeVectors, SpanMember, StateTree, Statement, Statements, Tree, members_of, otherwise_of, statements_of}
+pub use Rattle.abel_tree.specs.Tree.{ABinary, ABranch, ACase, ADiagram, ADontCare, AGoal, AGroup, AName, ANumber, AParen, ASet, ASpecial, ATable, AUnary, AWhen}
+pub use Rattle.abel_tree.specs.Tree.{AnAssign, AnElse, AnIf, Branch, Choices, Declarations, DontCareSection, Equations, Members, MoreChoices, MoreMembers}
+pub use Rattle.abel_tree.specs.Tree.{MoreStatements, NoBranch, NoChoice, NoElse, NoMember, NoStatement, OneMember, OtherBranch, Otherwise, RowTree, SectionTree}
+pub use Rattle.abel_tree.specs.Tree.{SetMember, SomeVectors, SpanMember, StateTree, Statement, Statements, Tree, members_of, otherwise_of, statements_of}
 pub use Rattle.abel_tree.specs.View.{stmt_layer, view, view_member, view_section, view_stmt, when_layer}
 pub use Rattle.abel_tree.specs.declared.names.Names.{Names}
 pub use Rattle.abel_tree.specs.declared.words.Extension.{Extension}
@@ -33,7 +37,16 @@ pub use Rattle.set_expr.proofs.FoundMembers.{front_more, whole_front}
 pub use Rattle.set_expr.specs.Answer.{IsContextOf}
 pub use Rattle.set_expr.specs.Contexts.{context_for}
 pub use Rattle.set_expr.specs.declared.contributions.Contribution.{Contribution}
-pub use Rattle.design_checks.specs.{AreOfNames, AreToNames, AreUsesOf, ControlsPass, KindsPass, Knows, PlacedUse, UsesAreRead, UsesHaveColumns, aim_refused, aims_refused, all_at, all_positions, any_controls, are_by_pin, branch_uses, branches_uses, carries_level, carries_q, choices_uses, else_refused, else_uses, expression_uses, first_read, first_refused, first_signal, first_use, has_extension, has_read_path, is_compared, is_compared_of, is_enabled_by_pin, is_refused, is_written_at, is_wrong_cell, joined, kept_by, lacking_controls, learning, list_refused, located, may_be_compared, member_located, members_located, missing_uses, names_read, names_to, narrow, no_controls, node_refused, none_written, not_written, other_levels, other_uses, part_uses, parted_uses, positions_by, positions_of, range_located, read_of, reads_by, reads_pin, reads_register, reads_used, refuses, refuses_use, registered_nodes, section_refused, section_uses, sections_refused, sections_uses, statement_refused, statement_uses, statements_uses, states_uses, target_controls, targets_refused, told, told_if, unwritten, use_at, use_order, use_under, uses_of, uses_used, values_of, with_uses, written_if, written_of, written_of_all, wrong_kinds}
+pub use Rattle.design_checks.specs.{AreOfNames, AreToNames, AreUsesOf, ControlsPass, KindsPass, Knows, PlacedUse, UsesAreRead, UsesHaveColumns, aim_refused}
+pub use Rattle.design_checks.specs.{aims_refused, all_at, all_positions, any_controls, are_by_pin, branch_uses, branches_uses, carries_level, carries_q}
+pub use Rattle.design_checks.specs.{choices_uses, else_refused, else_uses, expression_uses, first_read, first_refused, first_signal, first_use, has_extension}
+pub use Rattle.design_checks.specs.{has_read_path, is_compared, is_compared_of, is_enabled_by_pin, is_refused, is_written_at, is_wrong_cell, joined, kept_by}
+pub use Rattle.design_checks.specs.{lacking_controls, learning, list_refused, located, may_be_compared, member_located, members_located, missing_uses}
+pub use Rattle.design_checks.specs.{names_read, names_to, narrow, no_controls, node_refused, none_written, not_written, other_levels, other_uses, part_uses}
+pub use Rattle.design_checks.specs.{parted_uses, positions_by, positions_of, range_located, read_of, reads_by, reads_pin, reads_register, reads_used, refuses}
+pub use Rattle.design_checks.specs.{refuses_use, registered_nodes, section_refused, section_uses, sections_refused, sections_uses, statement_refused}
+pub use Rattle.design_checks.specs.{statement_uses, statements_uses, states_uses, target_controls, targets_refused, told, told_if, unwritten, use_at, use_order}
+pub use Rattle.design_checks.specs.{use_under, uses_of, uses_used, values_of, with_uses, written_if, written_of, written_of_all, wrong_kinds}
 pub use Rattle.design_checks.specs.Written.{Written}
 pub use Rattle.design_checks.specs.declared.names.NameUses.{NameUses}
 pub use Rattle.design_checks.specs.declared.refused.RefusedUse.{RefusedUse}

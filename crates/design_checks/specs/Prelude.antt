@@ -3,13 +3,17 @@ pub use Rattle.std.specs.List.{flat_map, list_all, list_any}
 pub use Rattle.abel_meaning.specs.Controls.{must_register}
 pub use Rattle.abel_meaning.specs.Designs.{Context, Design, context_of, name_at, no_name}
 pub use Rattle.abel_meaning.specs.Targets.{all_targets, some_signals, targets_of}
-pub use Rattle.abel_meaning.specs.Terms.{Before, BinaryOf, Known, NoTerm, Number, Pulse, Release, Set, Term, Terms, UnaryOf, X, extended_if, known_of, member_before, term_meant, term_named, term_of}
+pub use Rattle.abel_meaning.specs.Terms.{Before, BinaryOf, Known, NoTerm, Number, Pulse, Release, Set, Term, Terms, UnaryOf, X, extended_if, known_of}
+pub use Rattle.abel_meaning.specs.Terms.{member_before, term_meant, term_named, term_of}
 pub use Rattle.abel_tree.specs.Assigned.{target_extension}
 pub use Rattle.abel_tree.specs.Entries.{AConstant, ANode, APin, Entry, Kind, entries_of, is_stored, view_declared, view_meaning}
 pub use Rattle.abel_tree.specs.Extensions.{innermost, is_data}
 pub use Rattle.abel_tree.specs.FirstRefusal.{Ranks, first_refusal}
 pub use Rattle.abel_tree.specs.Ranges.{range_names}
-pub use Rattle.abel_tree.specs.Tree.{ABinary, ABranch, ACase, ADiagram, ADontCare, AGoal, AGroup, AName, ANumber, AParen, ASet, ASpecial, ATable, AUnary, AWhen, AnAssign, AnElse, AnIf, Branch, Choices, Declarations, DontCareSection, Equations, Members, MoreChoices, MoreMembers, MoreStatements, NoBranch, NoChoice, NoElse, NoMember, NoStatement, OneMember, OtherBranch, Otherwise, SectionTree, SetMember, SomeVectors, SpanMember, StateTree, Statement, Statements, Tree, statements_of}
+pub use Rattle.abel_tree.specs.Tree.{ABinary, ABranch, ACase, ADiagram, ADontCare, AGoal, AGroup, AName, ANumber, AParen, ASet, ASpecial, ATable, AUnary, AWhen}
+pub use Rattle.abel_tree.specs.Tree.{AnAssign, AnElse, AnIf, Branch, Choices, Declarations, DontCareSection, Equations, Members, MoreChoices, MoreMembers}
+pub use Rattle.abel_tree.specs.Tree.{MoreStatements, NoBranch, NoChoice, NoElse, NoMember, NoStatement, OneMember, OtherBranch, Otherwise, SectionTree}
+pub use Rattle.abel_tree.specs.Tree.{SetMember, SomeVectors, SpanMember, StateTree, Statement, Statements, Tree, statements_of}
 pub use Rattle.abel_tree.specs.View.{view, view_member, view_section, view_stmt}
 pub use Rattle.abel_tree.specs.declared.names.Names.{Names}
 pub use Rattle.abel_tree.specs.declared.words.Extension.{Extension}

@@ -23,7 +23,8 @@ pub use Rattle.pld_machine.specs.Order.{HasPins, IsOrdered}
 pub use Rattle.pld_machine.specs.Settling.{between_of, clocked_of, filled, rest_of, settled_of, step_of, steps_of}
 pub use Rattle.pld_machine.specs.Steps.{IsTheRest, IsWide, Run, RunsOnce, power_up}
 pub use Rattle.device_sim.specs.Simulated.{IsSimFault, first_unsupported, is_unsupported}
-pub use Rattle.device_sim.specs.VectorRun.{IsVectorRun, found, found_at, has_clock, if_mismatch, is_driven, is_tested, level_before, level_turned, mismatch_at, mismatches_of, mismatches_where, vector_mismatches}
+pub use Rattle.device_sim.specs.VectorRun.{IsVectorRun, found, found_at, has_clock, if_mismatch, is_driven, is_tested, level_before, level_turned, mismatch_at}
+pub use Rattle.device_sim.specs.VectorRun.{mismatches_of, mismatches_where, vector_mismatches}
 unfoldable pub use Rattle.device_sim.specs.VectorRun.{at_pins, outsides_of}
 pub use Rattle.device_sim.specs.VectorSteps.{ShownAfter, all_chars_at, chars_at, last_after, level_for, points_after}
 unfoldable pub use Rattle.device_sim.specs.VectorSteps.{mismatches_after, point_after}

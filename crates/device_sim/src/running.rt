@@ -3,8 +3,7 @@
 ghost use Rattle.std.specs.Prelude.{◌≡◌, ◌<◌, ◌≤◌, ◌^◌, length, IfOk, Some, None, option_map};
 ghost use Rattle.device_sim.specs.Prelude.{list_any, range_with_len, bits, levels_of, IsOrdered};
 ghost use Rattle.device_sim.specs.VectorRun.{outsides_of};
-ghost use Rattle.device_sim.specs.VectorSteps.{all_chars_at, last_after};
-ghost use Rattle.device_sim.specs.VectorSteps.{mismatches_after, point_after};
+ghost use Rattle.device_sim.specs.VectorSteps.{all_chars_at, last_after, mismatches_after, point_after};
 
 use crate::chars::{chars_of, has_clock};
 use crate::outside::outside_of;

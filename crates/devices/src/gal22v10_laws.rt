@@ -4,8 +4,7 @@ ghost use Rattle.std.specs.Prelude.{◌≡◌, Bool, true, false, List, [], ◌�
 ghost use Rattle.devices.specs.Prelude.{ShowsEach};
 ghost use Rattle.pld_device.specs.OpenedFuses.{opened_of};
 ghost use Rattle.devices.specs.Gal22V10Table.{gal22v10};
-ghost use Rattle.devices.specs.SmallCells.{counter, counter_shows, mixed, mixed_shows};
-ghost use Rattle.devices.specs.SmallCells.{all_low, is_preset, is_reset, pins_2_3_22, pins_2_4};
+ghost use Rattle.devices.specs.SmallCells.{counter, counter_shows, mixed, mixed_shows, all_low, is_preset, is_reset, pins_2_3_22, pins_2_4};
 
 /// What a small counter shows: each register feeds back the complement of its Q, though the pin
 /// follows Q. Does nothing.

@@ -13,7 +13,8 @@ pub use Rattle.abel_tree.proofs.FirstRefusals.{first_append, none_refused}
 pub use Rattle.abel_tree.specs.Assigned.{is_clocked, target_extension}
 pub use Rattle.abel_tree.specs.Entries.{AConstant, ANode, APin, Entry, Kind, entries_of}
 pub use Rattle.abel_tree.specs.FirstRefusal.{earlier, first_refusal}
-pub use Rattle.abel_tree.specs.Tree.{ABinary, ADontCare, AGroup, AName, ANumber, AParen, ASet, ASpecial, AUnary, AWhen, AnAssign, AnElse, MoreStatements, NoElse, NoStatement, OneMember, Otherwise, SetMember, Statement, Statements, Tree, members_of, otherwise_of, statements_of}
+pub use Rattle.abel_tree.specs.Tree.{ABinary, ADontCare, AGroup, AName, ANumber, AParen, ASet, ASpecial, AUnary, AWhen, AnAssign, AnElse, MoreStatements}
+pub use Rattle.abel_tree.specs.Tree.{NoElse, NoStatement, OneMember, Otherwise, SetMember, Statement, Statements, Tree, members_of, otherwise_of, statements_of}
 pub use Rattle.abel_tree.specs.View.{view, view_stmt}
 pub use Rattle.abel_tree.specs.declared.names.Names.{Names}
 pub use Rattle.abel_tree.specs.declared.statements.Stmt.{Stmt, the_lemmas}
@@ -53,4 +54,6 @@ pub use Rattle.set_expr.specs.SectionOrder.{section_order}
 pub use Rattle.set_expr.specs.declared.contributions.Contributions.{Contributions}
 pub use Rattle.set_expr.specs.declared.contributions.Guard.{Guard}
 pub use Rattle.set_expr.specs.declared.fault.SectionFault.{SectionFault}
-pub use Rattle.equations.specs.{AreBothGuards, GivesAssign, WalksCondition, WalksStatement, assign_refused, assigned_aims, assigned_manners, condition_refused, condition_unit, else_manners, else_places, statement_manners, statement_places, statements_manners, statements_places, taken_refused, units_of_else, units_of_statement, units_of_statements, unless_any, view_assign, view_list, view_when}
+pub use Rattle.equations.specs.{AreBothGuards, GivesAssign, WalksCondition, WalksStatement, assign_refused, assigned_aims, assigned_manners, condition_refused}
+pub use Rattle.equations.specs.{condition_unit, else_manners, else_places, statement_manners, statement_places, statements_manners, statements_places}
+pub use Rattle.equations.specs.{taken_refused, units_of_else, units_of_statement, units_of_statements, unless_any, view_assign, view_list, view_when}

@@ -7,7 +7,8 @@ pub use Rattle.abel_meaning.specs.Targets.{targets_of}
 pub use Rattle.abel_meaning.specs.Terms.{known_of, term_of}
 pub use Rattle.abel_tree.specs.Entries.{entries_of}
 pub use Rattle.abel_tree.specs.FirstRefusal.{first_refusal}
-pub use Rattle.abel_tree.specs.Tree.{ADontCare, AGroup, AWhen, AnAssign, AnElse, MoreStatements, NoElse, NoStatement, Otherwise, Statement, Statements, Tree, statements_of}
+pub use Rattle.abel_tree.specs.Tree.{ADontCare, AGroup, AWhen, AnAssign, AnElse, MoreStatements, NoElse, NoStatement, Otherwise, Statement, Statements, Tree}
+pub use Rattle.abel_tree.specs.Tree.{statements_of}
 pub use Rattle.abel_tree.specs.View.{stmt_layer, view, view_stmt, when_layer}
 pub use Rattle.abel_tree.specs.declared.names.Names.{Names}
 pub use Rattle.abel_tree.specs.declared.statements.Assign.{Assign}

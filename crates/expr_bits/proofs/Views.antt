@@ -1,6 +1,5 @@
 -- Trees of the code at each variant.
-use Rattle.std.proofs.Common.{◌≡◌, List, map, rules}
-use Rattle.std.specs.Prelude.{ℕ, Option}
+use Rattle.std.proofs.Common.{◌≡◌, List, map, rules, ℕ, Option}
 use Rattle.expr_bits.proofs.Common.{Place, Binary, Extension, Unary, ANumber, ASpecial, AName, ASet, AParen, AUnary, ABinary, OneMember, SpanMember, members_of, view, view_member}
 use Rattle.abel_tree.specs.declared.expressions.Expr.{Expr, the_lemmas}
 use Rattle.abel_tree.specs.declared.expressions.Expr as expr

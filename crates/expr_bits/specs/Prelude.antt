@@ -1,13 +1,16 @@
 -- The words of the crates below that the clauses of this crate are said in, passed on from one place. Declares nothing.
 pub use Rattle.std.specs.Global.{Vec}
 pub use Rattle.std.specs.List.{list_any}
-pub use Rattle.abel_meaning.specs.BitWords.{Word, difference_bits, each_not, equal_bits, less_bit, less_bits, next_carry, operator_bits, relation_bit, sum_bit, unary_word}
+pub use Rattle.abel_meaning.specs.BitWords.{Word, difference_bits, each_not, equal_bits, less_bit, less_bits, next_carry, operator_bits, relation_bit, sum_bit}
+pub use Rattle.abel_meaning.specs.BitWords.{unary_word}
 pub use Rattle.abel_meaning.specs.Designs.{Context, name_at}
 pub use Rattle.abel_meaning.specs.FormulaBits.{binary_word, bits_of, kept_bits, make_source, met_word}
 pub use Rattle.abel_meaning.specs.Numbers.{Number, Set, Shape, Single, Value, either_unknown, meeting, member_width, met_unknown, width_of}
 pub use Rattle.abel_meaning.specs.Sources.{Held, Source, Zero, node_source, on_pin, pin_source, register_source, source_by, source_of}
-pub use Rattle.abel_meaning.specs.Terms.{Before, Known, NoTerm, Read, Term, Terms, extended_if, known_of, member_before, named_before, special_term, term_meant, term_named, term_of, terms_of}
-pub use Rattle.abel_meaning.specs.Values.{binary_by, binary_value, constant_of, is_relation, joined_value, no_position, operator_value, plain_value, unary_value}
+pub use Rattle.abel_meaning.specs.Terms.{Before, Known, NoTerm, Read, Term, Terms, extended_if, known_of, member_before, named_before, special_term, term_meant}
+pub use Rattle.abel_meaning.specs.Terms.{term_named, term_of, terms_of}
+pub use Rattle.abel_meaning.specs.Values.{binary_by, binary_value, constant_of, is_relation, joined_value, no_position, operator_value, plain_value}
+pub use Rattle.abel_meaning.specs.Values.{unary_value}
 pub use Rattle.abel_tree.specs.Entries.{Entry, entries_of, is_stored, view_declared, view_meaning}
 pub use Rattle.abel_tree.specs.Extensions.{innermost}
 pub use Rattle.abel_tree.specs.Tree.{Tree, members_of}

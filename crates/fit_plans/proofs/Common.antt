@@ -1,7 +1,8 @@
 -- The words that the proofs of this crate are said in, passed on from one place. Declares nothing.
 pub use Rattle.std.proofs.lemmas.Bool.{cases_Bool, cases_eq, eq-eqb, eqb-true, lt-ltb, ltb-true}
 pub use Rattle.std.proofs.lemmas.Bool.Decides.{nat_tests}
-pub use Rattle.std.proofs.lemmas.List.{drop_all, drop_more, get_or-drop, get_or-replicate, get_or-take, get_or_append_left, get_or_past, length-append, length-map, length-replicate, length-take, map-append}
+pub use Rattle.std.proofs.lemmas.List.{drop_all, drop_more, get_or-drop, get_or-replicate, get_or-take, get_or_append_left, get_or_past, length-append}
+pub use Rattle.std.proofs.lemmas.List.{length-map, length-replicate, length-take, map-append}
 pub use Rattle.std.proofs.lemmas.List.Elements.{All-from_recursion, All-map}
 pub use Rattle.std.proofs.lemmas.List.FromFn.{get_or-map-range_with_len, length-map-range_with_len, map-range_with_len_more}
 pub use Rattle.std.proofs.lemmas.Nat.{and_le_l, or_lt, pow_below}

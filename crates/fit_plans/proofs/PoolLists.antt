@@ -1,6 +1,5 @@
 -- Where lists that were put into a pool stand, and that it is as it was once they are let go.
-use Rattle.std.proofs.Common.{◌≡◌, ℕ, ◌+◌, ◌≤◌, List, [], ◌∷◌, ◌++◌, length, take, refl, sym, ◌∙◌, ap, arith}
-use Rattle.std.specs.Prelude.{slice_range}
+use Rattle.std.proofs.Common.{◌≡◌, ℕ, ◌+◌, ◌≤◌, List, [], ◌∷◌, ◌++◌, length, take, refl, sym, ◌∙◌, ap, arith, slice_range}
 use Rattle.fit_plans.proofs.Common.{length-append, Cube, Pool}
 use Rattle.covers.proofs.ExpandedRows.{slice_kept}
 use Rattle.covers.proofs.GrownPools.{grown_kept}

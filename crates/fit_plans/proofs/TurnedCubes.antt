@@ -1,6 +1,5 @@
 -- A turned cube has the turned points.
-use Rattle.std.proofs.Common.{◌≡◌, ◌⊎◌, inl, inr, ℕ, suc, ◌+◌, ◌-◌, ◌^◌, ◌<◌, ◌≤◌, min, max, Bool, true, false, not, ◌&&◌, ◌||◌, eqb, if◌then◌else◌, List, [], ◌∷◌, length, refl, sym, ◌∙◌, ap, subst, arith}
-use Rattle.std.specs.Prelude.{bit_and, bit_or, All}
+use Rattle.std.proofs.Common.{◌≡◌, ◌⊎◌, inl, inr, ℕ, suc, ◌+◌, ◌-◌, ◌^◌, ◌<◌, ◌≤◌, min, max, Bool, true, false, not, ◌&&◌, ◌||◌, eqb, if◌then◌else◌, List, [], ◌∷◌, length, refl, sym, ◌∙◌, ap, subst, arith, bit_and, bit_or, All}
 use Rattle.fit_plans.proofs.Common.{bit_at, bit_not, w32, All-map, and_le_l, or_lt, bit_at-lt, bit_at_and, bit_at_or, bit_at_not, Cube, AllAskBelow, AsksBelow, covers, fits, has_from, all_turned, turned, TurnedPoints, levels_turned}
 
 pub exchanged : (a b mask v : ℕ) → mask < 2 ^ 32 → v < 32

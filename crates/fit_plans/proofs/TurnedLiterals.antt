@@ -1,6 +1,5 @@
 -- A literal of a turned cube is the turned literal of the cube, and leaving it out is turning what is left.
-use Rattle.std.proofs.Common.{◌≡◌, ◌≢◌, ◌⊎◌, inl, inr, ℕ, suc, ◌+◌, ◌-◌, ◌^◌, ◌<◌, ◌≤◌, min, Bool, true, false, not, ◌&&◌, if◌then◌else◌, List, [], ◌∷◌, length, refl, sym, ◌∙◌, ap, ap₂, arith}
-use Rattle.std.specs.Prelude.{bit_and, ◌==◌}
+use Rattle.std.proofs.Common.{◌≡◌, ◌≢◌, ◌⊎◌, inl, inr, ℕ, suc, ◌+◌, ◌-◌, ◌^◌, ◌<◌, ◌≤◌, min, Bool, true, false, not, ◌&&◌, if◌then◌else◌, List, [], ◌∷◌, length, refl, sym, ◌∙◌, ap, ap₂, arith, bit_and, ◌==◌}
 use Rattle.fit_plans.proofs.Common.{bit_at, bit_not, w32, cases_eq, bit_at-lt, bit_at-pow_other, bit_at-zero, bit_at_and, bit_at_not, pow_below, Cube, asks, fits, has_from, literal_cube, without, turned, levels_turned}
 use Rattle.fit_plans.proofs.TurnedCubes.{exchanged, fits_turned, one_or_zero, stays, taken}
 

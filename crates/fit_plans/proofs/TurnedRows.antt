@@ -1,6 +1,5 @@
 -- Turned lists of rows stay prime and irredundant.
-use Rattle.std.proofs.Common.{◌≡◌, ℕ, zero, suc, ◌+◌, ◌^◌, ◌<◌, ◌≤◌, Bool, true, false, not, if◌then◌else◌, List, [], ◌∷◌, ◌++◌, length, refl, sym, ◌∙◌, ap, ap₂, subst, arith}
-use Rattle.std.specs.Prelude.{◌==◌, remove, take, drop, get_or}
+use Rattle.std.proofs.Common.{◌≡◌, ℕ, zero, suc, ◌+◌, ◌^◌, ◌<◌, ◌≤◌, Bool, true, false, not, if◌then◌else◌, List, [], ◌∷◌, ◌++◌, length, refl, sym, ◌∙◌, ap, ap₂, subst, arith, ◌==◌, remove, take, drop, get_or}
 use Rattle.fit_plans.proofs.Common.{bit_at, length-map, map-append, All-map, Cube, CoversList, covers, has_point, literal_cube, without, all_turned, turned, levels_turned}
 use Rattle.covers.specs.Prime.{IsIrredundant, IsPrime, IsPrimeIrredundant}
 use Rattle.fit_plans.specs.TurnedCovers.{IsExchangedMask, TurnedAgain, TurnedStaysPrime}

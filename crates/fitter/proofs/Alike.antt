@@ -1,6 +1,5 @@
 -- Cells whose own reset, or preset, has the value of the shared one, and a point at which it hasn't.
-use Rattle.std.proofs.Common.{◌≡◌, ◌≢◌, ℕ, zero, suc, ◌+◌, ◌<◌, ◌≤◌, ◌^◌, Bool, true, false, ◌==◌, List, [], ◌∷◌, length, get_or, Option, Some, None, refl, sym, ap, ◌∙◌, subst, arith, inl, inr}
-use Rattle.std.specs.Prelude.{Contains, find, is_some, unwrap_or}
+use Rattle.std.proofs.Common.{◌≡◌, ◌≢◌, ℕ, zero, suc, ◌+◌, ◌<◌, ◌≤◌, ◌^◌, Bool, true, false, ◌==◌, List, [], ◌∷◌, length, get_or, Option, Some, None, refl, sym, ap, ◌∙◌, subst, arith, inl, inr, Contains, find, is_some, unwrap_or}
 use Rattle.fitter.proofs.Common.{option_map, cases_lt, eq-eqb, ne_eqb, get_or-map, length-map, Point, bits, is_on, Levels, levels_of, is_on-bits, length-bits, IsDevice, Table, CellWanted, Control, Netlist, ExprId, arena, formula_at, Const, Formula, formula_value, Wanted, first_with, own_of, plain_control, plain_netlist, plain_wanted, shared_function, wanted_at, IsSoundNetlist, IsReadable, IsSoundCell, Cube, CoversList, covers, IsValuedFor, AreShared, both_ways, found, Carries, bit_list, pair_of, written, IsSoundId, cell_wanted, SharedControl, Preset, Reset, IsWired, FindsApart, AllListed, AreNotShared, AreSharedBelow, FindsApartAt, IsAlikeAt, IsApartAt, IsFirstOf, IsFirstWith, IsListedBit, IsSharedBit, own_control, own_formula}
 use Rattle.bit_expr.specs.declared.node.Leaf.TheVariants as leaf
 use Rattle.fitter.proofs.CarriedPoints.{carries_all}

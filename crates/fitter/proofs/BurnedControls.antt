@@ -1,6 +1,5 @@
 -- What control fuses say that were burned for a plan.
-use Rattle.std.proofs.Common.{◌≡◌, ◌≢◌, ℕ, ◌*◌, ◌<◌, ◌≤◌, Bool, true, false, ◌==◌, ◌||◌, List, [], ◌∷◌, ◌++◌, length, map, get_or, slice_get, Option, Some, None, refl, sym, ap, ◌∙◌, subst, arith, inl, inr}
-use Rattle.std.specs.Prelude.{All, Contains, is_some, IsSome}
+use Rattle.std.proofs.Common.{◌≡◌, ◌≢◌, ℕ, ◌*◌, ◌<◌, ◌≤◌, Bool, true, false, ◌==◌, ◌||◌, List, [], ◌∷◌, ◌++◌, length, map, get_or, slice_get, Option, Some, None, refl, sym, ap, ◌∙◌, subst, arith, inl, inr, All, Contains, is_some, IsSome}
 use Rattle.fitter.proofs.Common.{list_any, cases_Bool, cases_lt, eq-eqb, or_left, or_right, true≢false, get_or_past, list_any_at, slice_get-get_or, is_on, same_level, Always, Either, Inverts, IsDevice, IsFixed, Registers, Switches, fuse_for, fuse_if_any, is_inverted, says, is_switched_on, Table, cell_at, inverted_at, registered_at, has, Cube, CellForm, Plan, IsBurned, control_level, form_at, told_level, planned}
 use Rattle.pld_device.specs.declared.fuse_bit.FuseBit.{FuseBit}
 use Rattle.pld_device.specs.ControlFuses.{control_fuses, fuses_named}

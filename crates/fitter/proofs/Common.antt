@@ -1,12 +1,15 @@
 -- The words that the proofs of this crate are said in, passed on from one place. Declares nothing.
 pub use Rattle.std.proofs.Math.Seq.{get_or-append_seam}
-pub use Rattle.std.proofs.lemmas.Bool.{and_parts, cases_Bool, cases_eq, cases_lt, eq-eqb, eqb-false, eqb-true, false≢true, lt-ltb, ne_eqb, not-true, or_cases, or_left, or_right, true≢false}
+pub use Rattle.std.proofs.lemmas.Bool.{and_parts, cases_Bool, cases_eq, cases_lt, eq-eqb, eqb-false, eqb-true, false≢true, lt-ltb, ne_eqb, not-true, or_cases}
+pub use Rattle.std.proofs.lemmas.Bool.{or_left, or_right, true≢false}
 pub use Rattle.std.proofs.lemmas.Bool.Decides.{nat_tests}
-pub use Rattle.std.proofs.lemmas.List.{drop_all, drop_more, get_or-map, get_or-take, get_or_append_left, get_or_past, length-append, length-map, length-replicate, length-take, take_all, take_more}
+pub use Rattle.std.proofs.lemmas.List.{drop_all, drop_more, get_or-map, get_or-take, get_or_append_left, get_or_past, length-append, length-map}
+pub use Rattle.std.proofs.lemmas.List.{length-replicate, length-take, take_all, take_more}
 pub use Rattle.std.proofs.lemmas.List.Elements.{All-from_recursion, All-head, All-tail}
 pub use Rattle.std.proofs.lemmas.List.Folds.{list_any_at}
 pub use Rattle.std.proofs.lemmas.List.FromFn.{get_or-map-range_with_len, length-map-range_with_len}
-pub use Rattle.std.proofs.lemmas.List.Sorted.{All-permutation, IsNonDecreasingBy-from_sort_by_key, IsPermutation-keeps, length_permutation, list_any-IsPermutation}
+pub use Rattle.std.proofs.lemmas.List.Sorted.{All-permutation, IsNonDecreasingBy-from_sort_by_key, IsPermutation-keeps, length_permutation}
+pub use Rattle.std.proofs.lemmas.List.Sorted.{list_any-IsPermutation}
 pub use Rattle.std.proofs.lemmas.Nat.{xor_lt}
 pub use Rattle.std.proofs.lemmas.Nat.Bits.{bit_at-lt, bit_at-zero, bit_at_xor}
 pub use Rattle.std.proofs.lemmas.Option.{get_or_from_slice_get, none-some, same_Some, slice_get-get_or, slice_get_past, slice_get_read, slice_get_within}
@@ -19,7 +22,8 @@ pub use Rattle.std.specs.Option.{option_map, option_to_list}
 pub use Rattle.abel_meaning.specs.Functions.{allows, allows_plain, value_with_any_0}
 pub use Rattle.abel_meaning.specs.NetlistLogic.{enable_of, netlist_stores, registers_as}
 pub use Rattle.abel_meaning.specs.NetlistReads.{netlist_waits, signal_count}
-pub use Rattle.abel_meaning.specs.Netlists.{PlainNetlist, Wanted, as_named, earlier_name, first_with, function_at, no_function, node_at, own_of, plain_control, plain_function, plain_netlist, plain_wanted, shared_function, wanted_at}
+pub use Rattle.abel_meaning.specs.Netlists.{PlainNetlist, Wanted, as_named, earlier_name, first_with, function_at, no_function, node_at, own_of, plain_control}
+pub use Rattle.abel_meaning.specs.Netlists.{plain_function, plain_netlist, plain_wanted, shared_function, wanted_at}
 pub use Rattle.abel_meaning.specs.SoundIds.{IsCellIn, IsControlIn, IsSoundNetlist, no_pair, pair_of_cell, pair_of_pin}
 pub use Rattle.abel_meaning.specs.Soundness.{IsReadable, IsSound, IsSoundCell, IsSoundFormula, IsSoundFree, IsSoundShared, MayRegister}
 pub use Rattle.bit_expr.proofs.ArenaLists.{arena_count, first_formula, get_kept}
@@ -64,8 +68,10 @@ pub use Rattle.netlist_laws.proofs.RowLiterals.{HasPair, column_of}
 pub use Rattle.netlist_laws.proofs.UnusedRows.{data_row_below, unused_value}
 pub use Rattle.netlist_laws.proofs.Valuing.{is_valued_of, node_falls, valued, valued_node, valued_past}
 pub use Rattle.netlist_laws.proofs.WantedCells.{IsSoundAt, found, sound_at}
-pub use Rattle.netlist_laws.specs.ExchangedNets.{MayExchangeIn, formula_exchanged, function_exchanged, is_free_wanted, netlist_exchanged, shown, wanted_exchanged}
-pub use Rattle.netlist_laws.specs.Fitting.{AreShared, IsFitted, IsFittedAs, IsFittedCell, IsFittedEnable, IsFittedShared, IsSpareCell, or_complements, or_may_be}
+pub use Rattle.netlist_laws.specs.ExchangedNets.{MayExchangeIn, formula_exchanged, function_exchanged, is_free_wanted, netlist_exchanged, shown}
+pub use Rattle.netlist_laws.specs.ExchangedNets.{wanted_exchanged}
+pub use Rattle.netlist_laws.specs.Fitting.{AreShared, IsFitted, IsFittedAs, IsFittedCell, IsFittedEnable, IsFittedShared, IsSpareCell, or_complements}
+pub use Rattle.netlist_laws.specs.Fitting.{or_may_be}
 pub use Rattle.netlist_laws.specs.RowCovers.{IsExactRow, IsPrimeCover, IsPrimeRow, IsValuedFor, IsValuedOfFor, any_other, is_used, value_without}
 pub use Rattle.pld_base.proofs.BitLemmas.{is_on-bits, is_on-zero, length-bits, same_levels}
 pub use Rattle.pld_base.specs.Bits.{is_on, same_level}
@@ -96,19 +102,24 @@ pub use Rattle.sop_lowering.specs.Values.{AreNodesValued, Carries, CarriesLeaf, 
 pub use Rattle.sop_lowering.specs.Written.{bit_list, function_of_node, node_formula, pair_of, written}
 pub use Rattle.sop_lowering.specs.declared.fault.LowerFault.{LowerFault}
 pub use Rattle.fitter.specs.Answers.{FitAnswers, HasControls, IsFitOf, IsTooMany}
-pub use Rattle.fitter.specs.CellCovered.{CanCoverCell, HasChecked, HasCheckedAs, HasCovers, HasCoversAs, HasRows, IsChecked, IsCheckedAt, IsCovered, IsCoveredAt, IsFirstBelow, IsFirstNumber, IsListed, IsWideAt}
+pub use Rattle.fitter.specs.CellCovered.{CanCoverCell, HasChecked, HasCheckedAs, HasCovers, HasCoversAs, HasRows, IsChecked, IsCheckedAt, IsCovered}
+pub use Rattle.fitter.specs.CellCovered.{IsCoveredAt, IsFirstBelow, IsFirstNumber, IsListed, IsWideAt}
 pub use Rattle.fitter.specs.Coverable.{IsSoundId, SoundCover}
 pub use Rattle.fitter.specs.Covered.{AreCovered, CoversBelow}
 pub use Rattle.fitter.specs.Evaluating.{AreNext, CanEvaluate, HasValues, IsWired}
 pub use Rattle.fitter.specs.Missing.{FindsApart, FindsMissed, IsApart, IsMissed}
 pub use Rattle.fitter.specs.Order.{AreRowsInOrder}
 unfoldable pub use Rattle.fitter.specs.Order.{fuse_number}
-pub use Rattle.fitter.specs.Planned.{AreChosen, ArePlanned, ArePlannedAt, AreRowsOf, AreSharedRows, AreSingle, EachFitsBelow, EntriesBelow, HasRowsAt, HasSharedRow, IsEntryOf, IsManyRows, IsOver, IsOverAt, IsRowOf, IsSharedBitOf, IsSingleRow, OneFitsAt, RowsBelow, SingleBelow}
-pub use Rattle.fitter.specs.Plans.{HasCellPlan, IsChosenMask, IsFunctionOf, IsTurnMask, PlansAs, PlansCell, PlansControl, PlansFit, PlansNetlist, PlansRows, PlansShared, PlansSpare, bit_or, carries_chosen, carries_complement, cell_wanted, enable_bit, is_chosen, is_free_cell}
+pub use Rattle.fitter.specs.Planned.{AreChosen, ArePlanned, ArePlannedAt, AreRowsOf, AreSharedRows, AreSingle, EachFitsBelow, EntriesBelow, HasRowsAt}
+pub use Rattle.fitter.specs.Planned.{HasSharedRow, IsEntryOf, IsManyRows, IsOver, IsOverAt, IsRowOf, IsSharedBitOf, IsSingleRow, OneFitsAt, RowsBelow}
+pub use Rattle.fitter.specs.Planned.{SingleBelow}
+pub use Rattle.fitter.specs.Plans.{HasCellPlan, IsChosenMask, IsFunctionOf, IsTurnMask, PlansAs, PlansCell, PlansControl, PlansFit, PlansNetlist, PlansRows}
+pub use Rattle.fitter.specs.Plans.{PlansShared, PlansSpare, bit_or, carries_chosen, carries_complement, cell_wanted, enable_bit, is_chosen, is_free_cell}
 pub use Rattle.fitter.specs.Products.{DifferIn, EnablesBelow, IsFirstSum, IsNoProduct, IsOneProduct, IsProduct, IsSharedProduct}
 pub use Rattle.fitter.specs.Rows.{HasFittingCover, IsDirectOver, IsFittedEntry, IsHeavier, IsOverRoom, Rises}
 unfoldable pub use Rattle.fitter.specs.Rows.{row_number}
-pub use Rattle.fitter.specs.Sharing.{AllListed, AreNotShared, AreSharedBelow, FindsApartAt, IsAlikeAt, IsApartAt, IsFirstOf, IsFirstWith, IsListedBit, IsSharedBit, better_of, is_earlier, own_control, own_formula}
+pub use Rattle.fitter.specs.Sharing.{AllListed, AreNotShared, AreSharedBelow, FindsApartAt, IsAlikeAt, IsApartAt, IsFirstOf, IsFirstWith, IsListedBit}
+pub use Rattle.fitter.specs.Sharing.{IsSharedBit, better_of, is_earlier, own_control, own_formula}
 pub use Rattle.fitter.specs.Turning.{AreTurned, IsChoiceMask, IsTurnedCell, carries_choice}
 pub use Rattle.fitter.specs.Width.{HasNoWeight, IsControlTooWide, IsFirstWide, IsFunctionTooWide, IsTooWide, NoneWide, width_order}
 pub use Rattle.fitter.specs.declared.answer.FittedCell.{FittedCell}

@@ -1,6 +1,5 @@
 -- The entries of an answer, one a cell in turn.
-use Rattle.std.proofs.Common.{◌≡◌, ℕ, ◌+◌, ◌<◌, List, [], ◌∷◌, ◌++◌, length, get_or, slice_get, Some, None, sym, ap, ◌∙◌, subst, arith, inl, inr}
-use Rattle.std.specs.Prelude.{All, AllPairs}
+use Rattle.std.proofs.Common.{◌≡◌, ℕ, ◌+◌, ◌<◌, List, [], ◌∷◌, ◌++◌, length, get_or, slice_get, Some, None, sym, ap, ◌∙◌, subst, arith, inl, inr, All, AllPairs}
 use Rattle.fitter.proofs.Common.{cases_lt, get_or_append_left, length-append, get_or-append_seam, slice_get-get_or, Table, CellWanted, Netlist, get_kept, cell_wanted, CellForm, CellPlan, FittedCell, EntriesBelow, IsEntryOf}
 
 none_some : (w : CellWanted) → None ≡ Some w → ⊥

@@ -1,6 +1,5 @@
 -- The cell of the least name is found from the front.
-use Rattle.std.proofs.Common.{◌≡◌, ◌<◌, ◌≤◌, ℕ, zero, suc, ◌+◌, Bool, true, false, nat_lt, ◌&&◌, if◌then◌else◌, List, [], ◌∷◌, length, drop, get_or, map, Option, Some, None, refl, sym, ap, ◌∙◌, subst, arith, inl, inr}
-use Rattle.std.specs.Prelude.{Contains, IfSome, is_some}
+use Rattle.std.proofs.Common.{◌≡◌, ◌<◌, ◌≤◌, ℕ, zero, suc, ◌+◌, Bool, true, false, nat_lt, ◌&&◌, if◌then◌else◌, List, [], ◌∷◌, length, drop, get_or, map, Option, Some, None, refl, sym, ap, ◌∙◌, subst, arith, inl, inr, Contains, IfSome, is_some}
 use Rattle.fitter.proofs.Common.{option_map, cases_Bool, nat_tests, drop_more, drop_all, get_or_from_slice_get, slice_get-get_or, same_Some, CellWanted, Control, Const, Formula, Wanted, earlier_name, first_with, own_of, plain_control, plain_wanted, SharedControl, Preset, Reset, better_of, is_earlier, own_control, own_formula}
 
 pub own_is : (fs : List Formula) (which : SharedControl) (w : CellWanted) → own_formula which (plain_wanted fs w) ≡ plain_control fs (own_control which w)

@@ -1,6 +1,5 @@
 -- The pair of a leaf that can be read is the device's, wherever the netlist keeps it.
-use Rattle.std.proofs.Common.{◌≡◌, ◌≢◌, ℕ, ◌<◌, ◌≤◌, Bool, true, false, ◌==◌, List, length, get_or, slice_get, Some, refl, sym, ap, ◌∙◌, arith, inl, inr}
-use Rattle.std.specs.Prelude.{position, unwrap_or}
+use Rattle.std.proofs.Common.{◌≡◌, ◌≢◌, ℕ, ◌<◌, ◌≤◌, Bool, true, false, ◌==◌, List, length, get_or, slice_get, Some, refl, sym, ap, ◌∙◌, arith, inl, inr, position, unwrap_or}
 use Rattle.fitter.proofs.Common.{cases_Bool, cases_lt, eq-eqb, eqb-true, lt-ltb, true≢false, get_or-map, get_or_past, length-map, get_or_from_slice_get, slice_get-get_or, slice_get_within, Carry, IsDevice, IsPair, IsPairOf, pair_pins, pin_carried, carries_cell, Table, cell_at, no_cell, pairs_apart, Netlist, plain_netlist, IsSoundNetlist, no_pair, pair_of_cell, pair_of_pin, IsReadable, pair_of}
 use Rattle.std.proofs.lemmas.List.Sums.{position_or_len_is}
 use Rattle.pld_device.specs.declared.carry.Carry.TheVariants as carry

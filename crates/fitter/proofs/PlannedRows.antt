@@ -1,6 +1,5 @@
 -- The rows of fuses that were burned for a plan: which cubes they hold, that they are switched on, and which are used.
-use Rattle.std.proofs.Common.{◌≡◌, ℕ, zero, suc, ◌+◌, ◌<◌, ◌≤◌, Bool, true, false, ◌==◌, List, [], ◌∷◌, length, get_or, replicate, slice_get, Option, Some, None, refl, sym, ap, ◌∙◌, subst, arith, inl, inr}
-use Rattle.std.specs.Prelude.{is_some}
+use Rattle.std.proofs.Common.{◌≡◌, ℕ, zero, suc, ◌+◌, ◌<◌, ◌≤◌, Bool, true, false, ◌==◌, List, [], ◌∷◌, length, get_or, replicate, slice_get, Option, Some, None, refl, sym, ap, ◌∙◌, subst, arith, inl, inr, is_some}
 use Rattle.fitter.proofs.Common.{bit_at, list_any, range_with_len, option_to_list, cases_Bool, get_or-map-range_with_len, length-map-range_with_len, list_any_at, get_or_from_slice_get, slice_get-get_or, slice_get_within, Row, IsDevice, is_switched_on, row_fuses, Table, cell_at, CellWanted, Netlist, ExprId, Cube, full_cube, is_used, all_turned, IsCoverBetween, Products, CellForm, CellPlan, Plan, IsBurned, form_at, cube_for, of_cell, planned, HoldsCubes, fuse_at, row_of, zeros, HasCellPlan, PlansAs, PlansNetlist, cell_wanted}
 use Rattle.fit_plans.specs.FuseLists.{planned_row}
 use Rattle.fit_plans.proofs.PlannedCubes.{each_planned}

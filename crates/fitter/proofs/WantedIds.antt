@@ -1,6 +1,5 @@
 -- What is asked of a cell over the arena, and over formulas.
-use Rattle.std.proofs.Common.{◌≡◌, ℕ, ◌<◌, Bool, true, false, ◌==◌, List, [], ◌∷◌, length, map, get_or, Option, Some, None, refl, sym, ap, ◌∙◌, subst, arith, inl, inr}
-use Rattle.std.specs.Prelude.{All, find, unwrap_or}
+use Rattle.std.proofs.Common.{◌≡◌, ℕ, ◌<◌, Bool, true, false, ◌==◌, List, [], ◌∷◌, length, map, get_or, Option, Some, None, refl, sym, ap, ◌∙◌, subst, arith, inl, inr, All, find, unwrap_or}
 use Rattle.fitter.proofs.Common.{option_map, cases_Bool, eqb-true, true≢false, All-head, All-tail, same_Some, Table, CellWanted, Control, Netlist, ExprId, arena, constants, formula_at, Const, Formula, arena_count, first_formula, Wanted, plain_control, plain_netlist, plain_wanted, shared_function, wanted_at, enable_of, IsCellIn, IsControlIn, IsSoundNetlist, IsSoundCell, IsSoundFormula, IsSoundShared, IsSoundAt, sound_at, IsSoundId, bit_or, cell_wanted, enable_bit}
 use Rattle.netlist_laws.proofs.SharedFunctions.{shared_has}
 

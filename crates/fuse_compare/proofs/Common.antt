@@ -1,5 +1,6 @@
 -- The words that the proofs of this crate are said in, passed on from one place. Declares nothing.
-pub use Rattle.std.proofs.lemmas.Bool.{and_parts, cases_Bool, cases_eq, cases_lt, eq-eqb, eqb-false, eqb-true, false_from_ne_true, le-ltb, lt-ltb, ltb-true, or_cases, or_left, or_parts, or_right, true≢false}
+pub use Rattle.std.proofs.lemmas.Bool.{and_parts, cases_Bool, cases_eq, cases_lt, eq-eqb, eqb-false, eqb-true, false_from_ne_true, le-ltb, lt-ltb, ltb-true}
+pub use Rattle.std.proofs.lemmas.Bool.{or_cases, or_left, or_parts, or_right, true≢false}
 pub use Rattle.std.proofs.lemmas.List.{get_or_default, get_or_past, length-map}
 pub use Rattle.std.proofs.lemmas.List.Elements.{All-head, All-nil, All-push, All-tail}
 pub use Rattle.std.proofs.lemmas.Option.{get_or_from_slice_get, slice_get_within}
@@ -20,7 +21,8 @@ pub use Rattle.pld_base.specs.Points.{IsPoint, Levels, levels_of}
 pub use Rattle.pld_device.proofs.OwnPins.{has_pairs, own_pins}
 pub use Rattle.pld_device.specs.LawTests.Cells.{is_enable_pin}
 pub use Rattle.pld_device.specs.Laws.{IsDevice, IsPair, IsSignalPin}
-pub use Rattle.pld_device.specs.Macrocells.{complement_if, data_complements, device_logic, enabled_by, is_enabled, next_q, or_value, pin_complements, pin_level, row_if_any}
+pub use Rattle.pld_device.specs.Macrocells.{complement_if, data_complements, device_logic, enabled_by, is_enabled, next_q, or_value, pin_complements, pin_level}
+pub use Rattle.pld_device.specs.Macrocells.{row_if_any}
 pub use Rattle.pld_device.specs.Registers.{is_inverted, stores}
 pub use Rattle.pld_device.specs.Rows.{carried, pair_values, row_value}
 pub use Rattle.pld_device.specs.Table.{Table, cell_at, no_cell}
@@ -43,7 +45,8 @@ pub use Rattle.fuse_compare.specs.Cut.{AnswerSame, AreFreePins, AreKeptQs, AreOn
 pub use Rattle.fuse_compare.specs.DeviceKnown.{AreChosen, QsChosen, carries, enables_some, is_level_of, is_q_of, known_of, reads_at, row_reads_some, some_read}
 pub use Rattle.fuse_compare.specs.DeviceReads.{Knows, KnowsReads}
 pub use Rattle.fuse_compare.specs.OneState.{AlikeAt, AllEdgesToo, AllToo, RestsToo, StoresOther, StoresToo, cell_too, clock_is_low, drives_so, edge_too}
-pub use Rattle.fuse_compare.specs.OwnRows.{AreOwn, CoveredOutside, Covers, HoldsMore, IsGroupCover, MakesCell, MakesSame, NeverDrives, SameCell, SameKind, SameOutside, StoreSame, some_row}
+pub use Rattle.fuse_compare.specs.OwnRows.{AreOwn, CoveredOutside, Covers, HoldsMore, IsGroupCover, MakesCell, MakesSame, NeverDrives, SameCell, SameKind}
+pub use Rattle.fuse_compare.specs.OwnRows.{SameOutside, StoreSame, some_row}
 pub use Rattle.fuse_compare.specs.States.{AreVariables, QCounts, QFixed, QsSuffice, StandsFor, Suffices, Varies, VariesAt, has_pin, has_q}
 pub use Rattle.fuse_compare.specs.States.QCounts.{Plain, Same, Shown}
 pub use Rattle.fuse_compare.specs.Told.{AgreeOn, IsTold, IsToldBy, Known, SameShape}

@@ -1,6 +1,5 @@
 -- What is decided where the first logic rests, variable by variable.
-use Rattle.std.proofs.Common.{◌≡◌, ℕ, suc, ◌<◌, Bool, true, false, not, ◌&&◌, ◌==◌, List, [], ◌∷◌, length, get_or, set, refl, ap, sym, ◌∙◌, subst, length-set, get_or-set_same, get_or-set_other, lt-ltb, arith}
-use Rattle.std.specs.Prelude.{nat_lt}
+use Rattle.std.proofs.Common.{◌≡◌, ℕ, suc, ◌<◌, Bool, true, false, not, ◌&&◌, ◌==◌, List, [], ◌∷◌, length, get_or, set, refl, ap, sym, ◌∙◌, subst, length-set, get_or-set_same, get_or-set_other, lt-ltb, arith, nat_lt}
 use Rattle.fuse_compare.proofs.Common.{eqb-false, or_parts, true≢false, is_on, same_level, IsPoint, Levels, Lookups, rest_of, IsWide, rests_once, HoldsWith, holds, RowMask, AreFreePins, AreKeptQs, DifferWithin, IsDecided, some_holds, AlikeAt, Varies, has_pin, has_q, IsTold, SameShape, Variable, Pin, Q}
 use Rattle.fuse_compare.proofs.AlikeThere.{alike_there}
 

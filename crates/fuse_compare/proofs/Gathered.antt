@@ -1,6 +1,5 @@
 -- Variables that are gathered one after another.
-use Rattle.std.proofs.Common.{◌≡◌, ◌≢◌, ◌⊎◌, ℕ, ◌+◌, ◌<◌, ◌≤◌, Bool, true, false, ◌&&◌, ◌||◌, ◌==◌, List, [], ◌∷◌, ◌++◌, length, set, refl, sym, ◌∙◌, ap, subst, inl, inr, arith, get_or-set_same, get_or-set_other, ne_eqb}
-use Rattle.std.specs.Prelude.{nat_lt}
+use Rattle.std.proofs.Common.{◌≡◌, ◌≢◌, ◌⊎◌, ℕ, ◌+◌, ◌<◌, ◌≤◌, Bool, true, false, ◌&&◌, ◌||◌, ◌==◌, List, [], ◌∷◌, ◌++◌, length, set, refl, sym, ◌∙◌, ap, subst, inl, inr, arith, get_or-set_same, get_or-set_other, ne_eqb, nat_lt}
 use Rattle.fuse_compare.proofs.Common.{cases_Bool, cases_eq, cases_lt, eq-eqb, eqb-false, eqb-true, false_from_ne_true, le-ltb, lt-ltb, or_cases, or_left, or_parts, or_right, true≢false, get_or_past, bits, is_on, is_on-zero, length-bits, stores, Table, IsWide, HasKnownPins, HasKnownQs, HoldsRegisters, knows_pin, knows_q, AreOnce, AreChosen, known_of, AreVariables, has_pin, has_q, Variable, Pin, Q}
 use Rattle.fuse_compare.specs.DeviceKnown.QsChosen.{SameKinds, OtherKinds}
 

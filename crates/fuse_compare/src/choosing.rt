@@ -7,8 +7,7 @@
 
 ghost use Rattle.std.specs.Prelude.{◌≡◌, ◌≢◌, ◌<◌, ◌||◌, ℕ, IfOk, false, length, true};
 ghost use Rattle.fuse_compare.specs.Prelude.{bits, stores};
-ghost use Rattle.fuse_compare.specs.Choosing.{AreKnown, HasKnownPins, HasKnownQs, HoldsRegisters};
-ghost use Rattle.fuse_compare.specs.Choosing.{knows_pin, knows_q};
+ghost use Rattle.fuse_compare.specs.Choosing.{AreKnown, HasKnownPins, HasKnownQs, HoldsRegisters, knows_pin, knows_q};
 ghost use Rattle.fuse_compare.specs.Cut.{AreOnce};
 ghost use Rattle.fuse_compare.specs.DeviceKnown.{AreChosen};
 

@@ -6,8 +6,7 @@
 
 ghost use Rattle.std.specs.Prelude.{◌≡◌, ◌<◌, ℕ, IfOk, IfSome, length, true};
 ghost use Rattle.fuse_compare.specs.Prelude.{enabled_by, row_if_any, EnableInRange};
-ghost use Rattle.fuse_compare.specs.OwnRows.{AreOwn, Covers, InArray, MakesCell, MakesSame};
-ghost use Rattle.fuse_compare.specs.OwnRows.{SameKind, StoreSame, some_row};
+ghost use Rattle.fuse_compare.specs.OwnRows.{AreOwn, Covers, InArray, MakesCell, MakesSame, SameKind, StoreSame, some_row};
 
 use crate::group::Group;
 use crate::group_covers::{group_cover, has_cube};

@@ -2,8 +2,7 @@
 
 ghost use Rattle.std.specs.Prelude.{◌≡◌, ◌<◌, length};
 ghost use Rattle.fuse_compare.specs.Prelude.{is_enable_pin, CarryInRange};
-ghost use Rattle.fuse_compare.specs.DeviceKnown.{carries, enables_some, is_level_of, is_q_of, known_of};
-ghost use Rattle.fuse_compare.specs.DeviceKnown.{reads_at, row_reads_some, some_read};
+ghost use Rattle.fuse_compare.specs.DeviceKnown.{carries, enables_some, is_level_of, is_q_of, known_of, reads_at, row_reads_some, some_read};
 
 use crate::variable::Variable;
 use device_logic::{FuseArray, carry_of, cell_of};

@@ -6,16 +6,14 @@
 //!
 //! Names: `from` counts the variables that have their levels.
 
-ghost use Rattle.std.specs.Prelude.{◌≡◌, ◌<◌, ◌≤◌, IfSome, List, Bool, None, Some, drop, false};
-ghost use Rattle.std.specs.Prelude.{length, slice_get, true};
+ghost use Rattle.std.specs.Prelude.{◌≡◌, ◌<◌, ◌≤◌, IfSome, List, Bool, None, Some, drop, false, length, slice_get, true};
 ghost use Rattle.fuse_compare.specs.Prelude.{bits, levels_of, logic_of};
 ghost use Rattle.fuse_compare.specs.Alike.{FindsDifference, IsDifference};
 ghost use Rattle.fuse_compare.specs.Cut.{IsDecided};
 ghost use Rattle.fuse_compare.specs.Searching.{CanSearch};
-ghost use Rattle.fuse_compare.specs.OneState.{AlikeAt, StoresOther, StoresToo};
+ghost use Rattle.fuse_compare.specs.OneState.{AlikeAt, StoresOther, StoresToo, clock_is_low};
 ghost use Rattle.fuse_compare.specs.States.{Suffices, Varies, VariesAt};
 ghost use Rattle.fuse_compare.specs.Told.{IsTold, SameShape};
-ghost use Rattle.fuse_compare.specs.OneState.{clock_is_low};
 
 use crate::agreeing::{all_edges_too, all_too};
 use crate::cut::{Cut, some_meets};

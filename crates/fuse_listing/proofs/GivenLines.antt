@@ -1,6 +1,5 @@
 -- Lines of pins that were given, with that of one name more.
-use Rattle.std.proofs.Common.{◌≡◌, ℕ, ◌+◌, ◌<◌, ◌≤◌, Option, None, Some, List, [], ◌∷◌, ◌++◌, map, take, flat_map, length, get_or, min, refl, sym, ap, ◌∙◌, append-nil, arith}
-use Rattle.std.specs.Prelude.{slice_get, option_map, zip}
+use Rattle.std.proofs.Common.{◌≡◌, ℕ, ◌+◌, ◌<◌, ◌≤◌, Option, None, Some, List, [], ◌∷◌, ◌++◌, map, take, flat_map, length, get_or, min, refl, sym, ap, ◌∙◌, append-nil, arith, slice_get, option_map, zip}
 use Rattle.fuse_listing.proofs.Common.{flat_map-append, length-map, length-take, map-append, take_more, slice_get-get_or, slice_get-map, slice_get_past, Declared, Entry, view_declared, given_line, given_lines}
 use Rattle.fuse_listing.proofs.Joined.{one_more}
 

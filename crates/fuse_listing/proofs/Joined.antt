@@ -1,8 +1,7 @@
 -- Texts and literals that are joined one after another, and names that are looked for.
-use Rattle.std.proofs.Common.{◌≡◌, ℕ, ◌+◌, ◌<◌, ◌≤◌, Some, None, length, drop, map, get_or, drop-cons, add-one, Bool, true, false, if◌then◌else◌, List, [], ◌∷◌, ◌++◌, filter, flat_map, refl, ap, sym, ◌∙◌, append_assoc, append-nil, map-id}
+use Rattle.std.proofs.Common.{◌≡◌, ℕ, ◌+◌, ◌<◌, ◌≤◌, Some, None, length, drop, map, get_or, drop-cons, add-one, Bool, true, false, if◌then◌else◌, List, [], ◌∷◌, ◌++◌, filter, flat_map, refl, ap, sym, ◌∙◌, append_assoc, append-nil, map-id, codes}
 use Rattle.fuse_listing.proofs.Common.{zero-add, flat_map-append, drop_all, range_with_len, Declared, view_declared, is_on_pin, name_on, product_text}
 use Rattle.std.proofs.lemmas.List.FromFn.{filter_of_map_range_with_len_more, map-range_with_len_more}
-use Rattle.std.specs.Prelude.{codes}
 
 -- a piece more behind what was appended
 pub one_more : (old sofar piece before new : List ℕ) → before ≡ old ++ sofar → new ≡ before ++ piece → new ≡ old ++ (sofar ++ piece)

@@ -1,6 +1,7 @@
 -- The words that the proofs of this crate are said in, passed on from one place. Declares nothing.
 pub use Rattle.std.proofs.Math.Bool.{and-false}
-pub use Rattle.std.proofs.lemmas.Bool.{and_parts, cases_Bool, cases_eq, cases_lt, eq-eqb, eqb-true, le-ltb, lt-ltb, ne_eqb, or_cases, or_left, or_right, true≢false}
+pub use Rattle.std.proofs.lemmas.Bool.{and_parts, cases_Bool, cases_eq, cases_lt, eq-eqb, eqb-true, le-ltb, lt-ltb, ne_eqb, or_cases, or_left, or_right}
+pub use Rattle.std.proofs.lemmas.Bool.{true≢false}
 pub use Rattle.std.proofs.lemmas.List.{append-nil, drop_all, get_or_append_left, get_or_push, map-append, take_all, take_more}
 pub use Rattle.std.proofs.lemmas.List.Elements.{All-filter, All-head, All-nil, All-push, All-tail, filter-append}
 pub use Rattle.std.proofs.lemmas.List.Folds.{list_all-map, list_any_at}
@@ -11,8 +12,11 @@ unfoldable pub use Rattle.std.specs.List.{IsDistinct}
 pub use Rattle.abel_meaning.specs.Controls.{control_by, control_if_stored, control_of, is_control, is_the_control}
 pub use Rattle.abel_meaning.specs.Designs.{Context, Design, name_at, no_name}
 pub use Rattle.abel_meaning.specs.FormulaBits.{formulas}
-pub use Rattle.abel_meaning.specs.Functions.{both_function, function_of, is_both, is_complement, is_data_in, is_data_to, is_free_elsewhere, is_raw_signal, single_function}
-pub use Rattle.abel_meaning.specs.SignalReads.{HasNoSignalLoop, HasNoSignalPath, IsSignalLoop, IsSignalPath, function_names, given_formulas, is_one_of, is_stored_signal, leaf_by, leaf_of, names_if_any, reset_equation_reads, settles, settles_by, signal_names, signal_reads}
+pub use Rattle.abel_meaning.specs.Functions.{both_function, function_of, is_both, is_complement, is_data_in, is_data_to, is_free_elsewhere, is_raw_signal}
+pub use Rattle.abel_meaning.specs.Functions.{single_function}
+pub use Rattle.abel_meaning.specs.SignalReads.{HasNoSignalLoop, HasNoSignalPath, IsSignalLoop, IsSignalPath, function_names, given_formulas, is_one_of}
+pub use Rattle.abel_meaning.specs.SignalReads.{is_stored_signal, leaf_by, leaf_of, names_if_any, reset_equation_reads, settles, settles_by, signal_names}
+pub use Rattle.abel_meaning.specs.SignalReads.{signal_reads}
 pub use Rattle.abel_meaning.specs.SoundIds.{IsCellIn, IsControlIn, IsFunctionIn, no_pair, pair_of_cell, pair_of_pin}
 pub use Rattle.abel_tree.specs.Entries.{ANode, APin, Entry, Kind, is_stored, view_declared}
 pub use Rattle.abel_tree.specs.declared.words.Extension.{Extension}
@@ -36,6 +40,10 @@ pub use Rattle.pld_order.specs.Graphs.{HasNoLoop, HasNoPath, IsChain, IsLeastLoo
 pub use Rattle.pld_order.specs.Sets.{reads_of}
 pub use Rattle.set_expr.specs.Given.{view_contribution}
 pub use Rattle.set_expr.specs.declared.contributions.Contribution.{Contribution}
-pub use Rattle.gathering.specs.{AllLieIn, AreGiven, AreLeaves, AreLinks, AreLinksFrom, Asks, AsksBefore, AssignedHaveCells, HasNoChain, HasNoRegisterPath, IsControlGiven, IsControlPlaced, IsFirstChain, IsFunctionGiven, IsLinkOf, IsPlaced, IsRegisterPath, Stands, StartsIf, Throughout, asked_cell, bit_of, contributions_in, control_by_row, control_if, control_place, first_target, has_if_any, has_leaf, is_data_of, is_data_of_polarity, is_for, is_free_one, is_linked, is_node_kind, is_read_by, is_stored_in, is_to, leaf_in, link_reads, part_sum, reads_in, reset_names, target_place}
+pub use Rattle.gathering.specs.{AllLieIn, AreGiven, AreLeaves, AreLinks, AreLinksFrom, Asks, AsksBefore, AssignedHaveCells, HasNoChain, HasNoRegisterPath}
+pub use Rattle.gathering.specs.{IsControlGiven, IsControlPlaced, IsFirstChain, IsFunctionGiven, IsLinkOf, IsPlaced, IsRegisterPath, Stands, StartsIf}
+pub use Rattle.gathering.specs.{Throughout, asked_cell, bit_of, contributions_in, control_by_row, control_if, control_place, first_target, has_if_any, has_leaf}
+pub use Rattle.gathering.specs.{is_data_of, is_data_of_polarity, is_for, is_free_one, is_linked, is_node_kind, is_read_by, is_stored_in, is_to, leaf_in}
+pub use Rattle.gathering.specs.{link_reads, part_sum, reads_in, reset_names, target_place}
 pub use Rattle.gathering.specs.declared.link.Link.{Link}
 pub use Rattle.gathering.specs.declared.signal.Totals.{Totals}

@@ -5,7 +5,8 @@ pub use Rattle.abel_meaning.specs.Designs.{Context, Design, name_at}
 pub use Rattle.abel_meaning.specs.FormulaBits.{formulas}
 pub use Rattle.abel_meaning.specs.Functions.{function_of, is_data_in, is_data_to, is_free_elsewhere, is_raw_signal, same_gives}
 pub use Rattle.abel_meaning.specs.Netlists.{plain_control, plain_function, plain_netlist, plain_wanted}
-pub use Rattle.abel_meaning.specs.SignalReads.{HasNoSignalLoop, HasNoSignalPath, IsSignalLoop, IsSignalPath, function_names, given_formulas, leaf_by, names_if_any, settles, signal_names}
+pub use Rattle.abel_meaning.specs.SignalReads.{HasNoSignalLoop, HasNoSignalPath, IsSignalLoop, IsSignalPath, function_names, given_formulas, leaf_by}
+pub use Rattle.abel_meaning.specs.SignalReads.{names_if_any, settles, signal_names}
 pub use Rattle.abel_meaning.specs.SoundIds.{IsCellIn, IsControlIn, IsFunctionIn, no_pair, pair_of_cell, pair_of_pin}
 pub use Rattle.abel_tree.specs.Entries.{ANode, APin, Entry, Kind, entries_of, follows_q, is_stored, view_declared, view_meaning}
 pub use Rattle.abel_tree.specs.Extensions.{is_data, is_raw}

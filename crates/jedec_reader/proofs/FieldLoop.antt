@@ -1,6 +1,5 @@
 -- Fields read one after the other: those of the pieces so far, and those of the rest.
-use Rattle.std.proofs.Common.{◌≡◌, ℕ, ◌+◌, ◌-◌, ◌<◌, ◌≤◌, ◌==◌, nat_lt, List, [], ◌∷◌, ◌++◌, length, take, drop, Option, Some, None, Ok, Err, MatchOption, inl, inr, refl, sym, ◌∙◌, ap, append_assoc, arith}
-use Rattle.std.specs.Prelude.{position}
+use Rattle.std.proofs.Common.{◌≡◌, ℕ, ◌+◌, ◌-◌, ◌<◌, ◌≤◌, ◌==◌, nat_lt, List, [], ◌∷◌, ◌++◌, length, take, drop, Option, Some, None, Ok, Err, MatchOption, inl, inr, refl, sym, ◌∙◌, ap, append_assoc, arith, position}
 use Rattle.jedec_reader.proofs.Common.{position_or_len, onto_first, cases_Bool, nat_tests, append-nil, length-take, slice_split_first, slice_split_none, fails_before_first, Field, JedecFault, trimmed, pieces, field_at, no_field, fields_from, behind_design, Read, Refuses, ◌>>=◌, Table}
 use Rattle.jedec_file.specs.declared.jedec_fault.JedecFault.TheVariants as fault
 

@@ -1,6 +1,5 @@
 -- What lists of levels say of each fuse, one field more.
-use Rattle.std.proofs.Common.{◌≡◌, ℕ, ◌+◌, ◌<◌, Bool, List, [], Option, None, length, take, get_or, replicate, refl, ap, ◌∙◌, sym, arith, subst}
-use Rattle.std.specs.Prelude.{All}
+use Rattle.std.proofs.Common.{◌≡◌, ℕ, ◌+◌, ◌<◌, Bool, List, [], Option, None, length, take, get_or, replicate, refl, ap, ◌∙◌, sym, arith, subst, All}
 use Rattle.jedec_reader.proofs.Common.{option_or, get_or-replicate, length-replicate, All-get_or, fill_by_all, get_or-map-range_with_len, length-map-range_with_len, Field, last_of, level_at, Table, FieldFits, levels_said, HasPut}
 use Rattle.jedec_file.specs.declared.field.Field.TheVariants as field
 use Rattle.jedec_reader.proofs.LastOf.{more_said}

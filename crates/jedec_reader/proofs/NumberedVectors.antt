@@ -1,6 +1,5 @@
 -- Test vectors by their numbers, one field more, and all of them in order.
-use Rattle.std.proofs.Common.{◌≡◌, ℕ, zero, suc, ◌+◌, ◌-◌, ◌<◌, ◌≤◌, ◌^◌, List, [], ◌∷◌, ◌++◌, Option, Some, None, length, take, get_or, refl, ap, ◌∙◌, sym, arith, add-zero, zero-add, inl, inr}
-use Rattle.std.specs.Prelude.{All, IfSome, ◌==◌, if◌then◌else◌, map, option_map, unwrap_or, filter_map, nat_lt}
+use Rattle.std.proofs.Common.{◌≡◌, ℕ, zero, suc, ◌+◌, ◌-◌, ◌<◌, ◌≤◌, ◌^◌, List, [], ◌∷◌, ◌++◌, Option, Some, None, length, take, get_or, refl, ap, ◌∙◌, sym, arith, add-zero, zero-add, inl, inr, All, IfSome, ◌==◌, if◌then◌else◌, map, option_map, unwrap_or, filter_map, nat_lt}
 use Rattle.jedec_reader.proofs.Common.{range_with_len, position_or_len, cons_option, option_or, cases_Bool, ltb-true, ne_eqb, append-nil, ext_get_or, get_or_past, get_or-take, length-take, All-cons, filter_map-append, get_or-map-range_with_len, length-map-range_with_len, Vector, Field, last_of, vector_at, order_of, by_pins, vectors_of, Table, chars_of, all_chars, IsPadded, FieldFits, ArePlaces, AreWithin, HasPutVector, HasVectors, IsPlaced, place_of, present}
 use Rattle.jedec_file.specs.declared.field.Field.TheVariants as field
 use Rattle.jedec_reader.proofs.LastOf.{last_of_more}

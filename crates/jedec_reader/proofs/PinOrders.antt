@@ -1,6 +1,5 @@
 -- The places of pins, step by step.
-use Rattle.std.proofs.Common.{◌≡◌, ℕ, zero, suc, ◌+◌, ◌<◌, ◌≤◌, List, [], ◌∷◌, Option, Some, None, length, take, get_or, refl, ap, ◌∙◌, sym, arith, Bool, true, false}
-use Rattle.std.specs.Prelude.{unwrap_or, All, ◌&&◌, ◌==◌}
+use Rattle.std.proofs.Common.{◌≡◌, ℕ, zero, suc, ◌+◌, ◌<◌, ◌≤◌, List, [], ◌∷◌, Option, Some, None, length, take, get_or, refl, ap, ◌∙◌, sym, arith, Bool, true, false, unwrap_or, All, ◌&&◌, ◌==◌}
 use Rattle.jedec_reader.proofs.Common.{list_all, eqb-true, length-range_with_len, range_with_len, option_or, Field, is_among, is_each_pin, last_of, pin_order, order_of, Table, FieldFits}
 use Rattle.jedec_file.specs.declared.field.Field.TheVariants as field
 use Rattle.jedec_reader.proofs.LastOf.{last_of_more}

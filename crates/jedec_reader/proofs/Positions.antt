@@ -1,6 +1,5 @@
 -- The first place that passes a test, as a loop from the front finds it.
-use Rattle.std.proofs.Common.{◌≡◌, ℕ, ◌<◌, Bool, true, false, List, length, get_or, Some, None, refl, arith}
-use Rattle.std.specs.Prelude.{position}
+use Rattle.std.proofs.Common.{◌≡◌, ℕ, ◌<◌, Bool, true, false, List, length, get_or, Some, None, refl, arith, position}
 use Rattle.jedec_reader.proofs.Common.{position_or_len, lt-ltb, le-ltb, position_or_len_is}
 
 pub position_found : {X : Type 0} (p : X → Bool) (xs : List X) (i : ℕ) (d : X) → i < length xs → p (get_or xs i d) ≡ true

@@ -1,6 +1,5 @@
 -- The steps from fields to the file, as the code takes them.
-use Rattle.std.proofs.Common.{◌≡◌, ℕ, ◌+◌, ◌≤◌, Bool, true, false, List, [], ◌∷◌, Option, Some, None, Result, Ok, Err, length, take, get_or, refl, ap, ◌∙◌, sym, arith, inl, inr}
-use Rattle.std.specs.Prelude.{IfOk, IfErr, ◌==◌, ◌&&◌, ◌||◌, if◌then◌else◌, nat_lt, is_none, map, position, unwrap_or}
+use Rattle.std.proofs.Common.{◌≡◌, ℕ, ◌+◌, ◌≤◌, Bool, true, false, List, [], ◌∷◌, Option, Some, None, Result, Ok, Err, length, take, get_or, refl, ap, ◌∙◌, sym, arith, inl, inr, IfOk, IfErr, ◌==◌, ◌&&◌, ◌||◌, if◌then◌else◌, nat_lt, is_none, map, position, unwrap_or}
 use Rattle.jedec_reader.proofs.Common.{position_or_len, range_with_len, eqb-true, cases_Bool, length-map, fill_by_all, get_or-map-range_with_len, length-map-range_with_len, take-map-range_with_len, Field, JedecFault, last_of, fuse_count, pin_count, default_fuse, level_at, sum_said, default_test, size_of, default_of, none_unlisted, fuses_said, fuse_sum_read, sum_agrees, vectors_of, contents_of, Read, Refuses, Gives, Table, levels_said, default_in, filled, size_fits}
 use Rattle.jedec_file.specs.declared.jedec_fault.JedecFault.TheVariants as fault
 use Rattle.jedec_file.specs.FuseSums.{fuse_sum_of}

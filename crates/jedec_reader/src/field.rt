@@ -1,7 +1,6 @@
 //! What one field says.
 
-ghost use Rattle.std.specs.Prelude.{◌≡◌, if◌then◌else◌, true, Some, None, IfOk, option_map};
-ghost use Rattle.std.specs.Prelude.{option_and_then};
+ghost use Rattle.std.specs.Prelude.{◌≡◌, if◌then◌else◌, true, Some, None, IfOk, option_map, option_and_then};
 ghost use Rattle.jedec_reader.specs.Prelude.{all_ascii_digits, four_hex_value};
 ghost use Rattle.std.specs.Str.Parse.{digits_value};
 ghost use Rattle.jedec_file.specs.Fields as fields;

@@ -1,7 +1,6 @@
 //! The fields of a fuse file, one after another.
 
-ghost use Rattle.std.specs.Prelude.{◌≡◌, ◌+◌, ◌^◌, ◌<◌, ◌-◌, ◌∷◌, [], IfOk, IfSome, MatchOption};
-ghost use Rattle.std.specs.Prelude.{All, length, take, drop};
+ghost use Rattle.std.specs.Prelude.{◌≡◌, ◌+◌, ◌^◌, ◌<◌, ◌-◌, ◌∷◌, [], IfOk, IfSome, MatchOption, All, length, take, drop};
 ghost use Rattle.jedec_file.specs.FieldLists as lists;
 ghost use Rattle.jedec_reader.specs.Prelude.{trimmed, Gives};
 ghost use Rattle.jedec_reader.specs.FieldFits.{FieldFits};

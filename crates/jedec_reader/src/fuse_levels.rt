@@ -1,7 +1,6 @@
 //! The levels of all fuses, from a table of those that lists say.
 
-ghost use Rattle.std.specs.Prelude.{◌≡◌, ◌<◌, ◌^◌, false, nat_lt, if◌then◌else◌, unwrap_or};
-ghost use Rattle.std.specs.Prelude.{length, position, is_none, IfOk};
+ghost use Rattle.std.specs.Prelude.{◌≡◌, ◌<◌, ◌^◌, false, nat_lt, if◌then◌else◌, unwrap_or, length, position, is_none, IfOk};
 ghost use Rattle.jedec_reader.specs.Prelude.{Gives};
 ghost use Rattle.jedec_reader.specs.LevelTable.{default_in, filled};
 

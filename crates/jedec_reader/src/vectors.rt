@@ -4,8 +4,7 @@ ghost use Rattle.std.specs.Prelude.{◌≡◌, ◌≤◌, ◌^◌, length, IfOk,
 ghost use Rattle.jedec_reader.specs.Prelude.{order_of, vectors_of, all_chars};
 ghost use Rattle.jedec_reader.specs.Contents.{IsPadded};
 ghost use Rattle.jedec_reader.specs.FieldFits.{FieldFits};
-ghost use Rattle.jedec_reader.specs.VectorTable.{ArePlaces, AreWithin, IsPlaced};
-ghost use Rattle.jedec_reader.specs.VectorTable.{HasPutVector, HasVectors, present};
+ghost use Rattle.jedec_reader.specs.VectorTable.{ArePlaces, AreWithin, IsPlaced, HasPutVector, HasVectors, present};
 
 use crate::pin_order::places;
 use jedec_file::Field;

@@ -1,7 +1,6 @@
 //! The words of a field, which blanks part, and what one of them says.
 
-ghost use Rattle.std.specs.Prelude.{◌≡◌, ◌+◌, ◌^◌, ◌<◌, ◌≤◌, ◌∷◌, [], ⊤, length, option_and_then};
-ghost use Rattle.std.specs.Prelude.{option_map, MatchOption};
+ghost use Rattle.std.specs.Prelude.{◌≡◌, ◌+◌, ◌^◌, ◌<◌, ◌≤◌, ◌∷◌, [], ⊤, length, option_and_then, option_map, MatchOption};
 ghost use Rattle.jedec_reader.specs.Prelude.{position_or_len, all_ascii_digits};
 ghost use Rattle.jedec_file.specs.Fields as fields;
 ghost use Rattle.jedec_file.specs.Frame as frame;

@@ -1,6 +1,5 @@
 -- The number after the last control fuse, one entry or one list more at a time.
-use Rattle.std.proofs.Common.{◌≡◌, ℕ, zero, suc, ◌<◌, ◌≤◌, List, [], ◌∷◌, ◌++◌, map, drop, slice_get, All, None, Some, refl, sym, ap, ◌∙◌, arith}
-use Rattle.std.specs.Prelude.{max}
+use Rattle.std.proofs.Common.{◌≡◌, ℕ, zero, suc, ◌<◌, ◌≤◌, List, [], ◌∷◌, ◌++◌, map, drop, slice_get, All, None, Some, refl, sym, ap, ◌∙◌, arith, max}
 use Rattle.jedec_writer.proofs.Common.{nat_tests, FuseBit, Table, IsDevice, past, control_fuses, fuses_named}
 use Rattle.std.proofs.Math.Nat.{zero-max, max-zero}
 use Rattle.std.proofs.Math.Seq.{drop-nil}

@@ -1,6 +1,5 @@
 -- The text between the start and end bytes of a file is found, with its sum.
-use Rattle.std.proofs.Common.{◌≡◌, ℕ, ◌+◌, ◌%◌, ◌^◌, ◌<◌, true, List, [], ◌∷◌, ◌++◌, length, take, drop, Ok, refl, ap, ◌∙◌, arith, append_assoc, length-append}
-use Rattle.std.specs.Prelude.{◌==◌, sum}
+use Rattle.std.proofs.Common.{◌≡◌, ℕ, ◌+◌, ◌%◌, ◌^◌, ◌<◌, true, List, [], ◌∷◌, ◌++◌, length, take, drop, Ok, refl, ap, ◌∙◌, arith, append_assoc, length-append, ◌==◌, sum}
 use Rattle.jedec_writer.proofs.Common.{list_all, position_or_len, and_parts, not-true, lt-ltb, eq-eqb, take_at, drop_at, STX, ETX, four_hex, start_of, length_of, sum_at, check_sum, frame_of, with_sum}
 use Rattle.jedec_writer.proofs.Numerals.{four_hex_value-four_hex}
 use Rattle.jedec_writer.proofs.SaidBack.{is_inner}

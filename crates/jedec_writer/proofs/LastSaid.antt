@@ -1,6 +1,5 @@
 -- What the fields of the canonical file say last.
-use Rattle.std.proofs.Common.{◌≡◌, ℕ, zero, suc, ◌+◌, ◌*◌, Bool, false, List, [], ◌∷◌, ◌++◌, Option, Some, None, refl, sym, ap, ◌∙◌, inl, inr}
-use Rattle.std.specs.Prelude.{slice_range, unwrap_or}
+use Rattle.std.proofs.Common.{◌≡◌, ℕ, zero, suc, ◌+◌, ◌*◌, Bool, false, List, [], ◌∷◌, ◌++◌, Option, Some, None, refl, sym, ap, ◌∙◌, inl, inr, slice_range, unwrap_or}
 use Rattle.jedec_writer.proofs.Common.{list_any, cases_Bool, Field, Table, fuse_sum_of, control_levels, last_of, fuse_count, pin_count, default_fuse, sum_said, default_test, pin_order, vector_at}
 use Rattle.std.specs.Option.{option_or}
 use Rattle.jedec_file.specs.declared.field.Field.TheVariants as field

@@ -1,6 +1,5 @@
 -- What the fields of the canonical file say of each fuse.
-use Rattle.std.proofs.Common.{◌≡◌, ℕ, zero, suc, ◌+◌, ◌-◌, ◌*◌, ◌<◌, ◌≤◌, Bool, false, if◌then◌else◌, List, [], ◌∷◌, ◌++◌, length, drop, get_or, None, refl, sym, ap, subst, ◌∙◌, arith, inl, inr, length-drop}
-use Rattle.std.specs.Prelude.{slice_range, unwrap_or, nat_lt}
+use Rattle.std.proofs.Common.{◌≡◌, ℕ, zero, suc, ◌+◌, ◌-◌, ◌*◌, ◌<◌, ◌≤◌, Bool, false, if◌then◌else◌, List, [], ◌∷◌, ◌++◌, length, drop, get_or, None, refl, sym, ap, subst, ◌∙◌, arith, inl, inr, length-drop, slice_range, unwrap_or, nat_lt}
 use Rattle.jedec_writer.proofs.Common.{list_any, All, cases_Bool, cases_lt, le-leb, lt-leb, lt-ltb, le-ltb, or_parts, nat_tests, get_or-take, get_or-drop, length-take-le, All-head, All-tail, All-weaker, fill_by_all, Field, Table, IsDevice, IsControlFuse, control_levels, past, lines_end, IsIntactPastLines, control_fuses, fuse_sum_of, last_of, level_at, fuses_said}
 use Rattle.std.proofs.lemmas.Option.{slice_get-get_or, slice_get_past}
 use Rattle.jedec_file.specs.declared.field.Field.TheVariants as field

@@ -1,6 +1,5 @@
 -- What the lines of the canonical file say, from the one of pins to the last vector's.
-use Rattle.std.proofs.Common.{◌≡◌, ℕ, zero, suc, ◌+◌, ◌-◌, ◌*◌, ◌^◌, ◌<◌, ◌≤◌, Bool, true, false, if◌then◌else◌, List, [], ◌∷◌, ◌++◌, length, map, drop, refl, arith, inl, inr}
-use Rattle.std.specs.Prelude.{codes, slice_range}
+use Rattle.std.proofs.Common.{◌≡◌, ℕ, zero, suc, ◌+◌, ◌-◌, ◌*◌, ◌^◌, ◌<◌, ◌≤◌, Bool, true, false, if◌then◌else◌, List, [], ◌∷◌, ◌++◌, length, map, drop, refl, arith, inl, inr, codes, slice_range}
 use Rattle.jedec_writer.proofs.Common.{list_all, list_any, All, decimal, cases_Bool, length-take, length-drop, All-head, All-tail, Field, Table, space, four_digits, four_hex, level_char, line, is_test_char, levels_line, row_lines, control_line, line_with, vector_lines, control_levels, past, control_fuses}
 use Rattle.jedec_file.specs.declared.field.Field.TheVariants as field
 use Rattle.jedec_writer.proofs.Words.{IsWord, is_plain, word_is_plain, both_pass}

@@ -1,6 +1,5 @@
 -- The canonical file, read as a fuse file, says just the fuses and vectors that were written.
-use Rattle.std.proofs.Common.{◌≡◌, ℕ, ◌*◌, ◌≤◌, Bool, false, List, length, take, get_or, Ok, refl, arith}
-use Rattle.std.specs.Prelude.{unwrap_or}
+use Rattle.std.proofs.Common.{◌≡◌, ℕ, ◌*◌, ◌≤◌, Bool, false, List, length, take, get_or, Ok, refl, arith, unwrap_or}
 use Rattle.jedec_writer.proofs.Common.{All, eq-eqb, take_all, length-take-le, length-map, All-map, Vector, Field, Table, IsDevice, IsIntactPastLines, fuse_sum_of, IsTestVector, all_chars, chars_of, IsPlainName, canonical_file, Framed, frame_of, fields_of, FuseFile, last_of, default_test, size_of, default_of, fuses_said, fuse_sum_read, vectors_of, contents_of, file_of}
 use Rattle.jedec_writer.proofs.LinesRead.{IsVectorText}
 use Rattle.jedec_writer.proofs.TextRead.{written_fields, written_text, lines_say, text_found, fields_found}

@@ -1,6 +1,5 @@
 -- Parts of a fuse file's text that are read as fields, one behind another.
-use Rattle.std.proofs.Common.{◌≡◌, ℕ, ◌+◌, Bool, true, false, not, ◌&&◌, List, [], ◌∷◌, ◌++◌, length, Some, Ok, refl, sym, ap, ◌∙◌, subst, arith, append-nil, append_assoc}
-use Rattle.std.specs.Prelude.{◌==◌, codes}
+use Rattle.std.proofs.Common.{◌≡◌, ℕ, ◌+◌, Bool, true, false, not, ◌&&◌, List, [], ◌∷◌, ◌++◌, length, Some, Ok, refl, sym, ap, ◌∙◌, subst, arith, append-nil, append_assoc, ◌==◌, codes}
 use Rattle.jedec_writer.proofs.Common.{list_all, onto_first, All, and_parts, not-true, nat_tests, slice_split_at, All-nil, All-cons, Field, Table, line, is_blank, field_of, pieces, field_at, no_field, fields_from, behind_design, fields_of}
 use Rattle.jedec_writer.proofs.Words.{is_plain, both_pass}
 

@@ -1,6 +1,5 @@
 -- The canonical file's text is found in it, and read as the fields that were written.
-use Rattle.std.proofs.Common.{◌≡◌, ℕ, ◌*◌, ◌^◌, ◌<◌, ◌≤◌, Bool, true, false, List, [], ◌∷◌, ◌++◌, length, Ok, refl, ap, ◌∙◌, arith, append_assoc}
-use Rattle.std.specs.Prelude.{codes}
+use Rattle.std.proofs.Common.{◌≡◌, ℕ, ◌*◌, ◌^◌, ◌<◌, ◌≤◌, Bool, true, false, List, [], ◌∷◌, ◌++◌, length, Ok, refl, ap, ◌∙◌, arith, append_assoc, codes}
 use Rattle.jedec_writer.proofs.Common.{list_all, All, decimal, Field, Table, STX, ETX, space, four_hex, line, fuse_sum_of, control_levels, row_lines, control_line, line_with, vector_lines, canonical_body, canonical_file, with_sum, IsPlainName, IsDevice, frame_of, fields_of}
 use Rattle.pld_base.specs.declared.device_name.DeviceName.{DeviceName}
 use Rattle.pld_base.specs.DeviceNames.{device_text}

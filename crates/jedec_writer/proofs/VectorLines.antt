@@ -1,6 +1,5 @@
 -- The lines of the vectors, one more at a time.
-use Rattle.std.proofs.Common.{◌≡◌, ℕ, suc, ◌+◌, ◌<◌, List, ◌∷◌, ◌++◌, length, drop, get_or, sym, ap, ◌∙◌, add-one, append_assoc}
-use Rattle.std.specs.Prelude.{codes}
+use Rattle.std.proofs.Common.{◌≡◌, ℕ, suc, ◌+◌, ◌<◌, List, ◌∷◌, ◌++◌, length, drop, get_or, sym, ap, ◌∙◌, add-one, append_assoc, codes}
 use Rattle.jedec_writer.proofs.Common.{drop_more, Vector, Table, four_digits, line, space, all_chars, chars_of, vector_lines}
 
 -- the line of a vector and those of the vectors behind it, which begin with its own

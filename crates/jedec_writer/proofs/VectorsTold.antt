@@ -1,6 +1,5 @@
 -- What the fields of the canonical file say of the vectors.
-use Rattle.std.proofs.Common.{◌≡◌, ℕ, zero, suc, ◌+◌, ◌-◌, ◌<◌, ◌≤◌, Bool, List, [], ◌∷◌, length, map, get_or, Option, Some, None, refl, sym, ap, ◌∙◌, arith, inl, inr, add-one}
-use Rattle.std.specs.Prelude.{◌==◌, unwrap_or, position, filter_map}
+use Rattle.std.proofs.Common.{◌≡◌, ℕ, zero, suc, ◌+◌, ◌-◌, ◌<◌, ◌≤◌, Bool, List, [], ◌∷◌, length, map, get_or, Option, Some, None, refl, sym, ap, ◌∙◌, arith, inl, inr, add-one, ◌==◌, unwrap_or, position, filter_map}
 use Rattle.jedec_writer.proofs.Common.{range_with_len, position_or_len, All, cons_option, cases_eq, eq-eqb, ne_eqb, lt-ltb, ext_get_or, All-head, All-tail, length-range_with_len, length-map-range_with_len, get_or-map-range_with_len, Table, last_of, vector_at, order_of, by_pins, vectors_of}
 use Rattle.jedec_writer.proofs.LinesRead.{IsVectorText, vector_fields}
 use Rattle.jedec_writer.proofs.TextRead.{written_fields}

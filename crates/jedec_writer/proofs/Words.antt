@@ -1,6 +1,5 @@
 -- The words of a field's text, where a blank parts them.
-use Rattle.std.proofs.Common.{◌≡◌, ℕ, Bool, true, false, not, ◌||◌, List, [], ◌∷◌, ◌++◌, refl, ◌∙◌, arith}
-use Rattle.std.specs.Prelude.{◌==◌, nat_lt}
+use Rattle.std.proofs.Common.{◌≡◌, ℕ, Bool, true, false, not, ◌||◌, List, [], ◌∷◌, ◌++◌, refl, ◌∙◌, arith, ◌==◌, nat_lt}
 use Rattle.jedec_writer.proofs.Common.{list_all, slice_split, All, and_parts, and_from, nat_tests, slice_split_none, slice_split_at, All-nil, All-cons, ETX, space, is_blank, has_bytes, words}
 use Rattle.std.proofs.lemmas.List.Folds.{list_all-append}
 

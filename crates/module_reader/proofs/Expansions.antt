@@ -1,6 +1,5 @@
 -- An expansion ends or is refused, and is refused once: where a turn is refused, every later one leaves all as it is.
-use Rattle.std.proofs.Common.{◌≡◌, ℕ, zero, suc, ◌+◌, ◌-◌, ◌≤◌, inl, inr, List, Result, Ok, Err, refl, sym, ap, subst, ◌∙◌, arith}
-use Rattle.std.specs.Prelude.{◌≢◌}
+use Rattle.std.proofs.Common.{◌≡◌, ℕ, zero, suc, ◌+◌, ◌-◌, ◌≤◌, inl, inr, List, Result, Ok, Err, refl, sym, ap, subst, ◌∙◌, arith, ◌≢◌}
 use Rattle.module_reader.proofs.Common.{cases_lt, Place, place_past, first_place, Cause, TooLong, ExpansionLimit, BadDirective, Unsupported, Config, turn, turned, after, IsExpanded, IsRefusal}
 use Rattle.abel_expand.specs.declared.fault.ExpandFault.{ExpandFault}
 use Rattle.abel_expand.specs.declared.fault.ExpandFault.TheVariants as fault

@@ -1,6 +1,5 @@
 -- Fitted cells read only cells of lower rank among the netlist's signals, so none reads itself through others.
-use Rattle.std.proofs.Common.{◌≡◌, ℕ, ◌+◌, ◌<◌, ◌≤◌, Bool, true, false, not, ◌&&◌, ◌||◌, List, length, Option, Some, None, refl, ap, sym, ◌∙◌, arith, inl, inr}
-use Rattle.std.specs.Prelude.{unwrap_or}
+use Rattle.std.proofs.Common.{◌≡◌, ℕ, ◌+◌, ◌<◌, ◌≤◌, Bool, true, false, not, ◌&&◌, ◌||◌, List, length, Option, Some, None, refl, ap, sym, ◌∙◌, arith, inl, inr, unwrap_or}
 use Rattle.netlist_laws.proofs.Common.{list_any, cases_lt, and_parts, or_cases, or_left, or_right, true≢false, not-true, Enable, Row, PinLow, Table, cell_at, no_cell, IsDevice, enables_never, never_drives, data_rows, stores, HasNoLoop, row_reads_cell, enable_reads, data_reads, rest_reads, cell_reads, one_of, Leaf, Formula, Const, names, Wanted, PlainNetlist, node_at, wanted_at, enable_of, names_if_any, function_names, cell_names, netlist_names, netlist_waits, signal_count, IsReadable, IsSoundFormula, IsSound, IsFittedEnable, IsFittedCell, IsSpareCell, IsFittedAs, IsFitted, Ranked, no_loop_by_rank}
 use Rattle.pld_device.specs.declared.carry.Carry.TheVariants as carry
 use Rattle.bit_expr.specs.declared.node.Leaf.TheVariants as leaf

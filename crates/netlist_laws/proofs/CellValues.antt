@@ -1,6 +1,5 @@
 -- What a fitted cell drives, releases and stores, at a point whose nodes are valued.
-use Rattle.std.proofs.Common.{◌≡◌, ◌≢◌, ℕ, ◌<◌, Bool, true, false, not, ◌&&◌, ◌||◌, if◌then◌else◌, List, [], ◌∷◌, length, map, Option, Some, None, refl, ap, sym, ◌∙◌, subst, inl, inr}
-use Rattle.std.specs.Prelude.{IsSome, unwrap_or}
+use Rattle.std.proofs.Common.{◌≡◌, ◌≢◌, ℕ, ◌<◌, Bool, true, false, not, ◌&&◌, ◌||◌, if◌then◌else◌, List, [], ◌∷◌, length, map, Option, Some, None, refl, ap, sym, ◌∙◌, subst, inl, inr, IsSome, unwrap_or}
 use Rattle.netlist_laws.proofs.Common.{list_any, cases_Bool, or_left, true≢false, is_on, same_level, Levels, Carry, Enable, Row, PinLow, Flip, IsDevice, data_rows, or_value, enabled_by, is_enabled, complement_if, pin_complements, data_complements, pin_level, next_q, row_if_any, stores, is_inverted, carried, columns_of, row_fuses, is_switched_on, row_is_true, row_value, Table, cell_at, no_cell, any_none, Formula, formula_value, Wanted, PlainNetlist, wanted_at, as_named, own_of, shared_function, own_or_shared, function_at, allows, registers_as, netlist_stores, enable_of, drives, may_drive, may_store, IsValuedFor, IsValuedOfFor, IsExactRow, IsSoundShared, IsSoundCell, IsSound, or_complements, or_may_be, IsFittedEnable, IsFittedCell, IsSpareCell, IsFittedAs, IsFittedShared, AreShared, IsFitted}
 use Rattle.pld_device.specs.declared.carry.Carry.TheVariants as carry
 use Rattle.pld_device.specs.declared.flip.Flip.TheVariants.{Always, AfterRegister, BeforeRegister}

@@ -1,6 +1,5 @@
 -- What the netlist of a design asks of a cell is what the signal asks that is assigned on it.
-use Rattle.std.proofs.Common.{◌≡◌, ℕ, zero, suc, ◌+◌, ◌<◌, Bool, true, false, ◌==◌, ◌&&◌, eqb, cond, List, [], ◌∷◌, length, get_or, Option, Some, None, refl, sym, ap, ◌∙◌, inl, inr, arith}
-use Rattle.std.specs.Prelude.{find, position, if◌then◌else◌}
+use Rattle.std.proofs.Common.{◌≡◌, ℕ, zero, suc, ◌+◌, ◌<◌, Bool, true, false, ◌==◌, ◌&&◌, eqb, cond, List, [], ◌∷◌, length, get_or, Option, Some, None, refl, sym, ap, ◌∙◌, inl, inr, arith, find, position, if◌then◌else◌}
 use Rattle.netlist_laws.proofs.Common.{position_from, option_map, cases_Bool, eqb-true, eqb-false, eq-eqb, ne_eqb, position-Some, Cell, IsDevice, Table, cell_at, no_cell, own_pins, Formula, Kind, APin, ANode, AConstant, ADeviceName, Entry, cell_on, Contribution, is_pin, signal_on, Context, name_at, no_name, Wanted, wanted_at, wanted_for, cell_by, cell_of, and_cell, cells_from, gathered_from}
 use Rattle.std.proofs.lemmas.Iterator.Adapters.{position_from-zero}
 

@@ -1,6 +1,5 @@
 -- The cells of an exchanged netlist by their numbers, and the controls that they share.
-use Rattle.std.proofs.Common.{◌≡◌, ℕ, Bool, false, ◌==◌, List, [], ◌∷◌, map, Option, None, Some, refl, ap, ◌∙◌, inl, inr}
-use Rattle.std.specs.Prelude.{find, is_some, nat_lt, unwrap_or}
+use Rattle.std.proofs.Common.{◌≡◌, ℕ, Bool, false, ◌==◌, List, [], ◌∷◌, map, Option, None, Some, refl, ap, ◌∙◌, inl, inr, find, is_some, nat_lt, unwrap_or}
 use Rattle.netlist_laws.proofs.Common.{option_map, cases_Bool, Kinds, Table, cell_at, Const, Formula, PlainNetlist, Wanted, earlier_name, first_with, own_of, own_or_shared, shared_function, wanted_at, netlist_stores, registers_as, formula_exchanged, netlist_exchanged, wanted_exchanged}
 
 found_exchanged : (x : ℕ → Bool) (c : ℕ) (ws : List Wanted) → find (λ (w : Wanted). w.cell == c) (map (wanted_exchanged x) ws) ≡ option_map (wanted_exchanged x) (find (λ (w : Wanted). w.cell == c) ws)

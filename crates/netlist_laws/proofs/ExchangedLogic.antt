@@ -1,6 +1,5 @@
 -- An exchanged netlist allows what the netlist's logic allows with the same cells exchanged.
-use Rattle.std.proofs.Common.{◌≡◌, ℕ, ◌<◌, Bool, true, false, not, length, Option, None, Some, refl, sym, ap, ◌∙◌, inl, inr, arith}
-use Rattle.std.specs.Prelude.{find, if◌then◌else◌, nat_lt, unwrap_or, List, [], ◌∷◌, ◌==◌}
+use Rattle.std.proofs.Common.{◌≡◌, ℕ, ◌<◌, Bool, true, false, not, length, Option, None, Some, refl, sym, ap, ◌∙◌, inl, inr, arith, find, if◌then◌else◌, nat_lt, unwrap_or, List, [], ◌∷◌, ◌==◌}
 use Rattle.netlist_laws.proofs.Common.{option_map, cases_Bool, eqb-true, length-map, is_on, same_level, IsPoint, Levels, Enable, PinLow, Row, IsDevice, complement_if, Table, cell_at, Refines, AllowsAt, Const, Formula, formula_value, Function, allows, value_with_any_0, PlainNetlist, Wanted, as_named, function_at, node_at, own_or_shared, wanted_at, drives, may_drive, may_store, netlist_logic, netlist_stores, registers_as, exchanged, exchanged_at, in_sense, ExchangedMeansSo, MayExchangeIn, formula_exchanged, function_exchanged, netlist_exchanged, wanted_exchanged}
 use Rattle.netlist_laws.proofs.ExchangedCells.{own_or_shared_exchanged, stores_exchanged, wanted_at_exchanged}
 use Rattle.netlist_laws.proofs.ExchangedFormulas.{function_value_exchanged, node_exchanged, q_at, value_exchanged}

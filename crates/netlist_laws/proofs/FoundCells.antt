@@ -1,6 +1,5 @@
 -- What is found of the cells of a netlist has what all of them have.
-use Rattle.std.proofs.Common.{◌≡◌, ℕ, ◌==◌, List, [], ◌∷◌, Some, inl, inr, subst}
-use Rattle.std.specs.Prelude.{find}
+use Rattle.std.proofs.Common.{◌≡◌, ℕ, ◌==◌, List, [], ◌∷◌, Some, inl, inr, subst, find}
 use Rattle.netlist_laws.proofs.Common.{All, cases_Bool, eqb-true, All-head, All-tail, same_Some, Wanted}
 
 -- what is found passes the test, and has what all have

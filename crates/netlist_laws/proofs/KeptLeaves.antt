@@ -1,6 +1,5 @@
 -- What the functions and controls that the netlist has name is read by contributions that it has.
-use Rattle.std.proofs.Common.{◌≡◌, ℕ, suc, Bool, true, false, ◌==◌, ◌&&◌, List, [], ◌∷◌, map, slice_get, Option, Some, None, refl, sym, subst, inl, inr}
-use Rattle.std.specs.Prelude.{filter, fold, if◌then◌else◌}
+use Rattle.std.proofs.Common.{◌≡◌, ℕ, suc, Bool, true, false, ◌==◌, ◌&&◌, List, [], ◌∷◌, map, slice_get, Option, Some, None, refl, sym, subst, inl, inr, filter, fold, if◌then◌else◌}
 use Rattle.netlist_laws.proofs.Common.{cases_Bool, and_parts, same_level, Leaf, make_not, make_or, Formula, Const, Extension, Gives, One, Any, Match, Contribution, is_the_control, is_control, control_by, control_of, Design, seen, formulas, is_data_to, same_gives, some_holds, gives_some, is_free_elsewhere, is_data_in, is_both, gives_in, any_against, both_function, single_function, function_of, given_formulas, SignalUse, given_uses, uses_read, is_kept}
 use Rattle.abel_tree.specs.declared.words.Extension.TheVariants as extension
 use Rattle.abel_tree.specs.Extensions.{is_data}

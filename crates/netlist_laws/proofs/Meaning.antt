@@ -1,6 +1,5 @@
 -- The netlist of a module and the module allow the same at every point, and value the nodes alike.
-use Rattle.std.proofs.Common.{◌≡◌, ℕ, ◌<◌, Bool, true, false, not, List, [], ◌∷◌, map, length, Option, Some, None, refl, sym, ap, ap₂, ◌∙◌, inl, inr}
-use Rattle.std.specs.Prelude.{is_some, unwrap_or, nat_lt, if◌then◌else◌}
+use Rattle.std.proofs.Common.{◌≡◌, ℕ, ◌<◌, Bool, true, false, not, List, [], ◌∷◌, map, length, Option, Some, None, refl, sym, ap, ap₂, ◌∙◌, inl, inr, is_some, unwrap_or, nat_lt, if◌then◌else◌}
 use Rattle.netlist_laws.proofs.Common.{option_map, cases_Bool, Levels, Refines, SameCells, AllowsAt, Enable, Row, PinLow, Kinds, Combinational, Registered, Either, IsDevice, complement_if, stores_by, Table, cell_at, no_cell, Formula, Const, formula_value, Extension, Entry, is_stored, follows_q, ModuleTree, truth_at, given_at, Contribution, signal_on, must_register, cell_stores_for, cell_stores, cell_enabled_by, control_of, control_if_stored, shared_control, register_control, is_free_signal, Design, design_of, name_at, seen, formulas, Function, function_of, is_raw_signal, allows, value_with_any_0, Wanted, node_at, wanted_at, no_function, function_at, as_named, own_of, shared_function, own_or_shared, registers_as, netlist_stores, drives, may_drive, may_store, netlist_logic, netlist_values, given_formulas, is_negated, pin_allows, next_allows, q_complements, node_signal, node_allows, node_value_by, source_logic, source_values, formulas_have_values, formula_function, formula_control, MeansTheSame, is_free_wanted, GatheredMeansTheSame, by_row, wanted_for, gathered, netlist_of, RegistersHaveCells}
 use Rattle.abel_tree.specs.declared.words.Extension.TheVariants as extension
 use Rattle.netlist_laws.proofs.CellsFound.{wanted_found}

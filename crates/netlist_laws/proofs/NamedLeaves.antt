@@ -1,6 +1,5 @@
 -- Formulas made of formulas that name certain leaves alone name those alone.
-use Rattle.std.proofs.Common.{◌≡◌, ℕ, zero, suc, Bool, true, false, not, ◌||◌, List, [], ◌∷◌, ◌++◌, inl, inr}
-use Rattle.std.specs.Prelude.{map, reverse, replicate}
+use Rattle.std.proofs.Common.{◌≡◌, ℕ, zero, suc, Bool, true, false, not, ◌||◌, List, [], ◌∷◌, ◌++◌, inl, inr, map, reverse, replicate}
 use Rattle.netlist_laws.proofs.Common.{or_cases, reverse-append, Leaf, Formula, Const, Not, names, make_not, make_and, make_or, make_xor}
 
 module _ (P : Leaf → Type 0) where

@@ -1,6 +1,5 @@
 -- The bits of operators over words that name certain leaves alone name those alone.
-use Rattle.std.proofs.Common.{ℕ, zero, suc, Bool, true, false, List, [], ◌∷◌}
-use Rattle.std.specs.Prelude.{map, reverse}
+use Rattle.std.proofs.Common.{ℕ, zero, suc, Bool, true, false, List, [], ◌∷◌, map, reverse}
 use Rattle.netlist_laws.proofs.Common.{Leaf, Formula, Const, Made, make_not, make_and, make_or, make_xor, resized, met_by, met_word, kept_bits, operator_word, binary_word, Shape, Number, Single, Set, Value, width_of, met_unknown, either_unknown, digits_low_first}
 use Rattle.abel_tree.specs.declared.words.Binary.{Binary}
 use Rattle.abel_tree.specs.declared.words.Binary.TheVariants as binary

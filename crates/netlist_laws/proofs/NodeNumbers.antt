@@ -1,6 +1,5 @@
 -- The nodes of a module are numbered in the order of their declarations, from 0.
-use Rattle.std.proofs.Common.{◌≡◌, ℕ, suc, ◌+◌, List, [], ◌∷◌, ◌++◌, length, refl, ◌∙◌, subst, arith}
-use Rattle.std.specs.Prelude.{map, zip, fold}
+use Rattle.std.proofs.Common.{◌≡◌, ℕ, suc, ◌+◌, List, [], ◌∷◌, ◌++◌, length, refl, ◌∙◌, subst, arith, map, zip, fold}
 use Rattle.netlist_laws.proofs.Common.{Kind, APin, ANode, AConstant, ADeviceName, Entry, Words, Tree, Declaration, ADevice, SomePins, SomeNodes, SomeAttributes, SomeConstants, SomeOptions, DontCareFor, ModuleTree, Flip, Table}
 use Rattle.abel_tree.specs.declared.words.Word.{Word}
 use Rattle.abel_tree.specs.Assigned.{Assigned, named_of, sections_assign}

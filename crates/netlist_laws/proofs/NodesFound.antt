@@ -1,6 +1,5 @@
 -- The function of a node in the netlist of a design is that of the signal with its number.
-use Rattle.std.proofs.Common.{◌≡◌, ℕ, zero, suc, ◌+◌, Bool, true, false, ◌==◌, cond, List, [], ◌∷◌, length, get_or, Option, Some, refl, sym, ap, ◌∙◌, inl, inr, arith, slice_get}
-use Rattle.std.specs.Prelude.{is_some, nat_lt, unwrap_or}
+use Rattle.std.proofs.Common.{◌≡◌, ℕ, zero, suc, ◌+◌, Bool, true, false, ◌==◌, cond, List, [], ◌∷◌, length, get_or, Option, Some, refl, sym, ap, ◌∙◌, inl, inr, arith, slice_get, is_some, nat_lt, unwrap_or}
 use Rattle.netlist_laws.proofs.Common.{position_from, option_map, eq-eqb, ne_eqb, lt-ltb, le-ltb, cases_lt, Formula, Kind, APin, ANode, AConstant, ADeviceName, Entry, Contribution, Context, formulas, Function, function_of, is_node_number, node_signal, and_node, nodes_from, gathered_from}
 use Rattle.netlist_laws.proofs.CellsFound.{first_place}
 

@@ -1,6 +1,5 @@
 -- No fuse of a fitted netlist is opened past those that the lines of a file name.
-use Rattle.std.proofs.Common.{◌≡◌, ℕ, suc, ◌+◌, ◌*◌, ◌==◌, ◌≤◌, nat_lt, Bool, true, false, ◌||◌, if◌then◌else◌, List, [], ◌∷◌, refl, ◌∙◌, arith}
-use Rattle.std.specs.Prelude.{get_or, drop}
+use Rattle.std.proofs.Common.{◌≡◌, ℕ, suc, ◌+◌, ◌*◌, ◌==◌, ◌≤◌, nat_lt, Bool, true, false, ◌||◌, if◌then◌else◌, List, [], ◌∷◌, refl, ◌∙◌, arith, get_or, drop}
 use Rattle.netlist_laws.proofs.Common.{list_any, get_or-drop, control_fuses, Table, has, PlainNetlist, IsFitted}
 use Rattle.std.proofs.lemmas.Bool.Decides.{nat_tests}
 use Rattle.jedec_file.specs.ControlLines.{past, lines_end, IsIntactPastLines}

@@ -1,6 +1,5 @@
 -- The reset or preset that all registers of a netlist share is that of the design.
-use Rattle.std.proofs.Common.{◌≡◌, ℕ, suc, ◌≤◌, Bool, true, false, nat_lt, List, [], ◌∷◌, slice_get, Option, Some, None, refl, ap, ap₂, ◌∙◌, inl, inr, arith}
-use Rattle.std.specs.Prelude.{is_some, IsSome, IfSome, unwrap_or, if◌then◌else◌}
+use Rattle.std.proofs.Common.{◌≡◌, ℕ, suc, ◌≤◌, Bool, true, false, nat_lt, List, [], ◌∷◌, slice_get, Option, Some, None, refl, ap, ap₂, ◌∙◌, inl, inr, arith, is_some, IsSome, IfSome, unwrap_or, if◌then◌else◌}
 use Rattle.netlist_laws.proofs.Common.{option_map, cases_Bool, le-ltb, Levels, Formula, Const, formula_value, Extension, Entry, is_stored, truth_at, given_at, Evaluator, Contribution, control_if_stored, shared_from, Context, Design, formulas, Wanted, earlier_name, first_with, own_of, given_formulas, formula_control, wanted_for, cell_of, and_cell, cells_from}
 
 -- a signal that isn't stored has no such control

@@ -1,6 +1,5 @@
 -- The function that all registers share is one of theirs, or 0.
-use Rattle.std.proofs.Common.{◌≡◌, false, nat_lt, List, [], ◌∷◌, Option, Some, None, refl, inl, inr}
-use Rattle.std.specs.Prelude.{is_some, IfSome, unwrap_or}
+use Rattle.std.proofs.Common.{◌≡◌, false, nat_lt, List, [], ◌∷◌, Option, Some, None, refl, inl, inr, is_some, IfSome, unwrap_or}
 use Rattle.netlist_laws.proofs.Common.{All, cases_Bool, All-head, All-tail, Formula, Const, Wanted, PlainNetlist, earlier_name, first_with, own_of, shared_function}
 
 module _ (own : Wanted → Option Formula) (P : Formula → Type 0) where

@@ -1,6 +1,5 @@
 -- The signals of a gathered netlist, which are the cells and the nodes, read what the module's signals read.
-use Rattle.std.proofs.Common.{◌≡◌, ℕ, ◌-◌, ◌<◌, Bool, true, false, not, ◌&&◌, ◌||◌, nat_lt, length, Option, Some, None, refl, sym, ap, ◌∙◌, subst, inl, inr, arith}
-use Rattle.std.specs.Prelude.{unwrap_or, if◌then◌else◌}
+use Rattle.std.proofs.Common.{◌≡◌, ℕ, ◌-◌, ◌<◌, Bool, true, false, not, ◌&&◌, ◌||◌, nat_lt, length, Option, Some, None, refl, sym, ap, ◌∙◌, subst, inl, inr, arith, unwrap_or, if◌then◌else◌}
 use Rattle.netlist_laws.proofs.Common.{option_map, cases_Bool, cases_lt, and_parts, or_cases, or_left, or_right, eqb-true, eq-eqb, ltb-true, get_or_past, position-Some, Cell, Enable, Row, PinLow, IsDevice, cell_at, no_cell, own_pins, Leaf, Formula, names, Extension, Kind, APin, ANode, AConstant, ADeviceName, Entry, is_stored, cell_on, is_pin, signal_on, control_of, Design, name_at, no_name, formulas, function_of, node_at, no_function, netlist_stores, cell_names, netlist_names, is_register_signal, cell_leaf, signal_leaf, netlist_reads, given_formulas, settles, leaf_by, leaf_of, names_if_any, function_names, signal_names, signal_reads, is_stored_signal, is_node_number, node_signal, by_row, wanted_for, cell_by, cell_of, gathered, PinsApart, is_row, is_enabled_by_row, is_kept}
 use Rattle.bit_expr.specs.declared.node.Leaf.TheVariants as leaf
 use Rattle.abel_tree.specs.declared.words.Extension.TheVariants as extension

@@ -1,6 +1,5 @@
 -- A gathered netlist has a loop, or a path from a reset to a register, only where its module has one.
-use Rattle.std.proofs.Common.{◌≡◌, ℕ, suc, ◌<◌, ◌≤◌, true, false, not, ◌==◌, nat_lt, List, [], ◌∷◌, ◌++◌, length, get_or, Option, Some, None, refl, sym, ap, ◌∙◌, subst, inl, inr, arith}
-use Rattle.std.specs.Prelude.{if◌then◌else◌}
+use Rattle.std.proofs.Common.{◌≡◌, ℕ, suc, ◌<◌, ◌≤◌, true, false, not, ◌==◌, nat_lt, List, [], ◌∷◌, ◌++◌, length, get_or, Option, Some, None, refl, sym, ap, ◌∙◌, subst, inl, inr, arith, if◌then◌else◌}
 use Rattle.netlist_laws.proofs.Common.{list_any, All, cases_Bool, and_parts, or_cases, eq-eqb, eqb-true, true≢false, not-true, All-head, All-tail, position-Some, IsDevice, cell_at, no_cell, has, IsChain, has_push, Ranked, ranked, no_loop_by_rank, Leaf, is_stored, is_pin, signal_on, control_of, control_if_stored, Design, name_at, formulas, Wanted, signal_count, signal_leaf, is_register_signal, netlist_names, netlist_reads, netlist_waits, netlist_passes, netlist_reset_reads, HasNoNetlistLoop, HasNoNetlistPath, given_formulas, names_if_any, signal_reads, HasNoSignalLoop, HasNoSignalPath, gathered, PinsApart}
 use Rattle.bit_expr.specs.declared.node.Leaf.TheVariants as leaf
 use Rattle.abel_tree.specs.declared.words.Extension.TheVariants as extension

@@ -1,6 +1,5 @@
 -- A leaf that some read of a module reads, and for which the device has columns, is one that the netlist may read.
-use Rattle.std.proofs.Common.{◌≡◌, ℕ, ◌<◌, Bool, true, false, ◌&&◌, List, [], ◌∷◌, length, get_or, Option, Some, None, refl, sym, ap, ◌∙◌, inl, inr}
-use Rattle.std.specs.Prelude.{position}
+use Rattle.std.proofs.Common.{◌≡◌, ℕ, ◌<◌, Bool, true, false, ◌&&◌, List, [], ◌∷◌, length, get_or, Option, Some, None, refl, sym, ap, ◌∙◌, inl, inr, position}
 use Rattle.netlist_laws.proofs.Common.{option_map, cases_Bool, cases_lt, eqb-true, eq-eqb, and_parts, true≢false, get_or_past, slice_get_within, position-Some, Levels, IsDevice, cell_at, no_cell, Leaf, Extension, Kind, APin, ANode, AConstant, ADeviceName, Entry, is_stored, follows_q, cell_on, is_pin, signal_on, cell_stores, Context, Design, name_at, no_name, wanted_at, registers_as, netlist_stores, given_formulas, IsReadable, Held, source_by, on_pin, pin_source, register_source, node_source, is_node_number, wanted_for, gathered, SignalUse, holds_leaf, use_reads, uses_read, PinsApart, HasColumns}
 use Rattle.bit_expr.specs.declared.node.Leaf.TheVariants as leaf
 use Rattle.abel_tree.specs.declared.words.Extension.TheVariants as extension

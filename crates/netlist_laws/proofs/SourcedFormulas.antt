@@ -1,6 +1,5 @@
 -- What the formula of a contribution names is read by what the contribution uses.
-use Rattle.std.proofs.Common.{◌≡◌, ℕ, true, false, ◌||◌, List, [], ◌∷◌, ◌++◌, map, length, refl, sym, ap, ◌∙◌}
-use Rattle.std.specs.Prelude.{replicate}
+use Rattle.std.proofs.Common.{◌≡◌, ℕ, true, false, ◌||◌, List, [], ◌∷◌, ◌++◌, map, length, refl, sym, ap, ◌∙◌, replicate}
 use Rattle.netlist_laws.proofs.Common.{or_left, or_right, length-reverse, list_any-append, Levels, Leaf, make_not, make_and, make_or, Formula, Const, formula_value, Evaluator, Contribution, Context, Design, Follows, seen, make_source, met_word, bits_of, bits_of_all, formulas, digits_low_first, met, member_width, meeting, given_formulas, Source, Zero, Held, source_of, word_follows, SignalUse, term_uses, all_term_uses, reads_of_terms, given_uses, holds_leaf, use_reads, uses_read}
 use Rattle.abel_meaning.specs.Sections.{contributions}
 use Rattle.abel_meaning.specs.Terms.{Term, Terms}

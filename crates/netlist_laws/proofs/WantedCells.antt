@@ -1,6 +1,5 @@
 -- What a sound netlist asks of a cell, and that fitted cells are registers where it asks so.
-use Rattle.std.proofs.Common.{◌≡◌, ℕ, ◌<◌, Bool, false, ◌==◌, List, [], ◌∷◌, length, Option, Some, None, refl, sym, subst, inl, inr}
-use Rattle.std.specs.Prelude.{find}
+use Rattle.std.proofs.Common.{◌≡◌, ℕ, ◌<◌, Bool, false, ◌==◌, List, [], ◌∷◌, length, Option, Some, None, refl, sym, subst, inl, inr, find}
 use Rattle.netlist_laws.proofs.Common.{All, cases_Bool, eqb-true, All-head, All-tail, same_Some, Kinds, Combinational, Registered, Either, says, stores_by, stores, Table, cell_at, registered_at, Wanted, PlainNetlist, wanted_at, registers_as, netlist_stores, MayRegister, IsSoundCell, IsSound, IsFittedCell, IsFittedAs, IsFitted}
 pub use Rattle.netlist_laws.proofs.FoundCells.{found}
 

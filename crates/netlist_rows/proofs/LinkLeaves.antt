@@ -1,6 +1,5 @@
 -- Links that each have a leaf that may be there.
-use Rattle.std.proofs.Common.{zero, suc, List, [], ◌∷◌, subst}
-use Rattle.std.specs.Prelude.{All, IfSome}
+use Rattle.std.proofs.Common.{zero, suc, List, [], ◌∷◌, subst, All, IfSome}
 use Rattle.netlist_rows.proofs.Common.{All-head, All-tail, IsLeaf, AreLeaves, HasLeaf}
 use Rattle.gathering.specs.declared.link.Link.{Link}
 

@@ -5,7 +5,8 @@ pub use Rattle.std.proofs.lemmas.Bool.Decides.{nat_tests}
 pub use Rattle.std.proofs.lemmas.Grind.{flat_map-append}
 pub use Rattle.std.proofs.lemmas.Iterator.Adapters.{YieldsList-from_vec, position_from-zero}
 pub use Rattle.std.proofs.lemmas.Iterator.Consumers.{YieldsList-end}
-pub use Rattle.std.proofs.lemmas.List.{append-nil, drop_all, get_or-map, get_or-take, get_or_past, get_or_read, length-append, length-map, length-take, map-append, map-id, take-append-le, take-map, take_all, take_more}
+pub use Rattle.std.proofs.lemmas.List.{append-nil, drop_all, get_or-map, get_or-take, get_or_past, get_or_read, length-append, length-map, length-take}
+pub use Rattle.std.proofs.lemmas.List.{map-append, map-id, take-append-le, take-map, take_all, take_more}
 pub use Rattle.std.proofs.lemmas.List.Elements.{All-from_get_or, All-get_or, All-take, filter-append}
 pub use Rattle.std.proofs.lemmas.List.Folds.{list_any-append}
 pub use Rattle.std.proofs.lemmas.List.Sums.{fold-append}
@@ -14,16 +15,27 @@ pub use Rattle.std.proofs.lemmas.Result.{IfOk-weaker}
 pub use Rattle.std.specs.Int.Bits.{bit_or}
 pub use Rattle.std.specs.List.{filter, flat_map, list_all, list_any, position_from, range_with_len}
 unfoldable pub use Rattle.std.specs.List.{IsDistinct}
-pub use Rattle.abel_meaning.specs.Declarations.{GivenName, all_said, are_numbered, constant_entries, declared, declared_names, entry, given_names, is_unnumbered, no_words, node_count, node_entries, pin_entries, said_by_either, said_words, section_declarations, with_words, words_of}
+pub use Rattle.abel_meaning.specs.Declarations.{GivenName, all_said, are_numbered, constant_entries, declared, declared_names, entry, given_names}
+pub use Rattle.abel_meaning.specs.Declarations.{is_unnumbered, no_words, node_count, node_entries, pin_entries, said_by_either, said_words}
+pub use Rattle.abel_meaning.specs.Declarations.{section_declarations, with_words, words_of}
 pub use Rattle.abel_meaning.specs.Designs.{Context, no_name}
-pub use Rattle.abel_meaning.specs.Held.{ATarget, AValue, Holds, Part, branch_parts, branches_parts, choices_parts, else_parts, holds_of, list_parts, other_parts, statement_parts, statements_parts, states_parts, with_parts}
+pub use Rattle.abel_meaning.specs.Held.{ATarget, AValue, Holds, Part, branch_parts, branches_parts, choices_parts, else_parts, holds_of, list_parts}
+pub use Rattle.abel_meaning.specs.Held.{other_parts, statement_parts, statements_parts, states_parts, with_parts}
 pub use Rattle.abel_meaning.specs.Kinds.{is_buffer_by_default, is_registered, names_of, with_kind, with_kinds, words_with_kind}
-pub use Rattle.abel_meaning.specs.Terms.{Before, BinaryOf, Known, NoTerm, Pulse, Read, Release, Set, Term, Terms, UnaryOf, X, extended, extended_each, extended_if, known_after, known_of, member_before, named_before, special_term, term_meant, term_named, term_of, terms_of}
-pub use Rattle.abel_tree.specs.Assigned.{Assigned, Named, is_assigned, is_clocked_target, list_assigns, meant, named_after, named_of, section_assigns, sections_assign, signals_of, signals_of_name, signals_of_names, target_extension, without_extension}
-pub use Rattle.abel_tree.specs.Entries.{AConstant, ADeviceName, ANode, APin, Entry, Kind, Words, find, is_signal, is_stored, is_value, kind_of, names_any, passes, view_declared, view_meaning}
+pub use Rattle.abel_meaning.specs.Terms.{Before, BinaryOf, Known, NoTerm, Pulse, Read, Release, Set, Term, Terms, UnaryOf, X, extended, extended_each}
+pub use Rattle.abel_meaning.specs.Terms.{extended_if, known_after, known_of, member_before, named_before, special_term, term_meant, term_named, term_of}
+pub use Rattle.abel_meaning.specs.Terms.{terms_of}
+pub use Rattle.abel_tree.specs.Assigned.{Assigned, Named, is_assigned, is_clocked_target, list_assigns, meant, named_after, named_of, section_assigns}
+pub use Rattle.abel_tree.specs.Assigned.{sections_assign, signals_of, signals_of_name, signals_of_names, target_extension, without_extension}
+pub use Rattle.abel_tree.specs.Entries.{AConstant, ADeviceName, ANode, APin, Entry, Kind, Words, find, is_signal, is_stored, is_value, kind_of, names_any}
+pub use Rattle.abel_tree.specs.Entries.{passes, view_declared, view_meaning}
 pub use Rattle.abel_tree.specs.Extensions.{innermost}
 pub use Rattle.abel_tree.specs.Ranges.{count_numbers, ends_agree, is_bad, names_between, numbers_of, range_names, span_count, span_numbers}
-pub use Rattle.abel_tree.specs.Tree.{ABinary, ABranch, ACase, ADevice, ADiagram, ADontCare, AGoal, AGroup, AName, ANumber, AParen, ASet, ASpecial, ATable, AUnary, AWhen, AnAssign, AnElse, AnIf, Branch, Choices, Declaration, Declarations, DontCareFor, DontCareSection, Equations, Members, ModuleTree, MoreChoices, MoreMembers, MoreStatements, NoBranch, NoChoice, NoElse, NoMember, NoStatement, OneMember, OtherBranch, Otherwise, SectionTree, SetMember, SomeAttributes, SomeConstants, SomeNodes, SomeOptions, SomePins, SomeVectors, SpanMember, StateTree, Statement, Statements, Tree, statements_of}
+pub use Rattle.abel_tree.specs.Tree.{ABinary, ABranch, ACase, ADevice, ADiagram, ADontCare, AGoal, AGroup, AName, ANumber, AParen, ASet, ASpecial, ATable}
+pub use Rattle.abel_tree.specs.Tree.{AUnary, AWhen, AnAssign, AnElse, AnIf, Branch, Choices, Declaration, Declarations, DontCareFor, DontCareSection, Equations}
+pub use Rattle.abel_tree.specs.Tree.{Members, ModuleTree, MoreChoices, MoreMembers, MoreStatements, NoBranch, NoChoice, NoElse, NoMember, NoStatement}
+pub use Rattle.abel_tree.specs.Tree.{OneMember, OtherBranch, Otherwise, SectionTree, SetMember, SomeAttributes, SomeConstants, SomeNodes, SomeOptions, SomePins}
+pub use Rattle.abel_tree.specs.Tree.{SomeVectors, SpanMember, StateTree, Statement, Statements, Tree, statements_of}
 pub use Rattle.abel_tree.specs.Uses.{OneName, Range, Use, all_uses, list_uses, member_uses, one_member_uses, section_uses, uses}
 pub use Rattle.abel_tree.specs.View.{view, view_decl, view_module, view_section, view_stmt}
 pub use Rattle.abel_tree.specs.declared.declarations.Decl.{Decl}
@@ -47,9 +59,12 @@ pub use Rattle.decls.proofs.Placed.{found_at, kind_at, same_name}
 pub use Rattle.decls.proofs.Rows.{mapped_more}
 pub use Rattle.decls.proofs.SaidBuffers.{items_signals}
 pub use Rattle.decls.specs.Attributes.{brings_clash, has_unknown, is_refused_string, strings_refused}
-pub use Rattle.decls.specs.NameRefusals.{all_buffered, always_inverts, buffered, buffers_refused, is_register_at, module_buffers_refused, name_refusals, names_once, read_refusals, sections_refused}
+pub use Rattle.decls.specs.NameRefusals.{all_buffered, always_inverts, buffered, buffers_refused, is_register_at, module_buffers_refused, name_refusals}
+pub use Rattle.decls.specs.NameRefusals.{names_once, read_refusals, sections_refused}
 pub use Rattle.decls.specs.NamesBefore.{added, is_on_pin, is_taken, names_behind, words_named, words_of_names}
-pub use Rattle.decls.specs.Refused.{counts_differ, counts_refused, declaration_refused, declarations_refused, first_undeclared, given_count, has_numbers, is_device, is_signal_pin, items_refused, name_refused, names_refused, node_limit, number_refused, parts_refused, ranges_refused, refused_if, use_refused, uses_refused}
+pub use Rattle.decls.specs.Refused.{counts_differ, counts_refused, declaration_refused, declarations_refused, first_undeclared, given_count, has_numbers}
+pub use Rattle.decls.specs.Refused.{is_device, is_signal_pin, items_refused, name_refused, names_refused, node_limit, number_refused, parts_refused}
+pub use Rattle.decls.specs.Refused.{ranges_refused, refused_if, use_refused, uses_refused}
 pub use Rattle.decls.specs.Shown.{view_given}
 pub use Rattle.design_checks.specs.LocatedUses.{PlacedUse, all_at, located, member_located, members_located, range_located}
 pub use Rattle.design_checks.specs.RefusedUses.{has_read_path, has_read_path_on, reads_by}
@@ -72,13 +87,18 @@ pub use Rattle.pld_order.proofs.Lists.{eqb_same, few, place_of}
 pub use Rattle.pld_order.specs.Graphs.{has}
 pub use Rattle.placer.specs.Faults.{IsToldOf, IsUnplaced}
 pub use Rattle.placer.specs.Following.{HasFittingPin, HasNumberedNames, IsFollowed}
-pub use Rattle.placer.specs.Given.{AreKnown, declaration_given, declarations_given, items_left, module_given, node_given, pin_given, pins_given, released_if, section_given}
+pub use Rattle.placer.specs.Given.{AreKnown, declaration_given, declarations_given, items_left, module_given, node_given, pin_given, pins_given, released_if}
+pub use Rattle.placer.specs.Given.{section_given}
 pub use Rattle.placer.specs.Marks.{AreMarks, AreSeen, HasMark, HasMarks, HasSameMark, IsMarkOf, IsUnion, numbers_named}
 pub use Rattle.placer.specs.NamedSignals.{read_after, read_names_of, signals_in, signals_used, stands_for}
 pub use Rattle.placer.specs.PartReads.{enabled_in, parts_of, read_in, signals_at}
-pub use Rattle.placer.specs.PlacedModule.{Pinned, item_at, node_alone, node_declaration, node_pinned, numbers_for, placed_declaration, placed_declarations, placed_module, placed_section, register_string, released, span_at, spans_for, unpinned, unpinned_items, with_equations}
-pub use Rattle.placer.specs.Placements.{HasNoPlacement, IsPlacedModule, Pins, all_released, dc_of, is_node, module_wishes, node_pin_of, pin_of, placed_with, with_pins}
+pub use Rattle.placer.specs.PlacedModule.{Pinned, item_at, node_alone, node_declaration, node_pinned, numbers_for, placed_declaration, placed_declarations}
+pub use Rattle.placer.specs.PlacedModule.{placed_module, placed_section, register_string, released, span_at, spans_for, unpinned, unpinned_items}
+pub use Rattle.placer.specs.PlacedModule.{with_equations}
+pub use Rattle.placer.specs.Placements.{HasNoPlacement, IsPlacedModule, Pins, all_released, dc_of, is_node, module_wishes, node_pin_of, pin_of, placed_with}
+pub use Rattle.placer.specs.Placements.{with_pins}
 pub use Rattle.placer.specs.Reads.{enables, has_enable, is_enable, is_read, read_parts, reads}
-pub use Rattle.placer.specs.Signals.{cells_of_room, has_cell_for, is_buried_register, is_enabled_by, is_free, large_cells, large_to, needs_pin, pin_fits, preferred, small_to, to_place, to_place_from, wish, wishes}
+pub use Rattle.placer.specs.Signals.{cells_of_room, has_cell_for, is_buried_register, is_enabled_by, is_free, large_cells, large_to, needs_pin, pin_fits}
+pub use Rattle.placer.specs.Signals.{preferred, small_to, to_place, to_place_from, wish, wishes}
 pub use Rattle.placer.specs.Wanted.{AreFree, wanted_of, with_signal}
 pub use Rattle.placer.specs.declared.seen.Seen.{Seen}

@@ -1,6 +1,5 @@
 -- Parts of declarations with pins that nothing is refused of: counts, strings and names.
-use Rattle.std.proofs.Common.{◌≡◌, ℕ, suc, ◌-◌, ◌==◌, Bool, true, false, not, ◌||◌, ◌&&◌, List, [], ◌∷◌, ◌++◌, map, filter, length, if◌then◌else◌, refl, sym, ap, ap₂, ◌∙◌, arith, inl, inr}
-use Rattle.std.specs.Prelude.{unwrap_or}
+use Rattle.std.proofs.Common.{◌≡◌, ℕ, suc, ◌-◌, ◌==◌, Bool, true, false, not, ◌||◌, ◌&&◌, List, [], ◌∷◌, ◌++◌, map, filter, length, if◌then◌else◌, refl, sym, ap, ap₂, ◌∙◌, arith, inl, inr, unwrap_or}
 use Rattle.placer.proofs.Common.{list_any, list_all, true≢false, or_left, or_right, or_cases, nat_tests, Place, Item, Word, Words, Entry, is_signal, names_any, is_bad, numbers_of, count_numbers, GivenName, given_names, no_words, all_said, said_by_either, said_words, words_of, pin_entries, has_unknown, brings_clash, is_refused_string, strings_refused, words_named, words_of_names, counts_refused, counts_differ, has_numbers, items_refused, any_append, none_left, none_right, Pinned, register_string, item_at, spans_for}
 use Rattle.decls.specs.declared.fault.NameFault.TheVariants as fault
 use Rattle.placer.proofs.PlacedNames.{register_words}

@@ -1,6 +1,5 @@
 -- Declared names by their numbers, as the definitions see them.
-use Rattle.std.proofs.Common.{◌≡◌, ℕ, suc, ◌+◌, ◌<◌, ◌≤◌, Bool, true, false, List, [], ◌∷◌, if◌then◌else◌, drop, length, map, get_or, refl, sym, ap, ◌∙◌, add-one}
-use Rattle.std.specs.Prelude.{bytes_eq}
+use Rattle.std.proofs.Common.{◌≡◌, ℕ, suc, ◌+◌, ◌<◌, ◌≤◌, Bool, true, false, List, [], ◌∷◌, if◌then◌else◌, drop, length, map, get_or, refl, sym, ap, ◌∙◌, add-one, bytes_eq}
 use Rattle.placer.proofs.Common.{drop-cons, drop_all, get_or-map, Declared, Entry, view_declared, no_name, dc_of}
 
 module _ (ds : List Declared) (k : ℕ) (d : Declared) (low : k < length ds) (at : d ≡ get_or ds k d) where

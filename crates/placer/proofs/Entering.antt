@@ -1,6 +1,5 @@
 -- Names that are declared, and the same names with their pins: where nothing is refused of the ones, nothing is of the others.
-use Rattle.std.proofs.Common.{◌≡◌, ℕ, ◌≤◌, ◌==◌, nat_le, nat_lt, Bool, true, false, not, ◌||◌, ◌&&◌, Option, None, Some, List, [], ◌∷◌, ◌++◌, map, length, if◌then◌else◌, refl, sym, ap, ap₂, subst, ◌∙◌, append_assoc, arith, inl, inr}
-use Rattle.std.specs.Prelude.{is_some, unwrap_or}
+use Rattle.std.proofs.Common.{◌≡◌, ℕ, ◌≤◌, ◌==◌, nat_le, nat_lt, Bool, true, false, not, ◌||◌, ◌&&◌, Option, None, Some, List, [], ◌∷◌, ◌++◌, map, length, if◌then◌else◌, refl, sym, ap, ap₂, subst, ◌∙◌, append_assoc, arith, inl, inr, is_some, unwrap_or}
 use Rattle.placer.proofs.Common.{true≢false, cases_Bool, nat_tests, append-nil, Table, Word, Kind, APin, ANode, AConstant, ADeviceName, Words, Entry, kind_of, Tree, GivenName, entry, no_words, is_unnumbered, pin_entries, constant_entries, is_on_pin, is_taken, refused_if, is_signal_pin, node_limit, number_refused, name_refused, names_refused, kind_append, or_else, any_append, none_left, none_right, not_refused, Extends, same_name, Pinned, is_node}
 use Rattle.decls.specs.declared.fault.NameFault.{NameFault}
 use Rattle.decls.specs.declared.fault.NameFault.TheVariants as fault

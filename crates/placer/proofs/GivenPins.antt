@@ -1,6 +1,5 @@
 -- The pins of an assignment, name by name.
-use Rattle.std.proofs.Common.{◌≡◌, ℕ, zero, suc, ◌+◌, ◌<◌, ◌==◌, Bool, true, false, not, ◌&&◌, ◌||◌, Option, None, Some, List, [], ◌∷◌, ◌++◌, length, get_or, if◌then◌else◌, refl, sym, ap, ap₂, subst, ◌∙◌, arith, inl, inr}
-use Rattle.std.specs.Prelude.{is_some, bytes_eq}
+use Rattle.std.proofs.Common.{◌≡◌, ℕ, zero, suc, ◌+◌, ◌<◌, ◌==◌, Bool, true, false, not, ◌&&◌, ◌||◌, Option, None, Some, List, [], ◌∷◌, ◌++◌, length, get_or, if◌then◌else◌, refl, sym, ap, ap₂, subst, ◌∙◌, arith, inl, inr, is_some, bytes_eq}
 use Rattle.placer.proofs.Common.{list_any, true≢false, and_parts, cases_lt, or_cases, length-map, slice_get-get_or, Cell, Flip, Table, Named, list_assigns, named_of, sections_assign, Kind, APin, ANode, AConstant, ADeviceName, Entry, find, kind_of, is_value, passes, names_any, ModuleTree, list_uses, declared_names, is_unnumbered, no_name, holds_of, is_buffer_by_default, names_of, always_inverts, name_refusals, is_taken, is_signal_pin, uses_refused, same_bytes, Alike, alike_kinds, alike_settled, entries_sound, found_at, kind_at, same_name, is_registered_node, IsAssignment, Pinned, released, Pins, with_pins, is_node, pin_of, node_pin_of, all_released, is_buried_register, is_enabled_by, is_free, needs_pin, to_place, to_place_from, wish, wishes}
 use Rattle.pld_device.specs.declared.flip.Flip.TheVariants.{Always, AfterRegister, BeforeRegister}
 use Rattle.pld_device.specs.Macrocells.{pin_complements}

@@ -1,6 +1,5 @@
 -- Lists of a declaration's names, with one name more.
-use Rattle.std.proofs.Common.{◌≡◌, ℕ, ◌==◌, Bool, true, false, not, None, Some, List, [], ◌∷◌, ◌++◌, filter, if◌then◌else◌, length, map, refl, sym, ap, ◌∙◌, arith}
-use Rattle.std.specs.Prelude.{is_some, unwrap_or}
+use Rattle.std.proofs.Common.{◌≡◌, ℕ, ◌==◌, Bool, true, false, not, None, Some, List, [], ◌∷◌, ◌++◌, filter, if◌then◌else◌, length, map, refl, sym, ap, ◌∙◌, arith, is_some, unwrap_or}
 use Rattle.placer.proofs.Common.{true≢false, nat_tests, map-append, filter-append, Item, Span, Word, GivenName, given_names, items_left, Pinned, item_at, node_alone, node_declaration, node_pinned, numbers_for, span_at, spans_for}
 
 pub spans_push : (pin : Pinned) (xs : List GivenName) (x : GivenName) → spans_for pin (xs ++ x ∷ []) ≡ spans_for pin xs ++ span_at x.place (unwrap_or (pin x.name) 0) ∷ []

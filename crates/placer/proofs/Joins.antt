@@ -1,6 +1,5 @@
 -- The mark of two lists is the union of their marks.
-use Rattle.std.proofs.Common.{◌≡◌, ℕ, ◌<◌, ◌≤◌, ◌+◌, ◌==◌, Bool, ◌||◌, List, [], ◌∷◌, ◌++◌, map, take, length, get_or, sym, ap, ap₂, subst, ◌∙◌, arith}
-use Rattle.std.specs.Prelude.{IfOk, Result}
+use Rattle.std.proofs.Common.{◌≡◌, ℕ, ◌<◌, ◌≤◌, ◌+◌, ◌==◌, Bool, ◌||◌, List, [], ◌∷◌, ◌++◌, map, take, length, get_or, sym, ap, ap₂, subst, ◌∙◌, arith, IfOk, Result}
 use Rattle.placer.proofs.Common.{bit_or, flat_map, list_any, flat_map-append, append-nil, take_all, list_any-append, IfOk-weaker, bits, is_on, is_on-zero, Named, mapped_more, PartTree, Seen, AreSeen, HasMark, HasMarks, IsMarkOf, IsUnion, enabled_in, read_in}
 use Rattle.placer.specs.declared.marks.Marks.{Marks}
 use Rattle.placer.specs.declared.read_names.Naming.{Naming}

@@ -1,6 +1,5 @@
 -- Names with their marks: one that is asked for, and one more.
-use Rattle.std.proofs.Common.{◌≡◌, ℕ, ◌≤◌, ◌==◌, Bool, true, false, Option, Some, None, List, [], ◌∷◌, ◌++◌, length, if◌then◌else◌, refl, sym, ap, subst, ◌∙◌}
-use Rattle.std.specs.Prelude.{is_some, option_copied, unwrap_or, bytes_eq}
+use Rattle.std.proofs.Common.{◌≡◌, ℕ, ◌≤◌, ◌==◌, Bool, true, false, Option, Some, None, List, [], ◌∷◌, ◌++◌, length, if◌then◌else◌, refl, sym, ap, subst, ◌∙◌, is_some, option_copied, unwrap_or, bytes_eq}
 use Rattle.placer.proofs.Common.{true≢false, same_bytes, Named, signals_of_name, number_in, earlier_number, number_of_name, number_behind, HasMark, HasSameMark, numbers_named}
 use denote.Ref.{Bor}
 use Rattle.std.specs.Global.{Vec}

@@ -1,6 +1,5 @@
 -- Where an expression reads a signal, it names it.
-use Rattle.std.proofs.Common.{◌≡◌, ℕ, suc, Bool, true, false, ◌||◌, ◌==◌, Option, None, Some, List, [], ◌∷◌, ◌++◌, if◌then◌else◌, refl, ap, ap₂, sym, ◌∙◌}
-use Rattle.std.specs.Prelude.{bytes_eq, codes}
+use Rattle.std.proofs.Common.{◌≡◌, ℕ, suc, Bool, true, false, ◌||◌, ◌==◌, Option, None, Some, List, [], ◌∷◌, ◌++◌, if◌then◌else◌, refl, ap, ap₂, sym, ◌∙◌, bytes_eq, codes}
 use Rattle.placer.proofs.Common.{list_any, flat_map, list_any-append, Place, Extension, Named, signals_of_name, signals_of_names, Kind, APin, ANode, AConstant, ADeviceName, Entry, innermost, range_names, Tree, ANumber, ASpecial, AName, ASet, AParen, AUnary, ABinary, SetMember, OneMember, SpanMember, Members, NoMember, MoreMembers, Use, OneName, Range, uses, member_uses, one_member_uses, Term, Terms, X, Pulse, Release, Read, Set, NoTerm, Before, UnaryOf, BinaryOf, Known, term_named, extended, extended_each, extended_if, named_before, special_term, term_of, terms_of, member_before, term_meant, known_after, known_of, PlacedUse, all_at, range_located, located, members_located, member_located, signals_used, signals_in, stands_for, read_after, read_names_of}
 use Rattle.abel_meaning.specs.Terms.{Number}
 use Rattle.netlist_laws.specs.SignalUses.{SignalUse, term_uses, all_term_uses}

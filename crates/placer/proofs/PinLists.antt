@@ -1,6 +1,5 @@
 -- Lists of pins, pin by pin.
-use Rattle.std.proofs.Common.{◌≡◌, ℕ, zero, suc, ◌+◌, ◌-◌, ◌<◌, ◌≤◌, ◌==◌, Bool, true, false, ◌&&◌, List, [], ◌∷◌, ◌++◌, filter, if◌then◌else◌, map, take, length, get_or, refl, sym, ap, ◌∙◌, arith, add-one}
-use Rattle.std.specs.Prelude.{is_none}
+use Rattle.std.proofs.Common.{◌≡◌, ℕ, zero, suc, ◌+◌, ◌-◌, ◌<◌, ◌≤◌, ◌==◌, Bool, true, false, ◌&&◌, List, [], ◌∷◌, ◌++◌, filter, if◌then◌else◌, map, take, length, get_or, refl, sym, ap, ◌∙◌, arith, add-one, is_none}
 use Rattle.placer.proofs.Common.{range_with_len, append-nil, map-append, take_all, take_more, filter-append, Cell, Table, no_cell, Entry, cell_on, cells_of_room, is_free, large_to, pin_fits, small_to, wanted_of}
 
 -- those of the pins so far, with one pin more

@@ -1,6 +1,5 @@
 -- The pin of a name, by the place of its signal.
-use Rattle.std.proofs.Common.{◌≡◌, ℕ, suc, ◌+◌, ◌<◌, Bool, true, false, Option, None, Some, List, [], ◌∷◌, All, cond, if◌then◌else◌, length, get_or, refl, sym, ap, ◌∙◌, arith, zero-add}
-use Rattle.std.specs.Prelude.{bytes_eq, option_map, position}
+use Rattle.std.proofs.Common.{◌≡◌, ℕ, suc, ◌+◌, ◌<◌, Bool, true, false, Option, None, Some, List, [], ◌∷◌, All, cond, if◌then◌else◌, length, get_or, refl, sym, ap, ◌∙◌, arith, zero-add, bytes_eq, option_map, position}
 use Rattle.placer.proofs.Common.{position_from, position_from-zero, All-get_or, Entry, kind_of, names_any, passes, no_name, same_bytes, AreKnown, is_node, node_pin_of, pin_of, with_pins}
 use Rattle.std.proofs.lemmas.List.Quantifiers.{position-Some}
 

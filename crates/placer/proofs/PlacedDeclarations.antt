@@ -1,6 +1,5 @@
 -- Declarations, and the same with their pins: where nothing is refused of the ones, nothing is of the others.
-use Rattle.std.proofs.Common.{◌≡◌, ℕ, zero, suc, ◌≤◌, Bool, true, false, not, ◌||◌, ◌&&◌, Option, None, Some, List, [], ◌∷◌, ◌++◌, map, filter, zip, drop, length, if◌then◌else◌, refl, sym, ap, ap₂, subst, ◌∙◌, append_assoc, arith}
-use Rattle.std.specs.Prelude.{is_some, unwrap_or, bytes_eq}
+use Rattle.std.proofs.Common.{◌≡◌, ℕ, zero, suc, ◌≤◌, Bool, true, false, not, ◌||◌, ◌&&◌, Option, None, Some, List, [], ◌∷◌, ◌++◌, map, filter, zip, drop, length, if◌then◌else◌, refl, sym, ap, ap₂, subst, ◌∙◌, append_assoc, arith, is_some, unwrap_or, bytes_eq}
 use Rattle.placer.proofs.Common.{list_any, list_all, append-nil, length-map, fold-append, drop-append_seam, Table, Item, Word, Words, Entry, is_signal, names_any, APin, ANode, ADeviceName, numbers_of, Declaration, ADevice, SomePins, SomeNodes, SomeAttributes, SomeConstants, SomeOptions, DontCareFor, all_uses, GivenName, given_names, entry, no_words, all_said, said_by_either, pin_entries, node_entries, constant_entries, node_count, with_words, declared, strings_refused, names_behind, added, words_of_names, refused_if, names_refused, name_refused, ranges_refused, counts_refused, counts_differ, has_numbers, items_refused, is_device, given_count, parts_refused, declaration_refused, declarations_refused, same_bytes, any_append, count_append, none_left, none_right, refused_append, items_signals, Pinned, register_string, item_at, span_at, spans_for, node_declaration, unpinned, unpinned_items, placed_declaration}
 use Rattle.decls.specs.declared.fault.NameFault.TheVariants as fault
 use Rattle.decls.proofs.DeclarationsGo.{added_is}

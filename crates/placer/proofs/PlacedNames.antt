@@ -1,6 +1,5 @@
 -- Names, and the same names with their pins: what refusals ask of both.
-use Rattle.std.proofs.Common.{◌≡◌, ◌⊎◌, ℕ, ◌≤◌, ◌==◌, Bool, true, false, not, ◌||◌, Option, None, Some, List, [], ◌∷◌, ◌++◌, filter, if◌then◌else◌, refl, sym, ap, ap₂, ◌∙◌, arith, inl, inr, eqb-true}
-use Rattle.std.specs.Prelude.{is_some, unwrap_or, bytes_eq}
+use Rattle.std.proofs.Common.{◌≡◌, ◌⊎◌, ℕ, ◌≤◌, ◌==◌, Bool, true, false, not, ◌||◌, Option, None, Some, List, [], ◌∷◌, ◌++◌, filter, if◌then◌else◌, refl, sym, ap, ap₂, ◌∙◌, arith, inl, inr, eqb-true, is_some, unwrap_or, bytes_eq}
 use Rattle.placer.proofs.Common.{true≢false, or_cases, or_right, Place, Kind, APin, ANode, AConstant, ADeviceName, Words, Entry, kind_of, is_signal, is_value, passes, names_any, ends_agree, names_between, Use, OneName, Range, GivenName, is_unnumbered, node_count, is_on_pin, is_taken, words_named, words_of_names, first_undeclared, use_refused, uses_refused, same_bytes, count_append, Pinned}
 use Rattle.std.proofs.lemmas.Slice.Eq.{bytes_eq-Decides}
 use Rattle.decls.specs.declared.fault.NameFault.TheVariants as fault

@@ -1,6 +1,5 @@
 -- What becomes of each signal that was placed.
-use Rattle.std.proofs.Common.{◌≡◌, ℕ, zero, suc, ◌+◌, ◌<◌, Bool, true, false, not, ◌&&◌, ◌||◌, Option, None, Some, List, [], ◌∷◌, length, get_or, if◌then◌else◌, refl, sym, ap, ap₂, subst, ◌∙◌, arith, inl, inr, ◌==◌}
-use Rattle.std.specs.Prelude.{is_some, position}
+use Rattle.std.proofs.Common.{◌≡◌, ℕ, zero, suc, ◌+◌, ◌<◌, Bool, true, false, not, ◌&&◌, ◌||◌, Option, None, Some, List, [], ◌∷◌, length, get_or, if◌then◌else◌, refl, sym, ap, ap₂, subst, ◌∙◌, arith, inl, inr, ◌==◌, is_some, position}
 use Rattle.placer.proofs.Common.{list_any, true≢false, and_parts, or_cases, length-map, Cell, Flip, pair_pins, Table, Assigned, named_of, sections_assign, is_assigned, is_clocked_target, Kind, APin, ANode, AConstant, ADeviceName, Words, Entry, is_signal, passes, names_any, is_stored, ModuleTree, declared_names, is_unnumbered, no_name, Holds, holds_of, is_registered, is_buffer_by_default, words_with_kind, with_kind, with_kinds, names_of, name_refusals, has_wrong_kind, has_wrong_kind_by, is_registered_by, is_registered_node, has_read_path, reads_by, IsAssignment, has_enable, is_read, IsFollowed, placed_module, Pins, with_pins, is_node, pin_of, node_pin_of, dc_of, all_released, module_wishes, placed_with, IsPlacedModule, is_buried_register, needs_pin, pin_fits, to_place, wish}
 use Rattle.abel_meaning.specs.Controls.{must_register}
 use Rattle.placer.proofs.FittingPins.{no_wrong_kind, has_path, pins_fit}

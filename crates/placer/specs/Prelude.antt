@@ -5,8 +5,10 @@ pub use Rattle.abel_meaning.specs.Declarations.{GivenName, are_numbered, given_n
 pub use Rattle.abel_meaning.specs.Designs.{Design, no_name}
 pub use Rattle.abel_meaning.specs.Kinds.{is_buffer_by_default, names_of}
 pub use Rattle.abel_tree.specs.Assigned.{Named, meant, named_of, signals_of, signals_of_name, signals_of_names, target_extension, without_extension}
-pub use Rattle.abel_tree.specs.Entries.{AConstant, ADeviceName, ANode, APin, Entry, Kind, entries_of, has, is_stored, kind_of, names_any, view_declared, view_meaning}
-pub use Rattle.abel_tree.specs.Tree.{ADiagram, AName, ANumber, AnAssign, Declaration, Declarations, Equations, ModuleTree, SectionTree, SomeAttributes, SomeNodes, SomePins, Statement, Tree}
+pub use Rattle.abel_tree.specs.Entries.{AConstant, ADeviceName, ANode, APin, Entry, Kind, entries_of, has, is_stored, kind_of, names_any, view_declared}
+pub use Rattle.abel_tree.specs.Entries.{view_meaning}
+pub use Rattle.abel_tree.specs.Tree.{ADiagram, AName, ANumber, AnAssign, Declaration, Declarations, Equations, ModuleTree, SectionTree, SomeAttributes}
+pub use Rattle.abel_tree.specs.Tree.{SomeNodes, SomePins, Statement, Tree}
 pub use Rattle.abel_tree.specs.View.{view, view_decl, view_module, view_section, view_stmt}
 pub use Rattle.abel_tree.specs.declared.words.Item.{Item}
 pub use Rattle.decls.specs.NameRefusals.{name_refusals}

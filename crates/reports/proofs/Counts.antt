@@ -1,8 +1,7 @@
 -- Counts over numbers in a row, one more at a time.
-use Rattle.std.proofs.Common.{◌≡◌, ℕ, zero, suc, ◌+◌, ◌<◌, ◌≤◌, Bool, true, false, cond, List, length, Option, None, Some, refl, sym, ap, ◌∙◌, arith}
+use Rattle.std.proofs.Common.{◌≡◌, ℕ, zero, suc, ◌+◌, ◌<◌, ◌≤◌, Bool, true, false, cond, List, length, Option, None, Some, refl, sym, ap, ◌∙◌, arith, is_some}
 use Rattle.reports.proofs.Common.{count_by, range_with_len, sum_by, option_map, map-id, Netlist, arena, Wanted, plain_netlist, plain_wanted, wanted_at, cell_wanted, wanted_is, SummaryCountsTheDesign, assigned_cells}
 use mir.Val.{bool_byte}
-use Rattle.std.specs.Prelude.{is_some}
 use Rattle.std.proofs.lemmas.List.FromFn.{sum_by-map-range_with_len_more}
 use Rattle.abel_meaning.specs.Controls.{signal_on}
 use Rattle.abel_meaning.specs.Designs.{design_of}

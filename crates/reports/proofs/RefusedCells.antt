@@ -1,6 +1,5 @@
 -- The cells and controls that a refusal of the fit names are there.
-use Rattle.std.proofs.Common.{rules, ◌≡◌, ℕ, Bool, true, false, ◌==◌, nat_lt, length, List, [], ◌∷◌, ◌++◌, map, Option, None, Some, IsSome, is_some, Err, refl, sym, ap, subst, ◌∙◌, if◌then◌else◌, inl, inr}
-use Rattle.std.specs.Prelude.{find, unwrap_or}
+use Rattle.std.proofs.Common.{rules, ◌≡◌, ℕ, Bool, true, false, ◌==◌, nat_lt, length, List, [], ◌∷◌, ◌++◌, map, Option, None, Some, IsSome, is_some, Err, refl, sym, ap, subst, ◌∙◌, if◌then◌else◌, inl, inr, find, unwrap_or}
 use Rattle.reports.proofs.Common.{option_map, option_to_list, same_Some, Table, CellWanted, Control, Netlist, arena, formula_at, earlier, first_refusal, is_before, Wanted, earlier_name, first_with, own_of, plain_control, plain_netlist, plain_wanted, wanted_at, SharedControl, bit_or, cell_wanted, enable_bit, AreNotShared, own_control, own_formula, one_is, wanted_is, control_order, first_own, own_controls}
 use Rattle.std.proofs.lemmas.Bool.{cases_Bool, true≢false}
 use Rattle.pld_base.specs.declared.point.Point.{Point}

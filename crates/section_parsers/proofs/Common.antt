@@ -4,7 +4,8 @@ pub use Rattle.std.proofs.lemmas.List.{map-append, map_push}
 pub use Rattle.abel_grammar.proofs.JoinedTurns.{lists_turn, with_lists}
 pub use Rattle.abel_grammar.proofs.ListTurns.{list_turn, with_front}
 pub use Rattle.abel_grammar.proofs.SeparatedTurns.{separated_shorter, separated_turn}
-pub use Rattle.abel_grammar.proofs.Shorter.{choice_shorter, decl_shorter, dont_care_section_shorter, item_shorter, num_shorter, option_shorter, row_shorter, section_group_shorter, state_shorter, stmt_shorter, text_shorter, trans_shorter, vector_row_shorter}
+pub use Rattle.abel_grammar.proofs.Shorter.{choice_shorter, decl_shorter, dont_care_section_shorter, item_shorter, num_shorter, option_shorter, row_shorter}
+pub use Rattle.abel_grammar.proofs.Shorter.{section_group_shorter, state_shorter, stmt_shorter, text_shorter, trans_shorter, vector_row_shorter}
 pub use Rattle.abel_grammar.specs.DeclarationReaders.{bare_names, decl_starts}
 unfoldable pub use Rattle.abel_grammar.specs.DeclarationReaders.{read_decl, read_item, read_names, read_num, read_nums, read_option, read_texts}
 pub use Rattle.abel_grammar.specs.Declarations.{option_words, value_of}

@@ -1,7 +1,6 @@
 -- Whether the last state has no transition, by the last state itself.
-use Rattle.std.proofs.Common.{◌≡◌, ℕ, suc, ◌-◌, ◌==◌, List, [], ◌∷◌, length, map, Some, refl, ap, subst, arith}
+use Rattle.std.proofs.Common.{◌≡◌, ℕ, suc, ◌-◌, ◌==◌, List, [], ◌∷◌, length, map, Some, refl, ap, subst, arith, slice_get}
 use Rattle.section_parsers.proofs.Common.{nat_tests, Arm, view_arm, view_state}
-use Rattle.std.specs.Prelude.{slice_get}
 use Rattle.abel_tree.specs.declared.diagrams.State.{State}
 use Rattle.abel_grammar.specs.Modules.{is_empty, last_is_bare}
 

@@ -1,6 +1,5 @@
 -- The targets of a design are signals.
-use Rattle.std.proofs.Common.{◌≡◌, ℕ, suc, Bool, true, false, Option, None, Some, List, [], ◌∷◌, ◌++◌, length, get_or, refl, sym, ap, subst, ◌∙◌, arith, append_assoc, length-append, if◌then◌else◌, bytes_eq}
-use Rattle.std.specs.Prelude.{codes}
+use Rattle.std.proofs.Common.{◌≡◌, ℕ, suc, Bool, true, false, Option, None, Some, List, [], ◌∷◌, ◌++◌, length, get_or, refl, sym, ap, subst, ◌∙◌, arith, append_assoc, length-append, if◌then◌else◌, bytes_eq, codes}
 use Rattle.section_targets.proofs.Common.{get_or-append_seam, Extension, Kind, APin, ANode, AConstant, ADeviceName, Entry, is_signal, range_names, Tree, ANumber, ASpecial, AName, ASet, AParen, AUnary, ABinary, SetMember, OneMember, SpanMember, Members, NoMember, MoreMembers, Context, name_at, no_name, targets_of, all_targets, Term, Terms, X, Pulse, Release, Set, Known, term_named, extended_if, named_before, member_before, special_term, term_of, terms_of, term_meant, known_after, known_of}
 use Rattle.section_targets.proofs.SignalLists.{extended_targets}
 

@@ -1,6 +1,5 @@
 -- The signals of several names, one after another.
-use Rattle.std.proofs.Common.{◌≡◌, ℕ, zero, suc, ◌<◌, ◌≤◌, ◌==◌, min, Bool, true, false, ◌&&◌, Option, None, Some, List, [], ◌∷◌, ◌++◌, All, length, take, get_or, refl, sym, ap, ap₂, ◌∙◌, subst, arith, append_assoc, if◌then◌else◌, bytes_eq}
-use Rattle.std.specs.Prelude.{codes}
+use Rattle.std.proofs.Common.{◌≡◌, ℕ, zero, suc, ◌<◌, ◌≤◌, ◌==◌, min, Bool, true, false, ◌&&◌, Option, None, Some, List, [], ◌∷◌, ◌++◌, All, length, take, get_or, refl, sym, ap, ap₂, ◌∙◌, subst, arith, append_assoc, if◌then◌else◌, bytes_eq, codes}
 use Rattle.section_targets.proofs.Common.{take-map, take-take, take_all, length-take, All-append, All-map, All-take, nat_tests, Place, Extension, earlier, first_refusal, first_append, Entry, find, Tree, Context, first_place, NotAnOutput, targets_of, all_targets, some_signals, Term, Terms, Number, X, Pulse, Release, Read, Set, UnaryOf, BinaryOf, NoTerm, Before, extended, extended_each, special_term, term_named, SectionFault, section_order, too_wide, Aim, NamedSignals, Side, AreNamed, AreSignals, IsOfTerm, IsOfMembers, IsSide, TargetFound, aim_at, aims_at, names_signals, all_name_signals, is_only, is_itself, start_at, first_name, no_target, targets_both, target_set, target_member}
 
 -- ---- signals

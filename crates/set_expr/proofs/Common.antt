@@ -14,6 +14,9 @@ pub use Rattle.abel_tree.specs.declared.expressions.Member.{Member, size-Member}
 pub use Rattle.abel_tree.specs.declared.words.Binary.{Binary}
 pub use Rattle.name_uses.specs.RangeParts.{name_items}
 pub use Rattle.pld_base.specs.declared.place.Place.{Place}
-pub use Rattle.set_expr.specs.{AreSummedUp, AreValued, Found, HasShapeIf, IsKnown, IsKnownIf, IsKnownName, IsPlaced, NameFound, SumsUp, Table, all_found, by_bytes, constants_refused, found_after, found_before, found_both, found_entry, found_of, found_refusals, found_set, found_use, large_member, members_refused, members_specials, members_value, members_width, name_found, named, names_found, operands_refused, range_found, section_order, specials_refused, too_wide, under, value_of_both, value_or_none, width_with}
+pub use Rattle.set_expr.specs.{AreSummedUp, AreValued, Found, HasShapeIf, IsKnown, IsKnownIf, IsKnownName, IsPlaced, NameFound, SumsUp, Table, all_found}
+pub use Rattle.set_expr.specs.{by_bytes, constants_refused, found_after, found_before, found_both, found_entry, found_of, found_refusals, found_set, found_use}
+pub use Rattle.set_expr.specs.{large_member, members_refused, members_specials, members_value, members_width, name_found, named, names_found, operands_refused}
+pub use Rattle.set_expr.specs.{range_found, section_order, specials_refused, too_wide, under, value_of_both, value_or_none, width_with}
 pub use Rattle.set_expr.specs.declared.fault.SectionFault.{SectionFault}
 pub use Rattle.set_expr.specs.declared.known_name.KnownName.{KnownName}

@@ -1,11 +1,10 @@
 -- What is found of a set's members, one more at a time.
-use Rattle.std.proofs.Common.{◌≡◌, ℕ, ◌+◌, ◌<◌, ◌≤◌, List, [], ◌∷◌, ◌++◌, map, take, length, get_or, refl, sym, ap, ◌∙◌, append_assoc, rules}
+use Rattle.std.proofs.Common.{◌≡◌, ℕ, ◌+◌, ◌<◌, ◌≤◌, List, [], ◌∷◌, ◌++◌, map, take, length, get_or, refl, sym, ap, ◌∙◌, append_assoc, rules, Option}
 use Rattle.set_expr.proofs.Common.{take_more, take_all, map-append, Expr, the_lemmas, Member, view, view_member, Place, range_names, SetMember, OneMember, SpanMember, members_of, NameFound, all_found, found_before, found_of, found_use, name_found, range_found, Found, found_set}
 use Rattle.abel_tree.specs.declared.expressions.Expr as expr
 use Rattle.abel_tree.specs.declared.expressions.Member as member
 use Rattle.abel_tree.specs.declared.words.Extension.{Extension}
 use Rattle.abel_tree.specs.declared.words.Word.{Word}
-use Rattle.std.specs.Prelude.{Option}
 
 range_before : (ns : List NameFound) (p : Place) (names : List (List ℕ)) (fs : List Found) → range_found ns p names fs ≡ range_found ns p names [] ++ fs
 range_before ns p [] fs = refl

@@ -1,8 +1,7 @@
 -- Lists that are joined by insertion are true where the sum, and the product, of the two is.
-use Rattle.std.proofs.Common.{◌≡◌, ℕ, ◌≤◌, inl, inr, Bool, true, false, cond, ◌&&◌, ◌||◌, nat_lt, List, [], ◌∷◌, ◌++◌, length, Some, None, refl, sym, ap, ◌∙◌, subst}
+use Rattle.std.proofs.Common.{◌≡◌, ℕ, ◌≤◌, inl, inr, Bool, true, false, cond, ◌&&◌, ◌||◌, nat_lt, List, [], ◌∷◌, ◌++◌, length, Some, None, refl, sym, ap, ◌∙◌, subst, not}
 use Rattle.sop_lowering.proofs.Common.{or_lt, Cube, AsksBelow, has_point, covers, is_empty, lies_in, union, empty_has_none, lies_in_points, union_points, Products, adds_nothing, others, insert_one, insert_all, insert_unions, insert_products, product_of, sum_of, HasValue}
 use Rattle.std.specs.List.{AllByRecursion, list_any, filter}
-use Rattle.std.specs.Prelude.{not}
 use Rattle.std.proofs.lemmas.Bool.{cases_Bool, or_left, or_right, or_cases}
 use Rattle.std.proofs.lemmas.List.Folds.{list_any-append}
 

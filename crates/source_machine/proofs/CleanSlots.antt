@@ -1,6 +1,5 @@
 -- Resets read signals that lead to no register, so they depend on no Q.
-use Rattle.std.proofs.Common.{◌≡◌, ℕ, ◌+◌, ◌<◌, true, false, eqb, List, [], ◌∷◌, length, Option, Some, None, slice_get, refl, ap, sym, ◌∙◌, subst, arith, inl, inr}
-use Rattle.std.specs.Prelude.{unwrap_or}
+use Rattle.std.proofs.Common.{◌≡◌, ℕ, ◌+◌, ◌<◌, true, false, eqb, List, [], ◌∷◌, length, Option, Some, None, slice_get, refl, ap, sym, ◌∙◌, subst, arith, inl, inr, unwrap_or}
 use Rattle.source_machine.proofs.Common.{cases_Bool, cases_lt, lt-ltb, length-map, list_any_at, slice_get_within, is_on, Levels, Slot, sets_pin, sets_node, SameAt, ResetsWithoutQ, eqb_same, IsDevice, Table, Leaf, Formula, leaf_value, names, Wanted, PlainNetlist, own_of, own_or_shared, shared_function, wanted_at, netlist_stores, is_register_signal, netlist_passes, netlist_reset_reads, netlist_waits, signal_count, signal_leaf, names_if_any, IsReadable, IsSound, value_same, pin_leaf, q_leaf, pin_is_plain, node_leaf, node_is_plain, found, IsSignalOrder, netlist_lookups, signal_slot}
 use Rattle.std.specs.List.{All, list_any}
 use Rattle.pld_machine.specs.declared.logic.Slot.TheVariants as slot

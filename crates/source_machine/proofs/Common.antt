@@ -1,6 +1,7 @@
 -- The words that the proofs of this crate are said in, passed on from one place. Declares nothing.
 pub use Rattle.std.proofs.Math.Path.{fun_ext}
-pub use Rattle.std.proofs.lemmas.Bool.{cases_Bool, cases_eq, cases_lt, eq-eqb, false_from_ne_true, le-ltb, lt-ltb, ltb-false, ltb-true, or_left, or_right, true≢false}
+pub use Rattle.std.proofs.lemmas.Bool.{cases_Bool, cases_eq, cases_lt, eq-eqb, false_from_ne_true, le-ltb, lt-ltb, ltb-false, ltb-true, or_left, or_right}
+pub use Rattle.std.proofs.lemmas.Bool.{true≢false}
 pub use Rattle.std.proofs.lemmas.List.{at_drop_more, get_or_past, length-map, length_push}
 pub use Rattle.std.proofs.lemmas.List.Folds.{list_any_at}
 pub use Rattle.std.proofs.lemmas.Option.{get_or_from_slice_get, slice_get-get_or, slice_get-map, slice_get_within}
@@ -9,12 +10,15 @@ pub use Rattle.abel_meaning.specs.Controls.{cell_stores, cell_stores_for, signal
 pub use Rattle.abel_meaning.specs.Designs.{Design, design_of, name_at}
 pub use Rattle.abel_meaning.specs.Functions.{Function, allows, allows_plain, function_of, is_raw_signal, value_with_any_0}
 pub use Rattle.abel_meaning.specs.NetlistLogic.{drives, enable_of, may_drive, may_store, netlist_logic, netlist_stores, netlist_values}
-pub use Rattle.abel_meaning.specs.NetlistReads.{is_register_signal, netlist_names, netlist_passes, netlist_reset_reads, netlist_waits, signal_count, signal_leaf}
-pub use Rattle.abel_meaning.specs.Netlists.{PlainNetlist, Wanted, as_named, earlier_name, first_with, function_at, no_function, node_at, own_of, own_or_shared, plain_control, plain_function, plain_netlist, plain_wanted, shared_function, wanted_at}
+pub use Rattle.abel_meaning.specs.NetlistReads.{is_register_signal, netlist_names, netlist_passes, netlist_reset_reads, netlist_waits, signal_count}
+pub use Rattle.abel_meaning.specs.NetlistReads.{signal_leaf}
+pub use Rattle.abel_meaning.specs.Netlists.{PlainNetlist, Wanted, as_named, earlier_name, first_with, function_at, no_function, node_at, own_of, own_or_shared}
+pub use Rattle.abel_meaning.specs.Netlists.{plain_control, plain_function, plain_netlist, plain_wanted, shared_function, wanted_at}
 pub use Rattle.abel_meaning.specs.SignalReads.{function_names, given_formulas, names_if_any}
 pub use Rattle.abel_meaning.specs.SoundIds.{IsCellIn}
 pub use Rattle.abel_meaning.specs.Soundness.{IsReadable, IsSound}
-pub use Rattle.abel_meaning.specs.SourceLogic.{is_negated, logic_with_any_0, next_allows, node_allows, node_signal, node_value_by, pin_allows, q_complements, source_logic, takes_any_as_0}
+pub use Rattle.abel_meaning.specs.SourceLogic.{is_negated, logic_with_any_0, next_allows, node_allows, node_signal, node_value_by, pin_allows, q_complements}
+pub use Rattle.abel_meaning.specs.SourceLogic.{source_logic, takes_any_as_0}
 pub use Rattle.abel_tree.specs.Tree.{ModuleTree}
 pub use Rattle.bit_expr.specs.Arena.{IsLeaf}
 unfoldable pub use Rattle.bit_expr.specs.Arena.{arena}

@@ -1,7 +1,6 @@
 -- The places of a netlist's signals in an order: each has one, and what is set from a place on.
-use Rattle.std.proofs.Common.{◌≡◌, ℕ, zero, suc, ◌+◌, ◌<◌, ◌≤◌, Bool, true, false, eqb, nat_lt, List, [], ◌∷◌, map, length, drop, get_or, Some, slice_get, refl, ap, sym, ◌∙◌, arith, inl, inr}
+use Rattle.std.proofs.Common.{◌≡◌, ℕ, zero, suc, ◌+◌, ◌<◌, ◌≤◌, Bool, true, false, eqb, nat_lt, List, [], ◌∷◌, map, length, drop, get_or, Some, slice_get, refl, ap, sym, ◌∙◌, arith, inl, inr, IsTrue}
 use Rattle.source_machine.proofs.Common.{fun_ext, cases_Bool, cases_lt, eq-eqb, ltb-true, ltb-false, or_right, true≢false, list_any_at, get_or_from_slice_get, slice_get_within, slice_get-get_or, Slot, sets_pin, sets_node, logic_of, InRange, HasPins, HasSlots, Logic, eqb_same, place_of, IsDevice, Table, cell_at, own_pins, PlainNetlist, netlist_waits, signal_count, netlist_with_any_0, IsSignalOrder, netlist_lookups, signal_slot}
-use Rattle.std.specs.Prelude.{IsTrue}
 use Rattle.std.proofs.lemmas.Map.Keys.{apart_from_distinct}
 use Rattle.pld_machine.specs.declared.logic.Slot.TheVariants as slot
 use Rattle.pld_machine.proofs.Ordered.{setter_of_pin, setter_of_node, get_behind, pin_set}

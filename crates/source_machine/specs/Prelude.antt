@@ -4,7 +4,8 @@ pub use Rattle.abel_meaning.specs.Designs.{design_of}
 pub use Rattle.abel_meaning.specs.Functions.{value_with_any_0}
 pub use Rattle.abel_meaning.specs.NetlistLogic.{drives, netlist_logic, netlist_stores, netlist_values}
 pub use Rattle.abel_meaning.specs.NetlistReads.{cell_names, is_register_signal, netlist_names, netlist_waits, signal_count, signal_leaf}
-pub use Rattle.abel_meaning.specs.Netlists.{PlainNetlist, Wanted, as_named, first_with, function_at, node_at, own_or_shared, plain_control, plain_function, plain_netlist, plain_wanted, wanted_at}
+pub use Rattle.abel_meaning.specs.Netlists.{PlainNetlist, Wanted, as_named, first_with, function_at, node_at, own_or_shared, plain_control, plain_function}
+pub use Rattle.abel_meaning.specs.Netlists.{plain_netlist, plain_wanted, wanted_at}
 pub use Rattle.abel_meaning.specs.SoundIds.{IsCellIn, IsControlIn, IsFunctionIn, IsSoundNetlist}
 pub use Rattle.abel_meaning.specs.SourceLogic.{logic_with_any_0, source_logic}
 pub use Rattle.abel_tree.specs.Tree.{ModuleTree}

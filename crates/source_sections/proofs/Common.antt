@@ -6,7 +6,8 @@ pub use Rattle.abel_meaning.specs.FormulaBits.{formulas}
 pub use Rattle.abel_meaning.specs.SignalReads.{given_formulas}
 pub use Rattle.abel_tree.specs.Entries.{entries_of}
 pub use Rattle.abel_tree.specs.FirstRefusal.{earlier, first_refusal}
-pub use Rattle.abel_tree.specs.Tree.{ADevice, ADiagram, ATable, Declaration, DontCareFor, Equations, SectionTree, SomeAttributes, SomeConstants, SomeNodes, SomeOptions, SomePins}
+pub use Rattle.abel_tree.specs.Tree.{ADevice, ADiagram, ATable, Declaration, DontCareFor, Equations, SectionTree, SomeAttributes, SomeConstants, SomeNodes}
+pub use Rattle.abel_tree.specs.Tree.{SomeOptions, SomePins}
 pub use Rattle.abel_tree.specs.View.{view, view_decl, view_module, view_row, view_section, view_state, view_stmt}
 pub use Rattle.abel_tree.specs.declared.names.Names.{Names}
 pub use Rattle.bit_expr.specs.Arena.{formula_at}
@@ -25,4 +26,5 @@ pub use Rattle.set_expr.specs.Given.{view_contribution, view_guard}
 pub use Rattle.set_expr.specs.SectionOrder.{section_order}
 pub use Rattle.set_expr.specs.declared.contributions.Contribution.{Contribution}
 pub use Rattle.state_diagrams.specs.Arms.{view_arms, view_choices}
-pub use Rattle.source_sections.specs.{AreContributed, IsTold, WalksSection, WalksSections, section_manners, section_places, sections_manners, sections_places, sections_refused, source_units, units_of_section, units_of_sections, view_sections}
+pub use Rattle.source_sections.specs.{AreContributed, IsTold, WalksSection, WalksSections, section_manners, section_places, sections_manners, sections_places}
+pub use Rattle.source_sections.specs.{sections_refused, source_units, units_of_section, units_of_sections, view_sections}

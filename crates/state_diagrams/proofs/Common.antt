@@ -10,7 +10,9 @@ pub use Rattle.abel_meaning.specs.Contributions.{Evaluator, Gives, One, conditio
 pub use Rattle.abel_meaning.specs.CountedBlocks.{choices_nodes, has_other, make_literal, register_literals}
 pub use Rattle.abel_meaning.specs.CountedNodes.{choice_nodes, condition_of, guard_nodes, guard_then, term_nodes, value_nodes}
 pub use Rattle.abel_meaning.specs.Designs.{Context, context_of}
-pub use Rattle.abel_meaning.specs.Diagrams.{branch_gives, branches_give, choices_give, first_of_each, goal_gives, in_state, is_other, is_state, once, other_gives, other_matches, registers_equal, registers_given, state_gives, state_matches, states_give, with_statements}
+pub use Rattle.abel_meaning.specs.Diagrams.{branch_gives, branches_give, choices_give, first_of_each, goal_gives, in_state, is_other, is_state, once}
+pub use Rattle.abel_meaning.specs.Diagrams.{other_gives, other_matches, registers_equal, registers_given, state_gives, state_matches, states_give}
+pub use Rattle.abel_meaning.specs.Diagrams.{with_statements}
 pub use Rattle.abel_meaning.specs.FormulaBits.{bits_of, formulas}
 pub use Rattle.abel_meaning.specs.Numbers.{Number, Set, Single, Value, digits, digits_low_first, number_with, width_of}
 pub use Rattle.abel_meaning.specs.Statements.{else_gives, given_each, sign_gives, statement_gives, statements_give}
@@ -21,7 +23,9 @@ pub use Rattle.abel_meaning.specs.Values.{binary_value, constant_of, joined_valu
 pub use Rattle.abel_tree.proofs.FirstRefusals.{earlier_assoc, earlier_none, first_append, none_refused}
 pub use Rattle.abel_tree.specs.Entries.{AConstant, APin, Entry, Kind, Words, entries_of}
 pub use Rattle.abel_tree.specs.FirstRefusal.{earlier, first_refusal}
-pub use Rattle.abel_tree.specs.Tree.{ABinary, ABranch, ACase, ADontCare, AGoal, AGroup, AName, ANumber, ASet, ASpecial, AWhen, AnAssign, AnElse, AnIf, Branch, Choices, MoreChoices, MoreStatements, NoBranch, NoChoice, NoElse, NoStatement, OneMember, OtherBranch, Otherwise, SetMember, StateTree, Statement, Statements, Tree, choices_of, members_of, other_of, statements_of}
+pub use Rattle.abel_tree.specs.Tree.{ABinary, ABranch, ACase, ADontCare, AGoal, AGroup, AName, ANumber, ASet, ASpecial, AWhen, AnAssign, AnElse, AnIf, Branch}
+pub use Rattle.abel_tree.specs.Tree.{Choices, MoreChoices, MoreStatements, NoBranch, NoChoice, NoElse, NoStatement, OneMember, OtherBranch, Otherwise}
+pub use Rattle.abel_tree.specs.Tree.{SetMember, StateTree, Statement, Statements, Tree, choices_of, members_of, other_of, statements_of}
 pub use Rattle.abel_tree.specs.View.{view, view_arm, view_choice, view_state, view_stmt}
 pub use Rattle.abel_tree.specs.declared.diagrams.Arm.{Arm, the_lemmas}
 pub use Rattle.abel_tree.specs.declared.diagrams.CaseArm.{CaseArm}
@@ -76,5 +80,15 @@ pub use Rattle.set_expr.specs.declared.fault.SectionFault.TheVariants.{BadState,
 pub use Rattle.truth_tables.proofs.RowsWalked.{no_fault, not_clear, some_refused}
 pub use Rattle.truth_tables.proofs.WorkLaws.{AfterStep, DoesWork, IsLeft, left_done, left_step}
 pub use Rattle.truth_tables.specs.Works.{IsDone, Work, before}
-pub use Rattle.state_diagrams.specs.{AreRegisters, BuildsConditions, IsState, MakesBit, StandsFor, WalksBranch, WalksBranches, WalksChoices, WalksConditions, WalksStates, WalksUnder, WalksUnit, WalksValue, WalksWithin, WalksWork, aims_places, all_zero, arm_guards, bare_read, branch_manners, branch_work, branches_manners, branches_work, case_arms, case_choices, case_place, case_unit, choices_manners, choices_refused, choices_work, context_of_machine, diagram_manners, given_by, goal_parts, goal_places, goal_unit, goal_work, header_work, if_none, is_among, is_empty, is_state_of, listed_after, listed_if, listed_with, manners_behind, match_beside, matches_beside, no_block, number_guard, other_branch_places, other_firsts, other_manners, other_places, others_work, places_by, pushed_beside, pushed_for, pushed_if, regarded, register_literal, register_manners, registers_refused, registers_work, seen_if, signals_of, state_bit, state_bits, state_guard, state_manners, state_number, state_places, state_refused, state_unit, state_value_refused, state_work, states_manners, states_places, states_work, times, units_behind, units_of, units_of_diagram, units_of_other, units_of_states, units_within, view_arms, view_choices, view_goal, view_if, where_holds, within_work}
+pub use Rattle.state_diagrams.specs.{AreRegisters, BuildsConditions, IsState, MakesBit, StandsFor, WalksBranch, WalksBranches, WalksChoices, WalksConditions}
+pub use Rattle.state_diagrams.specs.{WalksStates, WalksUnder, WalksUnit, WalksValue, WalksWithin, WalksWork, aims_places, all_zero, arm_guards, bare_read}
+pub use Rattle.state_diagrams.specs.{branch_manners, branch_work, branches_manners, branches_work, case_arms, case_choices, case_place, case_unit}
+pub use Rattle.state_diagrams.specs.{choices_manners, choices_refused, choices_work, context_of_machine, diagram_manners, given_by, goal_parts, goal_places}
+pub use Rattle.state_diagrams.specs.{goal_unit, goal_work, header_work, if_none, is_among, is_empty, is_state_of, listed_after, listed_if, listed_with}
+pub use Rattle.state_diagrams.specs.{manners_behind, match_beside, matches_beside, no_block, number_guard, other_branch_places, other_firsts, other_manners}
+pub use Rattle.state_diagrams.specs.{other_places, others_work, places_by, pushed_beside, pushed_for, pushed_if, regarded, register_literal, register_manners}
+pub use Rattle.state_diagrams.specs.{registers_refused, registers_work, seen_if, signals_of, state_bit, state_bits, state_guard, state_manners, state_number}
+pub use Rattle.state_diagrams.specs.{state_places, state_refused, state_unit, state_value_refused, state_work, states_manners, states_places, states_work}
+pub use Rattle.state_diagrams.specs.{times, units_behind, units_of, units_of_diagram, units_of_other, units_of_states, units_within, view_arms, view_choices}
+pub use Rattle.state_diagrams.specs.{view_goal, view_if, where_holds, within_work}
 pub use Rattle.state_diagrams.specs.declared.machine.Machine.{Machine}

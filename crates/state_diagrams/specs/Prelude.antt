@@ -3,13 +3,15 @@ pub use Rattle.std.specs.List.{list_any}
 pub use Rattle.abel_meaning.specs.CountedBlocks.{choices_nodes, has_other, make_literal, register_literals}
 pub use Rattle.abel_meaning.specs.CountedNodes.{choice_nodes, condition_of, guard_else, guard_then, value_nodes}
 pub use Rattle.abel_meaning.specs.Designs.{Context, name_at}
-pub use Rattle.abel_meaning.specs.Diagrams.{branch_gives, branches_give, choices_give, diagram_gives, first_of_each, goal_gives, in_state, is_other, is_state, registers_given, state_gives, states_give, with_others, with_statements}
+pub use Rattle.abel_meaning.specs.Diagrams.{branch_gives, branches_give, choices_give, diagram_gives, first_of_each, goal_gives, in_state, is_other, is_state}
+pub use Rattle.abel_meaning.specs.Diagrams.{registers_given, state_gives, states_give, with_others, with_statements}
 pub use Rattle.abel_meaning.specs.FormulaBits.{formulas, make_source}
 pub use Rattle.abel_meaning.specs.Numbers.{digits, number_with}
 pub use Rattle.abel_meaning.specs.Terms.{known_of, term_of}
 pub use Rattle.abel_tree.specs.Entries.{entries_of}
 pub use Rattle.abel_tree.specs.FirstRefusal.{first_refusal}
-pub use Rattle.abel_tree.specs.Tree.{ABranch, ACase, AGoal, AnIf, Branch, Choices, MoreChoices, NoBranch, NoChoice, OtherBranch, StateTree, Tree, choices_of, statements_of}
+pub use Rattle.abel_tree.specs.Tree.{ABranch, ACase, AGoal, AnIf, Branch, Choices, MoreChoices, NoBranch, NoChoice, OtherBranch, StateTree, Tree, choices_of}
+pub use Rattle.abel_tree.specs.Tree.{statements_of}
 pub use Rattle.abel_tree.specs.View.{arm_layer, case_arm_layer, case_layer, if_layer, view, view_arm, view_choice, view_state, view_stmt}
 pub use Rattle.abel_tree.specs.declared.diagrams.CaseArm.{CaseArm}
 pub use Rattle.abel_tree.specs.declared.diagrams.Goal.{Goal}

@@ -1,6 +1,5 @@
 -- Where a block or an argument ends is told by its bytes up to there: it ends so in each text that begins with them.
-use Rattle.std.proofs.Common.{◌≡◌, ℕ, zero, suc, ◌-◌, ◌<◌, ◌≤◌, inl, inr, Bool, List, [], ◌∷◌, Some, length, take, drop, get_or, refl, sym, ap, ◌∙◌, arith, length-drop}
-use Rattle.std.specs.Prelude.{◌==◌, ◌&&◌, not, if◌then◌else◌}
+use Rattle.std.proofs.Common.{◌≡◌, ℕ, zero, suc, ◌-◌, ◌<◌, ◌≤◌, inl, inr, Bool, List, [], ◌∷◌, Some, length, take, drop, get_or, refl, sym, ap, ◌∙◌, arith, length-drop, ◌==◌, ◌&&◌, not, if◌then◌else◌}
 use Rattle.text_pieces.proofs.Common.{braces, closes_block, closing, open_in, ends_argument, argument_end, is_plain, starts_byte, passing, quoting, rest_of, Mode}
 use Rattle.abel_lexer.specs.Bytes.{note_mark, slash}
 use Rattle.abel_lexer.proofs.Booleans.{bool_cases}

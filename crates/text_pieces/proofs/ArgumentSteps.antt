@@ -1,6 +1,5 @@
 -- The arguments that are open, where a byte is passed.
-use Rattle.std.proofs.Common.{◌≡◌, ℕ, zero, suc, ◌+◌, ◌-◌, ◌<◌, Bool, true, false, List, [], ◌∷◌, ◌++◌, Option, None, Some, length, drop, get_or, set, replicate, refl, sym, ap, ◌∙◌, arith, add-one}
-use Rattle.std.specs.Prelude.{◌==◌, ◌&&◌, IfSome, IfNone, if◌then◌else◌}
+use Rattle.std.proofs.Common.{◌≡◌, ℕ, zero, suc, ◌+◌, ◌-◌, ◌<◌, Bool, true, false, List, [], ◌∷◌, ◌++◌, Option, None, Some, length, drop, get_or, set, replicate, refl, sym, ap, ◌∙◌, arith, add-one, ◌==◌, ◌&&◌, IfSome, IfNone, if◌then◌else◌}
 use Rattle.text_pieces.proofs.Common.{ne_eqb, argument_end, EndsAt, is_plain, quoting, Opened, ArgumentsOpen, Ends, Mode}
 use Rattle.text_pieces.specs.declared.mode.Mode.TheVariants as mode
 use Rattle.text_pieces.proofs.BlockSteps.{front, plain_is, no_zero}

@@ -1,6 +1,5 @@
 -- The blocks that are open, where a byte is passed.
-use Rattle.std.proofs.Common.{◌≡◌, ℕ, suc, ◌+◌, ◌-◌, ◌<◌, Bool, true, false, List, [], ◌∷◌, ◌++◌, Some, length, drop, get_or, set, replicate, Option, None, refl, sym, ap, ◌∙◌, arith, add-one}
-use Rattle.std.specs.Prelude.{◌==◌, IfSome, IfNone, if◌then◌else◌}
+use Rattle.std.proofs.Common.{◌≡◌, ℕ, suc, ◌+◌, ◌-◌, ◌<◌, Bool, true, false, List, [], ◌∷◌, ◌++◌, Some, length, drop, get_or, set, replicate, Option, None, refl, sym, ap, ◌∙◌, arith, add-one, ◌==◌, IfSome, IfNone, if◌then◌else◌}
 use Rattle.text_pieces.proofs.Common.{drop-cons, ne_eqb, closing, ClosesAt, is_plain, passing, Opened, BlocksOpen, Ends, Mode}
 use Rattle.text_pieces.specs.declared.mode.Mode.TheVariants as mode
 use Rattle.text_pieces.proofs.OpenPlaces.{stays, begins, ended, innermost}

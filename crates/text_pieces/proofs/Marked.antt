@@ -1,6 +1,5 @@
 -- Stretches in which no question mark stands.
-use Rattle.std.proofs.Common.{◌≡◌, ℕ, suc, ◌+◌, ◌-◌, ◌<◌, ◌≤◌, Bool, List, ◌∷◌, length, take, drop, get_or, refl, ap, ◌∙◌, arith}
-use Rattle.std.specs.Prelude.{◌==◌, if◌then◌else◌}
+use Rattle.std.proofs.Common.{◌≡◌, ℕ, suc, ◌+◌, ◌-◌, ◌<◌, ◌≤◌, Bool, List, ◌∷◌, length, take, drop, get_or, refl, ap, ◌∙◌, arith, ◌==◌, if◌then◌else◌}
 use Rattle.text_pieces.proofs.Common.{count_by, ne_eqb, take-take, NoMark}
 use Rattle.std.proofs.lemmas.List.Sums.{sum_by-cons, sum_by-take-le}
 use Rattle.text_pieces.proofs.BlockSteps.{front}

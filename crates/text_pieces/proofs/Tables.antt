@@ -1,6 +1,5 @@
 -- What a table says of its places, when one is asked and when one is set.
-use Rattle.std.proofs.Common.{◌≡◌, ℕ, zero, suc, ◌+◌, List, [], ◌∷◌, get_or, set, replicate, ◌-◌, take, drop, refl, sym, ap, ◌∙◌, arith}
-use Rattle.std.specs.Prelude.{◌==◌}
+use Rattle.std.proofs.Common.{◌≡◌, ℕ, zero, suc, ◌+◌, List, [], ◌∷◌, get_or, set, replicate, ◌-◌, take, drop, refl, sym, ap, ◌∙◌, arith, ◌==◌}
 use Rattle.text_pieces.proofs.Common.{count_by, NoMark, Tells}
 
 -- a fact of a number is one of an equal number

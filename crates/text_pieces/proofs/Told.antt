@@ -1,7 +1,6 @@
 -- What is known of a text is known of a piece of it, and of each text that a piece begins.
-use Rattle.std.proofs.Common.{◌≡◌, ℕ, suc, ◌+◌, ◌-◌, ◌<◌, ◌≤◌, List, ◌++◌, Option, None, Some, length, take, drop, sym, ap, ◌∙◌, arith, length-drop, length-take}
+use Rattle.std.proofs.Common.{◌≡◌, ℕ, suc, ◌+◌, ◌-◌, ◌<◌, ◌≤◌, List, ◌++◌, Option, None, Some, length, take, drop, sym, ap, ◌∙◌, arith, length-drop, length-take, ◌==◌, IfSome}
 use Rattle.text_pieces.proofs.Common.{count_by, drop-drop, drop-take, take-take, take-append-le, closing, argument_end, ClosesAt, EndsAt, NoMark}
-use Rattle.std.specs.Prelude.{◌==◌, IfSome}
 use Rattle.text_pieces.specs.declared.mode.Mode.TheVariants as mode
 use Rattle.text_pieces.proofs.Alike.{closing_alike, end_alike}
 use Rattle.text_pieces.proofs.Marked.{fewer}

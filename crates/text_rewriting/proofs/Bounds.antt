@@ -1,6 +1,5 @@
 -- The arguments by the parameters that they stand for, the last pair kept first.
-use Rattle.std.proofs.Common.{◌≡◌, ◌+◌, ◌<◌, ◌≤◌, ℕ, zero, suc, Bool, true, false, inl, inr, ◌⊎◌, List, [], ◌∷◌, Option, Some, None, length, drop, get_or, refl, sym, ap, ◌∙◌, arith, add-one, if◌then◌else◌}
-use Rattle.std.specs.Prelude.{option_map, min, nat_lt}
+use Rattle.std.proofs.Common.{◌≡◌, ◌+◌, ◌<◌, ◌≤◌, ℕ, zero, suc, Bool, true, false, inl, inr, ◌⊎◌, List, [], ◌∷◌, Option, Some, None, length, drop, get_or, refl, sym, ap, ◌∙◌, arith, add-one, if◌then◌else◌, option_map, min, nat_lt}
 use Rattle.text_rewriting.proofs.Common.{le-min, ltb-true, ltb-false, Vec, bytes_eq, drop_all, joined, bool_cases, standing_for, names, texts, under, by_bytes, with_name, bound}
 use Rattle.std.specs.Map.{lookup}
 use Rattle.std.specs.Option.{option_copied}

@@ -14,7 +14,8 @@ pub use Rattle.abel_macros.specs.Forms.{arguments, asked, replaced, standing_for
 pub use Rattle.abel_macros.specs.Gaps.{before, comment, gap, given, passing, rest_of, starts_byte, string_len, word, ◌>>=◌}
 pub use Rattle.abel_macros.specs.Kept.{IsResult, by_bytes, tables_of, under}
 pub use Rattle.abel_macros.specs.Pieces.{names, texts}
-pub use Rattle.abel_macros.specs.Rules.{BadDirective, Done, Macro, Move, Refused, Rewritten, Tables, behind_directive, called, definition, directed, directive_of, each_replaced, line_feeds, macro_word, move, named, or_bad, shown_in, token_len, value_form, with_name}
+pub use Rattle.abel_macros.specs.Rules.{BadDirective, Done, Macro, Move, Refused, Rewritten, Tables, behind_directive, called, definition, directed}
+pub use Rattle.abel_macros.specs.Rules.{directive_of, each_replaced, line_feeds, macro_word, move, named, or_bad, shown_in, token_len, value_form, with_name}
 pub use Rattle.abel_macros.specs.Values.{digits_in}
 pub use Rattle.text_pieces.specs.Stacks.{ahead, joined}
 pub use Rattle.text_rewriting.specs.Bound.{bound}

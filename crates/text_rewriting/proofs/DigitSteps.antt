@@ -1,6 +1,5 @@
 -- The digits of a value, the last of them behind the others.
-use Rattle.std.proofs.Common.{◌≡◌, ◌-◌, ◌<◌, ◌≤◌, ℕ, zero, suc, Bool, true, false, List, [], ◌∷◌, ◌++◌, length, take, drop, refl, sym, ap, ◌∙◌, arith, append-nil, append_assoc, length-append, codes}
-use Rattle.std.specs.Prelude.{◌/◌, ◌%◌, slice_index, nat_lt}
+use Rattle.std.proofs.Common.{◌≡◌, ◌-◌, ◌<◌, ◌≤◌, ℕ, zero, suc, Bool, true, false, List, [], ◌∷◌, ◌++◌, length, take, drop, refl, sym, ap, ◌∙◌, arith, append-nil, append_assoc, length-append, codes, ◌/◌, ◌%◌, slice_index, nat_lt}
 use Rattle.text_rewriting.proofs.Common.{lt-ltb, le-ltb, digits_in, Gathering}
 
 pub digit_at : (w : List ℕ) (i : ℕ) → i < length w → take 1 (drop i w) ≡ slice_index w i ∷ []

@@ -1,6 +1,5 @@
 -- What a front says of a move.
-use Rattle.std.proofs.Common.{◌≡◌, ◌-◌, ◌<◌, ◌≤◌, ℕ, List, length, take, drop, refl, sym, ap, ◌∙◌, subst, arith, length-drop}
-use Rattle.std.specs.Prelude.{Result, Ok, Err, IfOk}
+use Rattle.std.proofs.Common.{◌≡◌, ◌-◌, ◌<◌, ◌≤◌, ℕ, List, length, take, drop, refl, sym, ap, ◌∙◌, subst, arith, length-drop, Result, Ok, Err, IfOk}
 use Rattle.text_rewriting.proofs.Common.{Vec, before, Tables, Done, Rewritten, before_drop, Front, changed, IsChange, IsFront, IsMade, IsRewritten}
 use Rattle.text_rewriting.specs.declared.front.Change.{Change}
 use Rattle.text_rewriting.specs.declared.front.Front.TheVariants as front

@@ -1,6 +1,5 @@
 -- Lengths of a text that is gathered.
-use Rattle.std.proofs.Common.{◌≡◌, ◌+◌, ◌-◌, ◌<◌, ◌≤◌, ◌*◌, ℕ, zero, suc, List, [], ◌∷◌, ◌++◌, length, drop, get_or, replicate, refl, sym, ap, ◌∙◌, subst, arith, append-nil, append_assoc, add-one, length-append}
-use Rattle.std.specs.Prelude.{◌/◌}
+use Rattle.std.proofs.Common.{◌≡◌, ◌+◌, ◌-◌, ◌<◌, ◌≤◌, ◌*◌, ℕ, zero, suc, List, [], ◌∷◌, ◌++◌, length, drop, get_or, replicate, refl, sym, ap, ◌∙◌, subst, arith, append-nil, append_assoc, add-one, length-append, ◌/◌}
 use Rattle.text_rewriting.proofs.Common.{div-lt_iff_lt-mul, suc-mul, concat, joined, Gathering}
 use Rattle.text_pieces.proofs.Pieces.{joined-push}
 

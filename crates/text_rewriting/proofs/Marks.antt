@@ -1,6 +1,5 @@
 -- The end of a text stays, where bytes are taken from its front or put before it.
-use Rattle.std.proofs.Common.{◌≡◌, ◌+◌, ◌-◌, ◌≤◌, ℕ, zero, suc, List, [], ◌∷◌, ◌++◌, Option, Some, None, length, drop, sym, ap, ◌∙◌, arith, length-drop, length-append}
-use Rattle.std.specs.Prelude.{codes}
+use Rattle.std.proofs.Common.{◌≡◌, ◌+◌, ◌-◌, ◌≤◌, ℕ, zero, suc, List, [], ◌∷◌, ◌++◌, Option, Some, None, length, drop, sym, ap, ◌∙◌, arith, length-drop, length-append, codes}
 use Rattle.text_rewriting.proofs.Common.{str_eq_ignore_ascii_case, drop-length, drop-nil, drop-append-add, drop-drop, ◌>>=◌, given, before, gap, word, macro_word}
 use Rattle.text_rewriting.specs.Marks.{last}
 

@@ -1,6 +1,5 @@
 -- The move of a text, by what stands at its front.
-use Rattle.std.proofs.Common.{◌≡◌, ◌+◌, ◌<◌, ◌≤◌, ℕ, suc, Bool, true, false, inl, inr, List, [], ◌∷◌, ◌++◌, Option, Some, None, length, take, drop, refl, sym, ap, ◌∙◌, arith, if◌then◌else◌, codes}
-use Rattle.std.specs.Prelude.{◌==◌, nat_lt}
+use Rattle.std.proofs.Common.{◌≡◌, ◌+◌, ◌<◌, ◌≤◌, ℕ, suc, Bool, true, false, inl, inr, List, [], ◌∷◌, ◌++◌, Option, Some, None, length, take, drop, refl, sym, ap, ◌∙◌, arith, if◌then◌else◌, codes, ◌==◌, nat_lt}
 use Rattle.text_rewriting.proofs.Common.{prefix_len, Vec, eqb-true, eq-eqb, ltb-true, bool_cases, quote, is_name_later, quoted_len, ◌>>=◌, given, before, starts_byte, rest_of, comment, string_len, word, arguments, replaced, standing_for, IsResult, names, texts, Tables, Macro, Move, Done, Rewritten, Refused, BadDirective, or_bad, macro_word, definition, called, named, directed, directive_of, behind_directive, token_len, move, before_drop, digits_in, plain_move, digits}
 
 pub zero_takes_none : (v : ℕ) (w : List ℕ) → v ≡ 0 → (if v == 0 then [] else w) ≡ []

@@ -1,6 +1,5 @@
 -- A block in which arguments stand for parameters, part by part.
-use Rattle.std.proofs.Common.{◌≡◌, ◌+◌, ◌<◌, ◌≤◌, ℕ, zero, suc, Bool, true, false, List, [], ◌∷◌, ◌++◌, Option, Some, None, inl, inr, length, take, drop, refl, sym, ap, ◌∙◌, arith, append-nil, append_assoc, add-one, length-append, length-drop, if◌then◌else◌}
-use Rattle.std.specs.Prelude.{◌==◌, Result, Ok, Err, IfErr, IfSome, IfNone}
+use Rattle.std.proofs.Common.{◌≡◌, ◌+◌, ◌<◌, ◌≤◌, ℕ, zero, suc, Bool, true, false, List, [], ◌∷◌, ◌++◌, Option, Some, None, inl, inr, length, take, drop, refl, sym, ap, ◌∙◌, arith, append-nil, append_assoc, add-one, length-append, length-drop, if◌then◌else◌, ◌==◌, Result, Ok, Err, IfErr, IfSome, IfNone}
 use Rattle.text_rewriting.proofs.Common.{count_by, drop-drop, take-add, bool_cases, Vec, starts_byte, rest_of, is_name_later, shaped_len, asked, replaced, standing_for, texts, each_replaced}
 use Rattle.std.proofs.lemmas.List.Sums.{sum_by-cons}
 use Rattle.abel_lexer.specs.Kinds.{word_head}

@@ -1,6 +1,5 @@
 -- Line feeds and spaces of a form, byte by byte.
-use Rattle.std.proofs.Common.{◌≡◌, ◌+◌, ◌<◌, ◌≤◌, ℕ, Bool, true, false, List, [], ◌∷◌, ◌++◌, length, take, refl, sym, ap, ◌∙◌, arith, append-nil, append_assoc, length-take, if◌then◌else◌}
-use Rattle.std.specs.Prelude.{◌==◌}
+use Rattle.std.proofs.Common.{◌≡◌, ◌+◌, ◌<◌, ◌≤◌, ℕ, Bool, true, false, List, [], ◌∷◌, ◌++◌, length, take, refl, sym, ap, ◌∙◌, arith, append-nil, append_assoc, length-take, if◌then◌else◌, ◌==◌}
 use Rattle.text_rewriting.proofs.Common.{eqb-true, eq-eqb, passing, line_feeds, shown_in}
 use Rattle.text_pieces.specs.declared.mode.Mode.{Mode}
 use Rattle.text_pieces.specs.declared.mode.Mode.TheVariants as mode

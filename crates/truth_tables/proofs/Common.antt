@@ -20,14 +20,17 @@ pub use Rattle.abel_meaning.specs.Numbers.{Single, Value, digits, digits_low_fir
 pub use Rattle.abel_meaning.specs.Rows.{all_marks, entry_levels, level_of_mark, marks_of, part_marks, part_width}
 pub use Rattle.abel_meaning.specs.Tables.{agrees, level_gives, match_of, no_matches, outputs_given, rows_give}
 pub use Rattle.abel_meaning.specs.Targets.{all_targets, targets_of}
-pub use Rattle.abel_meaning.specs.Terms.{Before, BinaryOf, Known, NoTerm, Number, Pulse, Release, Set, Term, Terms, UnaryOf, X, extended, extended_each, extended_if, known_of, member_before, named_before, special_term, term_meant, term_named, term_of, terms_of}
+pub use Rattle.abel_meaning.specs.Terms.{Before, BinaryOf, Known, NoTerm, Number, Pulse, Release, Set, Term, Terms, UnaryOf, X, extended, extended_each}
+pub use Rattle.abel_meaning.specs.Terms.{extended_if, known_of, member_before, named_before, special_term, term_meant, term_named, term_of, terms_of}
 pub use Rattle.abel_meaning.specs.Values.{binary_by, constant_of, is_relation}
 pub use Rattle.abel_tree.proofs.FirstRefusals.{first_append, none_refused}
-pub use Rattle.abel_tree.specs.Entries.{AConstant, ADeviceName, ANode, APin, Entry, Kind, entries_of, find, is_signal, is_value, kind_of, names_any, passes, view_declared}
+pub use Rattle.abel_tree.specs.Entries.{AConstant, ADeviceName, ANode, APin, Entry, Kind, entries_of, find, is_signal, is_value, kind_of, names_any, passes}
+pub use Rattle.abel_tree.specs.Entries.{view_declared}
 pub use Rattle.abel_tree.specs.FirstRefusal.{earlier, first_refusal}
 unfoldable pub use Rattle.abel_tree.specs.FirstRefusal.{is_before}
 pub use Rattle.abel_tree.specs.Ranges.{range_names}
-pub use Rattle.abel_tree.specs.Tree.{ABinary, AName, ANumber, AParen, ASet, ASpecial, AUnary, Members, MoreMembers, NoMember, OneMember, RowTree, SetMember, SpanMember, Tree, members_of}
+pub use Rattle.abel_tree.specs.Tree.{ABinary, AName, ANumber, AParen, ASet, ASpecial, AUnary, Members, MoreMembers, NoMember, OneMember, RowTree, SetMember}
+pub use Rattle.abel_tree.specs.Tree.{SpanMember, Tree, members_of}
 pub use Rattle.abel_tree.specs.View.{view, view_member, view_row}
 pub use Rattle.abel_tree.specs.declared.expressions.Expr.{Expr, size-Expr, the_lemmas}
 pub use Rattle.abel_tree.specs.declared.expressions.Member.{Member, size-Member}
@@ -75,9 +78,22 @@ pub use Rattle.set_expr.specs.declared.contributions.Contribution.{Contribution}
 pub use Rattle.set_expr.specs.declared.contributions.Contributions.{Contributions}
 pub use Rattle.set_expr.specs.declared.contributions.Guard.{Guard}
 pub use Rattle.set_expr.specs.declared.fault.SectionFault.{SectionFault}
-pub use Rattle.set_expr.specs.declared.fault.SectionFault.TheVariants.{BadRow, BadWidth, MisplacedSpecial, MixedAssignment, NotAnOutput, NotConstant, ZeroDivisor}
+pub use Rattle.set_expr.specs.declared.fault.SectionFault.TheVariants.{BadRow, BadWidth, MisplacedSpecial, MixedAssignment, NotAnOutput, NotConstant}
+pub use Rattle.set_expr.specs.declared.fault.SectionFault.TheVariants.{ZeroDivisor}
 pub use Rattle.set_expr.specs.declared.shaped.Shape.{Shape}
-pub use Rattle.truth_tables.specs.{AreParts, AreSignals, GivesOutput, GivesPosition, GivesPositions, HasInputs, HeaderFound, IsAdded, IsDone, IsJoined, IsListed, IsMet, IsNumeral, IsOfKind, IsOperator, IsOver, IsPair, IsPart, IsPut, IsRead, IsRow, IsSet, IsShapedTerm, IsStand, IsStep, LeadsBack, NamesOutputs, Opened, StandForInputs, Taken, Walked, Walking, WalksTable, WalksWork, Work, all_meet, all_name_positions, all_refused_inside, all_signs, any_holds_pulse, arrow_refused, assigned_by, before, behind, both_headers, both_sets, design_of, entry_refused, found_work, given_by, given_freely, headed_work, header_literals, header_name, header_of, header_range, header_refused, header_set, header_special, holds_pulse, if_none, inputs_nodes, inputs_term, is_computed, is_number, is_operand, is_pulse_named, is_set, kind_signs, level_refused, levels_of, listing, literals, matched_guard, meeting, meets, meets_whole, member_holds_pulse, member_refused_inside, named_outputs, names_left, names_positions, names_refused, no_matches_work, nodes_behind, nodes_left, nothing, output_header, output_member, output_members, outputs_at, outputs_refused, paired, part_parts, places_by, places_for, places_of, position_literal, refused_header, refused_inside, row_places, row_refused, row_units, row_work, rows_places, rows_work, seen, signals_of, signs_left, some_aims, steps_left, steps_up_to, term_parts, terms_parts, units_behind, units_of, units_of_table, unless_met, unless_refused, up_to, value_places, view_mark}
+pub use Rattle.truth_tables.specs.{AreParts, AreSignals, GivesOutput, GivesPosition, GivesPositions, HasInputs, HeaderFound, IsAdded, IsDone, IsJoined}
+pub use Rattle.truth_tables.specs.{IsListed, IsMet, IsNumeral, IsOfKind, IsOperator, IsOver, IsPair, IsPart, IsPut, IsRead, IsRow, IsSet, IsShapedTerm, IsStand}
+pub use Rattle.truth_tables.specs.{IsStep, LeadsBack, NamesOutputs, Opened, StandForInputs, Taken, Walked, Walking, WalksTable, WalksWork, Work, all_meet}
+pub use Rattle.truth_tables.specs.{all_name_positions, all_refused_inside, all_signs, any_holds_pulse, arrow_refused, assigned_by, before, behind, both_headers}
+pub use Rattle.truth_tables.specs.{both_sets, design_of, entry_refused, found_work, given_by, given_freely, headed_work, header_literals, header_name}
+pub use Rattle.truth_tables.specs.{header_of, header_range, header_refused, header_set, header_special, holds_pulse, if_none, inputs_nodes, inputs_term}
+pub use Rattle.truth_tables.specs.{is_computed, is_number, is_operand, is_pulse_named, is_set, kind_signs, level_refused, levels_of, listing, literals}
+pub use Rattle.truth_tables.specs.{matched_guard, meeting, meets, meets_whole, member_holds_pulse, member_refused_inside, named_outputs, names_left}
+pub use Rattle.truth_tables.specs.{names_positions, names_refused, no_matches_work, nodes_behind, nodes_left, nothing, output_header, output_member}
+pub use Rattle.truth_tables.specs.{output_members, outputs_at, outputs_refused, paired, part_parts, places_by, places_for, places_of, position_literal}
+pub use Rattle.truth_tables.specs.{refused_header, refused_inside, row_places, row_refused, row_units, row_work, rows_places, rows_work, seen, signals_of}
+pub use Rattle.truth_tables.specs.{signs_left, some_aims, steps_left, steps_up_to, term_parts, terms_parts, units_behind, units_of, units_of_table, unless_met}
+pub use Rattle.truth_tables.specs.{unless_refused, up_to, value_places, view_mark}
 pub use Rattle.truth_tables.specs.declared.giving.Assigning.{Assigning}
 pub use Rattle.truth_tables.specs.declared.mark.Mark.{Mark}
 pub use Rattle.truth_tables.specs.declared.part.Pair.{Pair}

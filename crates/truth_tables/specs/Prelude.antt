@@ -10,12 +10,14 @@ pub use Rattle.abel_meaning.specs.Numbers.{digits_low_first, width_of}
 pub use Rattle.abel_meaning.specs.Rows.{entry_levels, level_of_mark, marks_of, part_marks, part_width}
 pub use Rattle.abel_meaning.specs.Tables.{no_matches, outputs_given, row_matches, table_gives}
 pub use Rattle.abel_meaning.specs.Targets.{targets_of}
-pub use Rattle.abel_meaning.specs.Terms.{Known, NoTerm, Term, Terms, extended_if, known_of, member_before, special_term, term_meant, term_named, term_of, terms_of}
+pub use Rattle.abel_meaning.specs.Terms.{Known, NoTerm, Term, Terms, extended_if, known_of, member_before, special_term, term_meant, term_named, term_of}
+pub use Rattle.abel_meaning.specs.Terms.{terms_of}
 pub use Rattle.abel_meaning.specs.Values.{constant_of}
 pub use Rattle.abel_tree.specs.Entries.{AConstant, ADeviceName, ANode, APin, Entry, Kind, entries_of, find, view_meaning}
 pub use Rattle.abel_tree.specs.FirstRefusal.{first_refusal}
 pub use Rattle.abel_tree.specs.Ranges.{range_names}
-pub use Rattle.abel_tree.specs.Tree.{ABinary, AName, ANumber, AParen, ASet, ASpecial, AUnary, Members, MoreMembers, NoMember, OneMember, RowTree, SetMember, SpanMember, Tree, members_of}
+pub use Rattle.abel_tree.specs.Tree.{ABinary, AName, ANumber, AParen, ASet, ASpecial, AUnary, Members, MoreMembers, NoMember, OneMember, RowTree, SetMember}
+pub use Rattle.abel_tree.specs.Tree.{SpanMember, Tree, members_of}
 pub use Rattle.abel_tree.specs.View.{view, view_member, view_row}
 pub use Rattle.abel_tree.specs.declared.names.Names.{Names}
 pub use Rattle.abel_tree.specs.declared.tables.Table.{Table}

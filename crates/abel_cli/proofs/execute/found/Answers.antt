@@ -1,6 +1,5 @@
 -- A source over the limit is one where the files tell it.
-use Rattle.std.proofs.Common.{◌∙◌}
-use Rattle.std.specs.Prelude.{string_bytes}
+use Rattle.std.proofs.Common.{◌∙◌, string_bytes}
 use Rattle.abel_cli.proofs.Common.{length-map, command_seen, ending_seen}
 use Rattle.abel_cli.proofs.Called.{ends_long}
 use Rattle.abel_cli.proofs.execute.found.Goals as goal

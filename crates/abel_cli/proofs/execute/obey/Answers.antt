@@ -1,6 +1,5 @@
 -- The endings of a command are called for by its words.
-use Rattle.std.proofs.Common.{ℕ, List, Option, Some, Err, ap, subst, sym, ◌∙◌}
-use Rattle.std.specs.Prelude.{option_map}
+use Rattle.std.proofs.Common.{ℕ, List, Option, Some, Err, ap, subst, sym, ◌∙◌, option_map}
 use Rattle.abel_cli.proofs.Common.{Rose, asked, Puts, command_seen, ending_seen, output_seen}
 use Rattle.outside.specs.declared.files.WriteFault.{WriteFault}
 use Rattle.abel_commands.specs.declared.ending.Output as put

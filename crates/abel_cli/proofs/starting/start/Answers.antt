@@ -1,6 +1,5 @@
 -- The words that were given are those of the run.
-use Rattle.std.proofs.Common.{◌≡◌, ℕ, List, [], Option, Some, sym, ◌∙◌, ap, subst}
-use Rattle.std.specs.Prelude.{unwrap_or}
+use Rattle.std.proofs.Common.{◌≡◌, ℕ, List, [], Option, Some, sym, ◌∙◌, ap, subst, unwrap_or}
 use Rattle.abel_cli.proofs.Common.{HasCompiled, IsRight, texts}
 use Rattle.abel_cli.specs.Start.{words_of}
 use Rattle.abel_cli.proofs.starting.start.Goals as goal

@@ -1,6 +1,5 @@
 -- The table of a device's name is the device's.
-use Rattle.std.proofs.Common.{◌≡◌, ℕ, ◌^◌, ◌<◌, Bool, List, sym, subst}
-use Rattle.std.specs.Prelude.{IfOk, Result}
+use Rattle.std.proofs.Common.{◌≡◌, ℕ, ◌^◌, ◌<◌, Bool, List, sym, subst, IfOk, Result}
 use Rattle.abel_commands.proofs.Common.{DeviceName, summary_of, table_of, FileEnds, ending_seen}
 use Rattle.abel_commands.specs.declared.ending.Ending as kept
 use Rattle.abel_commands.proofs.demo.file_ending.Goals as goal

@@ -1,6 +1,5 @@
 -- Three pieces were appended, one behind the other.
-use Rattle.std.proofs.Common.{◌≡◌, ℕ, List, ◌++◌, ◌∙◌, ap, append_assoc}
-use Rattle.std.specs.Prelude.{codes}
+use Rattle.std.proofs.Common.{◌≡◌, ℕ, List, ◌++◌, ◌∙◌, ap, append_assoc, codes}
 use Rattle.abel_commands.proofs.Common.{four_hex}
 use Rattle.abel_commands.proofs.fault_line.put_sums.Goals as goal
 

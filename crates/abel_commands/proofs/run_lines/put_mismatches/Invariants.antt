@@ -1,5 +1,4 @@
-use Rattle.std.proofs.Common.{◌≡◌, ◌++◌, take}
-use Rattle.std.specs.Prelude.{flat_map}
+use Rattle.std.proofs.Common.{◌≡◌, ◌++◌, take, flat_map}
 use Rattle.abel_commands.proofs.Common.{mismatch_line}
 use Rattle.abel_commands.proofs.run_lines.put_mismatches.Given as goal
 

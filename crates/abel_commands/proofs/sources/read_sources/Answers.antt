@@ -1,7 +1,6 @@
 -- One source is read after the other, and the first fault is told.
-use Rattle.std.proofs.Common.{◌∙◌, ℕ, ◌<◌, List, length, Err, ap, sym, subst, arith}
+use Rattle.std.proofs.Common.{◌∙◌, ℕ, ◌<◌, List, length, Err, ap, sym, subst, arith, string_bytes}
 use Rattle.abel_commands.proofs.Common.{Vec, length-map, ReadFault, bytes_at, limit}
-use Rattle.std.specs.Prelude.{string_bytes}
 use Rattle.abel_commands.proofs.Settled.{settled, too_long_settled}
 use Rattle.abel_commands.proofs.SourceLists.{at_name, bytes_same, own_more, within_more}
 use Rattle.abel_commands.proofs.sources.read_sources.Goals as goal

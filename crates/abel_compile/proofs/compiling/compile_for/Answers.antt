@@ -1,6 +1,5 @@
 -- What is said of the placed module is said of its source.
-use Rattle.std.proofs.Common.{sym, subst}
-use Rattle.std.specs.Prelude.{IfErr, IfOk}
+use Rattle.std.proofs.Common.{sym, subst, IfErr, IfOk}
 use Rattle.abel_compile.proofs.Common.{err_from_is_err_and, IsPlainName, Word, view_module, HasNumberedNames, IsPlacedModule, IsRefusedBy, by_declared, by_placing, placed_name, IsCompiledOn}
 use Rattle.abel_tree.specs.declared.sections.Module.{Module}
 use Rattle.abel_compile.proofs.Refusals.{handed}

@@ -1,5 +1,5 @@
 -- A refusal of the fit is handed on; a fit is that of the module.
-use Rattle.std.specs.Prelude.{IfErr}
+use Rattle.std.proofs.Common.{IfErr}
 use Rattle.abel_compile.proofs.Common.{err_from_is_err_and, entries_of, view_module, IsRefusedFor, by_fit}
 use Rattle.abel_compile.proofs.CompiledModules.{compiled_on}
 use Rattle.abel_compile.proofs.Refusals.{handed}

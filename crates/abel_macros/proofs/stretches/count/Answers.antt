@@ -1,6 +1,5 @@
 -- One byte more is counted.
-use Rattle.std.proofs.Common.{get_or, arith}
-use Rattle.std.specs.Prelude.{◌==◌}
+use Rattle.std.proofs.Common.{get_or, arith, ◌==◌}
 use Rattle.abel_macros.proofs.Passed.{more, byte_small, all_counted, so_far, counted}
 use Rattle.abel_macros.proofs.stretches.count.Goals as goal
 

@@ -1,6 +1,5 @@
 -- The sum is that of the bytes so far.
-use Rattle.std.proofs.Common.{◌≡◌, take}
-use Rattle.std.specs.Prelude.{◌==◌}
+use Rattle.std.proofs.Common.{◌≡◌, take, ◌==◌}
 use Rattle.abel_macros.proofs.Common.{count_by}
 use Rattle.abel_macros.proofs.stretches.count.Given as goal
 

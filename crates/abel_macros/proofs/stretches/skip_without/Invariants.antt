@@ -1,6 +1,5 @@
 -- What was passed hasn't the byte.
-use Rattle.std.proofs.Common.{◌≡◌, ◌<◌, ◌+◌, ◌^◌, length, take, drop}
-use Rattle.std.specs.Prelude.{◌==◌}
+use Rattle.std.proofs.Common.{◌≡◌, ◌<◌, ◌+◌, ◌^◌, length, take, drop, ◌==◌}
 use Rattle.abel_macros.proofs.Common.{count_by, ahead}
 use Rattle.abel_macros.proofs.stretches.skip_without.Given as goal
 

@@ -1,6 +1,5 @@
 -- What the first string says, or that there is none.
-use Rattle.std.proofs.Common.{sym, ap, ◌∙◌}
-use Rattle.std.specs.Prelude.{option_copied}
+use Rattle.std.proofs.Common.{sym, ap, ◌∙◌, option_copied}
 use Rattle.decls.proofs.Common.{view_module, named_device, unquoted, all_declarations}
 use Rattle.decls.proofs.FirstStrings.{known, unknown, unsaid}
 use Rattle.decls.proofs.device.device_of.Goals as goal

@@ -1,6 +1,5 @@
 -- The string stands in the declarations, or in those of the sections.
-use Rattle.std.proofs.Common.{map, sym, ap, ◌∙◌}
-use Rattle.std.specs.Prelude.{option_copied}
+use Rattle.std.proofs.Common.{map, sym, ap, ◌∙◌, option_copied}
 use Rattle.decls.proofs.Common.{view_decl, view_section, section_declarations, first_string}
 use Rattle.decls.proofs.FirstStrings.{first_part, second_part}
 use Rattle.decls.proofs.device.device_string.Goals as goal

@@ -1,6 +1,5 @@
 -- The first string is found where it stands, or there is none.
-use Rattle.std.proofs.Common.{map, sym, ap, ◌∙◌}
-use Rattle.std.specs.Prelude.{option_copied}
+use Rattle.std.proofs.Common.{map, sym, ap, ◌∙◌, option_copied}
 use Rattle.decls.proofs.Common.{view_decl, first_string}
 use Rattle.decls.proofs.FirstStrings.{none_more, found_here, decls_parts}
 use Rattle.decls.proofs.device.string_among.Goals as goal

@@ -1,6 +1,5 @@
 -- The first string is found where it stands, or there is none.
-use Rattle.std.proofs.Common.{sym, ap, ◌∙◌}
-use Rattle.std.specs.Prelude.{option_copied}
+use Rattle.std.proofs.Common.{sym, ap, ◌∙◌, option_copied}
 use Rattle.decls.proofs.FirstStrings.{none_more, found_here, sections_string, sections_parts}
 use Rattle.decls.proofs.device.string_in_sections.Goals as goal
 

@@ -1,6 +1,5 @@
 -- Three pieces were appended, one behind the other.
-use Rattle.std.proofs.Common.{◌≡◌, ℕ, List, ◌++◌, ◌∙◌, ap, append_assoc}
-use Rattle.std.specs.Prelude.{codes}
+use Rattle.std.proofs.Common.{◌≡◌, ℕ, List, ◌++◌, ◌∙◌, ap, append_assoc, codes}
 use Rattle.decompiled.proofs.Common.{device_text}
 use Rattle.decompiled.proofs.source.put_head.Goals as goal
 

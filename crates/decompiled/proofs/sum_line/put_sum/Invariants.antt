@@ -1,5 +1,4 @@
-use Rattle.std.proofs.Common.{◌≡◌, ◌++◌, take, flat_map}
-use Rattle.std.specs.Prelude.{codes}
+use Rattle.std.proofs.Common.{◌≡◌, ◌++◌, take, flat_map, codes}
 use Rattle.decompiled.proofs.Common.{product_text}
 use Rattle.decompiled.proofs.sum_line.put_sum.Given as goal
 

@@ -1,5 +1,4 @@
-use Rattle.std.proofs.Common.{◌≡◌, ◌-◌, ◌∙◌, ◌++◌, append_assoc, arith}
-use Rattle.std.specs.Prelude.{codes}
+use Rattle.std.proofs.Common.{◌≡◌, ◌-◌, ◌∙◌, ◌++◌, append_assoc, arith, codes}
 use Rattle.demo_source.proofs.Common.{is_on, levels_of, levels_text, further_text}
 use Rattle.demo_source.proofs.Lines.{levels_more}
 use Rattle.demo_source.proofs.vectors.put_shown.Goals as goal

@@ -1,5 +1,4 @@
-use Rattle.std.proofs.Common.{◌≡◌, ◌-◌, ◌++◌}
-use Rattle.std.specs.Prelude.{codes}
+use Rattle.std.proofs.Common.{◌≡◌, ◌-◌, ◌++◌, codes}
 use Rattle.demo_source.proofs.Common.{levels_of, levels_text}
 use Rattle.demo_source.proofs.vectors.put_shown.Given as goal
 

@@ -1,6 +1,5 @@
-use Rattle.std.proofs.Common.{false, sym, ap, ◌∙◌}
+use Rattle.std.proofs.Common.{false, sym, ap, ◌∙◌, Option}
 use Rattle.fitter.proofs.Common.{option_map, get_or_from_slice_get, Cell, stores_by, cell_at, no_cell, CellWanted, arena, plain_wanted, registers_as}
-use Rattle.std.specs.Prelude.{Option}
 use Rattle.fitter.proofs.TurnBits.{stores_is}
 use Rattle.fitter.proofs.masks.is_register.Goals as goal
 

@@ -1,6 +1,5 @@
 -- None of the cells so far is the one.
-use Rattle.std.proofs.Common.{◌≡◌, ◌==◌, drop}
-use Rattle.std.specs.Prelude.{find}
+use Rattle.std.proofs.Common.{◌≡◌, ◌==◌, drop, find}
 use Rattle.fitter.proofs.Common.{CellWanted}
 use Rattle.fitter.proofs.shared.cell_wanted.Given as goal
 

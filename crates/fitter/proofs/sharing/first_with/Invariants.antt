@@ -1,5 +1,5 @@
 -- The best so far, with the rest, gives the first of all, and is one of the cells.
-use Rattle.std.specs.Prelude.{Contains, IfSome}
+use Rattle.std.proofs.Common.{Contains, IfSome}
 use Rattle.fitter.proofs.Common.{arena}
 use Rattle.fitter.proofs.FirstNames.{IsFirstSoFar}
 use Rattle.fitter.proofs.sharing.first_with.Given as goal

@@ -1,5 +1,4 @@
-use Rattle.std.proofs.Common.{sym, ap, ◌∙◌}
-use Rattle.std.specs.Prelude.{is_some}
+use Rattle.std.proofs.Common.{sym, ap, ◌∙◌, is_some}
 use Rattle.fitter.proofs.Common.{option_map, true≢false, arena, plain_wanted}
 use Rattle.fitter.proofs.WantedIds.{zero_is, zero_sound}
 use Rattle.fitter.proofs.Alike.{first_of, none_shared, zero_list}

@@ -1,7 +1,6 @@
 -- Five pieces were appended, one behind the other.
-use Rattle.std.proofs.Common.{◌++◌}
+use Rattle.std.proofs.Common.{◌++◌, codes, flat_map}
 use Rattle.fuse_listing.proofs.Common.{on_ok_weaker, entries_of, view_declared, cell_at, enable_text, head_text, line_if_used}
-use Rattle.std.specs.Prelude.{codes, flat_map}
 use Rattle.pld_device.specs.Macrocells.{data_rows}
 use Rattle.fuse_listing.proofs.Joined.{one_more}
 use Rattle.fuse_listing.proofs.cells.put_cell.Goals as goal

@@ -1,7 +1,6 @@
 -- Five pieces were appended, one behind the other.
-use Rattle.std.proofs.Common.{◌++◌, refl}
+use Rattle.std.proofs.Common.{◌++◌, refl, codes}
 use Rattle.fuse_listing.proofs.Common.{on_ok_weaker, view_declared, chosen_text, kind_text, pin_text, polarity_text, use_text}
-use Rattle.std.specs.Prelude.{codes}
 use Rattle.fuse_listing.proofs.Joined.{one_more}
 use Rattle.fuse_listing.proofs.cells.put_head.Goals as goal
 

@@ -1,5 +1,4 @@
-use Rattle.std.proofs.Common.{◌≡◌, get_or, sym, refl, arith, None, true}
-use Rattle.std.specs.Prelude.{is_none}
+use Rattle.std.proofs.Common.{◌≡◌, get_or, sym, refl, arith, None, true, is_none}
 use Rattle.jedec_reader.proofs.Positions.{position_found, position_none}
 use Rattle.jedec_reader.proofs.fuse_levels.first_unlisted.Goals as goal
 

@@ -1,5 +1,4 @@
-use Rattle.std.proofs.Common.{◌≡◌, ℕ, ◌<◌, false, get_or}
-use Rattle.std.specs.Prelude.{is_none, None}
+use Rattle.std.proofs.Common.{◌≡◌, ℕ, ◌<◌, false, get_or, is_none, None}
 use Rattle.jedec_reader.proofs.fuse_levels.first_unlisted.Given as goal
 
 abbrev pub invariant-loop-fuse : goal.invariant-loop-fuse

@@ -1,5 +1,4 @@
-use Rattle.std.proofs.Common.{sym, ℕ, Bool, get_or, false, arith}
-use Rattle.std.specs.Prelude.{nat_lt, if◌then◌else◌, unwrap_or, None}
+use Rattle.std.proofs.Common.{sym, ℕ, Bool, get_or, false, arith, nat_lt, if◌then◌else◌, unwrap_or, None}
 use Rattle.jedec_reader.proofs.Common.{map-range_with_len_more}
 use Rattle.jedec_reader.proofs.fuse_levels.fuse_levels.Goals as goal
 

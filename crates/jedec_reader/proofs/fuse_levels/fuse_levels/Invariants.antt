@@ -1,5 +1,4 @@
-use Rattle.std.proofs.Common.{◌≡◌, false, get_or, map}
-use Rattle.std.specs.Prelude.{nat_lt, if◌then◌else◌, unwrap_or, None}
+use Rattle.std.proofs.Common.{◌≡◌, false, get_or, map, nat_lt, if◌then◌else◌, unwrap_or, None}
 use Rattle.jedec_reader.proofs.Common.{range_with_len}
 use Rattle.jedec_reader.proofs.fuse_levels.fuse_levels.Given as goal
 

@@ -1,5 +1,4 @@
-use Rattle.std.proofs.Common.{ap, sym, arith, eq-eqb, ℕ, Option}
-use Rattle.std.specs.Prelude.{◌==◌, unwrap_or}
+use Rattle.std.proofs.Common.{ap, sym, arith, eq-eqb, ℕ, Option, ◌==◌, unwrap_or}
 use Rattle.jedec_reader.proofs.Positions.{position_found, position_none}
 use Rattle.jedec_reader.proofs.pin_order.place_of.Goals as goal
 

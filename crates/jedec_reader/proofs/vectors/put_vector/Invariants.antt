@@ -1,5 +1,4 @@
-use Rattle.std.proofs.Common.{◌≡◌, ℕ, ◌+◌, ◌-◌, ◌≤◌, ◌^◌, length, get_or}
-use Rattle.std.specs.Prelude.{None}
+use Rattle.std.proofs.Common.{◌≡◌, ℕ, ◌+◌, ◌-◌, ◌≤◌, ◌^◌, length, get_or, None}
 use Rattle.jedec_reader.proofs.vectors.put_vector.Given as goal
 
 abbrev pub invariant-loop-table : goal.invariant-loop-table

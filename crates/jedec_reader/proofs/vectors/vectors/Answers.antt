@@ -1,6 +1,5 @@
-use Rattle.std.proofs.Common.{◌≡◌, ◌∙◌, ap, sym, subst, List}
+use Rattle.std.proofs.Common.{◌≡◌, ◌∙◌, ap, sym, subst, List, All}
 use Rattle.jedec_reader.proofs.Common.{IfOk-weaker, Vector, vectors_of, all_chars, IsPadded, present}
-use Rattle.std.specs.Prelude.{All}
 use Rattle.jedec_reader.proofs.NumberedVectors.{vectors_said, present_padded}
 use Rattle.jedec_reader.proofs.vectors.vectors.Goals as goal
 

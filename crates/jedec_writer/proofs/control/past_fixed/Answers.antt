@@ -1,5 +1,4 @@
-use Rattle.std.proofs.Common.{rules, ◌≡◌, ◌∷◌, [], slice_get, add-one}
-use Rattle.std.specs.Prelude.{max}
+use Rattle.std.proofs.Common.{rules, ◌≡◌, ◌∷◌, [], slice_get, add-one, max}
 use Rattle.jedec_writer.proofs.Common.{past, fuses_named}
 use Rattle.jedec_writer.proofs.ControlEnds.{fixed_more, goes_on}
 use Rattle.jedec_writer.proofs.control.past_fixed.Goals as goal

@@ -1,5 +1,4 @@
-use Rattle.std.proofs.Common.{◌≡◌, drop, map}
-use Rattle.std.specs.Prelude.{max}
+use Rattle.std.proofs.Common.{◌≡◌, drop, map, max}
 use Rattle.jedec_writer.proofs.Common.{FuseBit, past}
 use Rattle.jedec_writer.proofs.control.past_fixed.Given as goal
 

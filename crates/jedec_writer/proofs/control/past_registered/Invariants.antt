@@ -1,5 +1,4 @@
-use Rattle.std.proofs.Common.{◌≡◌, drop}
-use Rattle.std.specs.Prelude.{max}
+use Rattle.std.proofs.Common.{◌≡◌, drop, max}
 use Rattle.jedec_writer.proofs.Common.{past, fuses_named}
 use Rattle.jedec_writer.proofs.control.past_registered.Given as goal
 

@@ -1,5 +1,4 @@
-use Rattle.std.proofs.Common.{rules, ◌≡◌, suc, add-one, ◌∙◌, sym, Some, None, slice_get}
-use Rattle.std.specs.Prelude.{max}
+use Rattle.std.proofs.Common.{rules, ◌≡◌, suc, add-one, ◌∙◌, sym, Some, None, slice_get, max}
 use Rattle.jedec_writer.proofs.ControlEnds.{switch_more, no_switch, goes_on}
 use Rattle.jedec_writer.proofs.control.past_switches.Goals.{in-Some, in_default}
 use Rattle.jedec_writer.proofs.control.past_switches.Goals as goal

@@ -1,4 +1,4 @@
-use Rattle.std.specs.Prelude.{All}
+use Rattle.std.proofs.Common.{All}
 use Rattle.netlist_rows.proofs.Common.{HasLeaf}
 use Rattle.netlist_rows.proofs.links.links_of.Given as goal
 

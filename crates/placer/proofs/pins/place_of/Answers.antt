@@ -1,6 +1,5 @@
 -- One signal more.
-use Rattle.std.proofs.Common.{◌≡◌, ◌<◌, true, false, length, map, get_or, sym, ap, ◌∙◌, arith}
-use Rattle.std.specs.Prelude.{bytes_eq}
+use Rattle.std.proofs.Common.{◌≡◌, ◌<◌, true, false, length, map, get_or, sym, ap, ◌∙◌, arith, bytes_eq}
 use Rattle.placer.proofs.Common.{All-get_or, Entry, view_declared, place_first, place_here, place_later, place_none}
 use Rattle.placer.proofs.DeclaredAt.{seen_at}
 use Rattle.placer.proofs.Pinned.{is_name}

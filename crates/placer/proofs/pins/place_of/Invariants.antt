@@ -1,6 +1,5 @@
 -- None of the signals so far has the name.
-use Rattle.std.proofs.Common.{◌≡◌, drop, map}
-use Rattle.std.specs.Prelude.{position}
+use Rattle.std.proofs.Common.{◌≡◌, drop, map, position}
 use Rattle.placer.proofs.Common.{position_from, view_declared}
 use Rattle.placer.proofs.Pinned.{is_name}
 use Rattle.placer.proofs.pins.place_of.Given as goal

@@ -1,5 +1,4 @@
-use Rattle.std.proofs.Common.{◌≡◌, length, ◌∙◌, ap, arith}
-use Rattle.std.specs.Prelude.{is_some}
+use Rattle.std.proofs.Common.{◌≡◌, length, ◌∙◌, ap, arith, is_some}
 use Rattle.reports.proofs.Common.{count_by, range_with_len, plain_netlist, wanted_at, assigned_cells}
 use Rattle.reports.proofs.Counts.{counted_is, counted_most, one_more}
 use Rattle.reports.proofs.counting.cells_used.Goals as goal

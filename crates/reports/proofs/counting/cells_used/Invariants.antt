@@ -1,6 +1,5 @@
 -- Those of the cells so far.
-use Rattle.std.proofs.Common.{◌≡◌, ◌≤◌}
-use Rattle.std.specs.Prelude.{is_some}
+use Rattle.std.proofs.Common.{◌≡◌, ◌≤◌, is_some}
 use Rattle.reports.proofs.Common.{count_by, range_with_len, plain_netlist, wanted_at}
 use Rattle.reports.proofs.counting.cells_used.Given as goal
 

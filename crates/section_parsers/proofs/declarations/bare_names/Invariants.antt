@@ -1,6 +1,5 @@
 -- The words so far, and those that follow.
-use Rattle.std.proofs.Common.{◌≡◌, ◌++◌, drop}
-use Rattle.std.specs.Prelude.{option_map}
+use Rattle.std.proofs.Common.{◌≡◌, ◌++◌, drop, option_map}
 use Rattle.section_parsers.proofs.Common.{bare_names}
 use Rattle.section_parsers.proofs.declarations.bare_names.Given as goal
 

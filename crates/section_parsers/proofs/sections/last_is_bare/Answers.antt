@@ -1,6 +1,5 @@
 -- The last state decides.
-use Rattle.std.proofs.Common.{◌≡◌, ◌-◌, Some, length, sym, ap, ◌∙◌}
-use Rattle.std.specs.Prelude.{slice_get}
+use Rattle.std.proofs.Common.{◌≡◌, ◌-◌, Some, length, sym, ap, ◌∙◌, slice_get}
 use Rattle.std.specs.Option.{option_copied}
 use Rattle.section_parsers.proofs.LastState.{last_bare, none_seen}
 use Rattle.section_parsers.proofs.sections.last_is_bare.Goals as goal

@@ -1,6 +1,5 @@
 -- A WHEN is seen part by part, whether or not it has an ELSE.
-use Rattle.std.proofs.Common.{◌≡◌, Option, Some, None, rules}
-use Rattle.std.specs.Prelude.{option_map}
+use Rattle.std.proofs.Common.{◌≡◌, Option, Some, None, rules, option_map}
 use Rattle.section_parsers.proofs.Common.{Place, Expr, AWhen, otherwise_of, view, view_stmt}
 use Rattle.abel_tree.specs.declared.statements.Stmt.{Stmt, the_lemmas}
 use Rattle.abel_tree.specs.declared.statements.Stmt as stmt

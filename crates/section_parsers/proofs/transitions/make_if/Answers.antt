@@ -1,6 +1,5 @@
 -- An IF is seen part by part, whether or not it has an ELSE.
-use Rattle.std.proofs.Common.{◌≡◌, Option, Some, None, rules}
-use Rattle.std.specs.Prelude.{option_map}
+use Rattle.std.proofs.Common.{◌≡◌, Option, Some, None, rules, option_map}
 use Rattle.section_parsers.proofs.Common.{Place, Expr, Arm, the_lemmas, AnIf, other_of, view, view_arm}
 use Rattle.abel_tree.specs.declared.diagrams.Arm as arm
 use Rattle.abel_tree.specs.declared.diagrams.Arm.TheVariants as variants

@@ -1,6 +1,5 @@
 -- The words of one name more, if it is known.
-use Rattle.std.proofs.Common.{map, sym, ap, ◌∙◌}
-use Rattle.std.specs.Prelude.{option_map}
+use Rattle.std.proofs.Common.{map, sym, ap, ◌∙◌, option_map}
 use Rattle.decls.proofs.Common.{list_any, on_ok_weaker, view_said, said_before}
 use Rattle.decls.proofs.SaidWords.{some_before, none_before}
 use Rattle.decls.proofs.table.NameTable.add_before.Goals as goal

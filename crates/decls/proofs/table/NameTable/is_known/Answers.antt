@@ -1,6 +1,5 @@
 -- What the table finds is what the name is declared as first.
-use Rattle.std.proofs.Common.{ap, ◌∙◌}
-use Rattle.std.specs.Prelude.{option_copied}
+use Rattle.std.proofs.Common.{ap, ◌∙◌, option_copied}
 use Rattle.decls.proofs.Common.{kind_of, view_meaning}
 use Rattle.decls.proofs.Found.{known_kind, found, is_as_wanted, is_unknown}
 use Rattle.decls.proofs.table.NameTable.is_known.Goals as goal

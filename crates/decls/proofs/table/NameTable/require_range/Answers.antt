@@ -1,6 +1,5 @@
 -- The names of a range whose ends agree must be known; other ends are refused.
-use Rattle.std.proofs.Common.{map, subst, sym, ap, ap₂, ◌∙◌}
-use Rattle.std.specs.Prelude.{option_map}
+use Rattle.std.proofs.Common.{map, subst, sym, ap, ap₂, ◌∙◌, option_map}
 use Rattle.decls.proofs.Common.{is_value, name_items, names_if_agree, all_known, Shows}
 use Rattle.decls.proofs.Required.{range_known, range_bad}
 use Rattle.decls.proofs.table.NameTable.require_range.Goals as goal

@@ -1,6 +1,5 @@
 -- What the table finds is what was said of the name.
-use Rattle.std.proofs.Common.{sym, ap, ◌∙◌}
-use Rattle.std.specs.Prelude.{option_copied}
+use Rattle.std.proofs.Common.{sym, ap, ◌∙◌, option_copied}
 use Rattle.decls.proofs.SaidWords.{known_said, found_said}
 use Rattle.decls.proofs.table.NameTable.said_before.Goals as goal
 

@@ -1,5 +1,4 @@
-use Rattle.std.proofs.Common.{◌≡◌, ◌+◌, Bool, true, false, List, [], ◌∷◌, ℕ, refl, ap, ◌∙◌, arith}
-use Rattle.std.specs.Prelude.{flat_map, map, filter}
+use Rattle.std.proofs.Common.{◌≡◌, ◌+◌, Bool, true, false, List, [], ◌∷◌, ℕ, refl, ap, ◌∙◌, arith, flat_map, map, filter}
 use Rattle.decompiler.proofs.Common.{range_with_len, Table, is_never_true, control_products, product_of}
 use Rattle.device_logic.specs.Array.{is_live}
 use Rattle.decompiler.proofs.Ranges.{more_given}

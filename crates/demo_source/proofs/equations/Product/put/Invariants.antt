@@ -1,5 +1,4 @@
-use Rattle.std.proofs.Common.{◌≡◌, ◌++◌, take, flat_map}
-use Rattle.std.specs.Prelude.{codes}
+use Rattle.std.proofs.Common.{◌≡◌, ◌++◌, take, flat_map, codes}
 use Rattle.demo_source.proofs.Common.{literal_text}
 use Rattle.demo_source.proofs.equations.Product.put.Given as goal
 

@@ -1,6 +1,5 @@
 -- A new name stands behind the others.
-use Rattle.std.proofs.Common.{◌≡◌, true, None, ◌∷◌, [], ◌++◌, sym, ap, subst, ◌∙◌}
-use Rattle.std.specs.Prelude.{is_some, bytes_eq}
+use Rattle.std.proofs.Common.{◌≡◌, true, None, ◌∷◌, [], ◌++◌, sym, ap, subst, ◌∙◌, is_some, bytes_eq}
 use Rattle.placer.proofs.Common.{number_in, none_found, HasSameMark, numbers_named}
 use Rattle.std.specs.Map.{lookup}
 use Rattle.indexmap.proofs.CallerLemmas.{insert_entry-new}

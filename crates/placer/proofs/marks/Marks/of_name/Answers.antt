@@ -1,6 +1,5 @@
 -- A name has the mark that the map has, and none else.
-use Rattle.std.proofs.Common.{sym, ap, ◌∙◌}
-use Rattle.std.specs.Prelude.{option_copied}
+use Rattle.std.proofs.Common.{sym, ap, ◌∙◌, option_copied}
 use Rattle.placer.proofs.Common.{number_in}
 use Rattle.placer.proofs.Known.{known_mark, unknown_mark}
 use Rattle.placer.proofs.marks.Marks.of_name.Goals as goal

@@ -1,5 +1,4 @@
-use Rattle.std.proofs.Common.{map, ap, ◌∙◌}
-use Rattle.std.specs.Prelude.{is_some}
+use Rattle.std.proofs.Common.{map, ap, ◌∙◌, is_some}
 use Rattle.placer.proofs.Common.{view_declared, node_given}
 use Rattle.placer.proofs.pins.PlacedPins.is_pinned.Goals as goal
 

@@ -1,6 +1,5 @@
 -- What the signal is, the name is.
-use Rattle.std.proofs.Common.{◌≡◌, ◌<◌, None, Some, length, map, refl, get_or, sym, ◌∙◌, subst}
-use Rattle.std.specs.Prelude.{position, All}
+use Rattle.std.proofs.Common.{◌≡◌, ◌<◌, None, Some, length, map, refl, get_or, sym, ◌∙◌, subst, position, All}
 use Rattle.placer.proofs.Common.{length-map, view_declared, no_name, is_node}
 use Rattle.placer.proofs.Pinned.{is_name, no_node_pin, node_at_place}
 use Rattle.placer.proofs.pins.PlacedPins.node_pin_of.Goals as goal

@@ -1,5 +1,4 @@
-use Rattle.std.proofs.Common.{map, ap, ◌∙◌}
-use Rattle.std.specs.Prelude.{unwrap_or}
+use Rattle.std.proofs.Common.{map, ap, ◌∙◌, unwrap_or}
 use Rattle.placer.proofs.Common.{view_declared, pin_given}
 use Rattle.placer.proofs.pins.PlacedPins.number_of.Goals as goal
 

@@ -1,6 +1,5 @@
 -- The pin at the place of the name's signal.
-use Rattle.std.proofs.Common.{◌≡◌, ◌<◌, None, Some, length, map, sym, ap, ◌∙◌, subst, arith}
-use Rattle.std.specs.Prelude.{position}
+use Rattle.std.proofs.Common.{◌≡◌, ◌<◌, None, Some, length, map, sym, ap, ◌∙◌, subst, arith, position}
 use Rattle.placer.proofs.Common.{get_or_read, view_declared}
 use Rattle.placer.proofs.Pinned.{is_name, pin_at_place}
 use Rattle.placer.proofs.pins.PlacedPins.pin_of.Goals as goal

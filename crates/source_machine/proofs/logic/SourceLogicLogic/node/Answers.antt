@@ -1,5 +1,4 @@
-use Rattle.std.proofs.Common.{◌<◌, sym, subst}
-use Rattle.std.specs.Prelude.{IsTrue}
+use Rattle.std.proofs.Common.{◌<◌, sym, subst, IsTrue}
 use Rattle.source_machine.proofs.Common.{length-map, sets_node, arena, plain_function, plain_netlist, netlist_lookups}
 use Rattle.source_machine.proofs.SignalPlaces.{node_within}
 use Rattle.source_machine.proofs.logic.SourceLogicLogic.node.Goals as goal

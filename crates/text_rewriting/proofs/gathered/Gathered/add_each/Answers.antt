@@ -1,7 +1,6 @@
 -- One argument more.
-use Rattle.std.proofs.Common.{rules, ◌≡◌, ◌++◌, ◌∙◌, List, [], ◌∷◌, ap, arith, take, drop}
+use Rattle.std.proofs.Common.{rules, ◌≡◌, ◌++◌, ◌∙◌, List, [], ◌∷◌, ap, arith, take, drop, ℕ}
 use Rattle.text_rewriting.proofs.Common.{Vec, joined, replaced, standing_for, texts, each_replaced, Gathering}
-use Rattle.std.specs.Prelude.{ℕ}
 use Rattle.text_rewriting.proofs.Replaces.{each_next}
 use Rattle.text_rewriting.proofs.gathered.Gathered.add_each.Goals as goal
 
