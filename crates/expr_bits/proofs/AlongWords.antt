@@ -1,9 +1,10 @@
--- The operators of the language are those that go along two words.
+-- The operators of the language are those that go along two words, and how long the words are that they make.
 use Rattle.std.proofs.Common.{◌≡◌, suc, ◌<◌, Bool, None, Some, List, [], ◌∷◌, length, map, true, false, refl, sym, ap, ◌∙◌, arith}
-use Rattle.expr_bits.proofs.Common.{arena, formula_at, Made, free, ◌>>=◌, make_not, make_and, make_or, make_xor, Formula, Const, Node, arena_count, low_formula, Binary, Word, word_by_position, each_not, sum_bit, next_carry, sum_bits, relation_bit, operator_bits, Step, step_by, step_of, along}
+use Rattle.expr_bits.proofs.Common.{arena, formula_at, Made, free, ◌>>=◌, make_not, make_and, make_or, make_xor, Formula, Const, Node, arena_count, low_formula, Binary, Word, word_by_position, each_not, sum_bit, next_carry, sum_bits, relation_bit, operator_bits, Step, step_by, step_of, along, length-map, Unary, difference_bits, unary_word}
 use Rattle.abel_tree.specs.declared.words.Binary.TheVariants as binary
 use Rattle.expr_bits.specs.declared.steps.Step.TheVariants as step
 use Rattle.expr_bits.proofs.Making.{made_is}
+use Rattle.abel_tree.specs.declared.words.Unary.TheVariants as unary
 
 abbrev carried : Formula → Formula → Made (Formula × Formula)
 carried c s = free (s, c)
@@ -13,11 +14,10 @@ kept_nodes m c = made_is _ _ refl (omega arith)
 
 -- a step that carries nothing on
 position_step : (g : Step) (f : Formula → Formula → Made Formula) (c : Formula) → ((last : Bool) (x y : Formula) → step_by g last x y c ≡ (f x y >>= carried c)) → (xs ys : Word) → along g c xs ys ≡ word_by_position f xs ys
-position_step g f c by [] ys = refl
-position_step g f c by (x ∷ xs) [] = refl
 position_step g f c by (x ∷ xs) (y ∷ ys) =
     ap (λ m. m >>= λ p. along g p.1 xs ys >>= λ us. free (p.0 ∷ us)) (by _ x y ∙ kept_nodes (f x y) c)
     ∙ ap (λ m. f x y >>= λ z. m >>= λ us. free (z ∷ us)) (position_step g f c by xs ys)
+position_step g f c by _ _ = refl
 
 pub not_along : (c : Formula) (xs : Word) → along step.Not c xs xs ≡ each_not xs
 not_along c [] = refl
@@ -91,3 +91,29 @@ no_relation binary.LessEqual xs ys a b c d e f = absurd (d refl)
 no_relation binary.Greater xs ys a b c d e f = absurd (e refl)
 no_relation binary.GreaterEqual xs ys a b c d e f = absurd (f refl)
 no_relation _ xs ys a b c d e f = refl
+
+position_length : (f : Formula → Formula → Made Formula) (xs ys : Word) → length xs ≡ length ys → length (word_by_position f xs ys).what ≡ length xs
+position_length f [] ys e = refl
+position_length f (x ∷ xs) [] e = absurd (omega (arith, e))
+position_length f (x ∷ xs) (y ∷ ys) e = ap suc (position_length f xs ys (omega (arith, e)))
+
+sum_length : (xs ys : Word) (carry : Formula) → length xs ≡ length ys → length (sum_bits xs ys carry).what ≡ length xs
+sum_length (x ∷ xs) [] carry e = absurd (omega (arith, e))
+sum_length (x ∷ x1 ∷ xs) (y ∷ ys) carry e = ap suc (sum_length (x1 ∷ xs) ys (next_carry x y carry).what (omega (arith, e)))
+sum_length _ _ carry e = refl
+
+difference_length : (xs ys : Word) → length xs ≡ length ys → length (difference_bits xs ys).what ≡ length xs
+difference_length xs ys e = sum_length xs (each_not ys).what (Const true) (e ∙ sym (length_not ys))
+
+pub operator_length : (sign : Binary) (xs ys : Word) → length xs ≡ length ys → length (operator_bits sign xs ys).what ≡ length xs
+operator_length binary.And xs ys e = position_length make_and xs ys e
+operator_length binary.Or xs ys e = position_length make_or xs ys e
+operator_length binary.Xor xs ys e = position_length make_xor xs ys e
+operator_length binary.Xnor xs ys e = position_length (λ x y. make_xor x y >>= make_not) xs ys e
+operator_length binary.Plus xs ys e = sum_length xs ys (Const false) e
+operator_length binary.Minus xs ys e = difference_length xs ys e
+operator_length _ xs ys e = length-map xs (λ x. Const false)
+
+pub unary_length : (sign : Unary) (xs : Word) → length (unary_word sign xs).what ≡ length xs
+unary_length unary.Not xs = length_not xs
+unary_length unary.Minus xs = difference_length (map (λ x. Const false) xs) xs (length-map xs (λ x. Const false)) ∙ length-map xs (λ x. Const false)

@@ -1,12 +1,35 @@
--- Work comes to terms: one more member, and work to be done first.
-use Rattle.std.proofs.Common.{◌≡◌, ℕ, true, false, Bool, Option, None, Some, List, [], ◌∷◌, ◌++◌, if◌then◌else◌, bytes_eq, codes, refl, sym, ap, ap₂, ◌∙◌, subst}
-use Rattle.expr_bits.proofs.Common.{Made, ◌>>=◌, Binary, Extension, Unary, Entry, Context, Term, Terms, Known, extended_if, member_before, named_before, special_term, term_named, terms_of, Part, Work, ComesTo, Precedes, task_of, tasks_of, Push, Do, term_part, pushed, after_task, after_all}
+-- Steps come to what their terms come to, and work to terms: one more member, and work to be done first.
+use Rattle.std.proofs.Common.{◌≡◌, Option, None, Some, List, ◌∷◌, refl, arith, ℕ, false, Bool, [], ◌++◌, if◌then◌else◌, Result, IfOk, bytes_eq, codes, sym, ap, ap₂, ◌∙◌, subst}
+use Rattle.expr_bits.proofs.Common.{Binary, Extension, Unary, Context, Term, Terms, extended, extended_each, extended_if, Part, Task, Push, Do, after_task, after_all, IfOk-weaker, Vec, Made, ◌>>=◌, Entry, Known, named_before, special_term, term_named, Work, ComesTo, Precedes, task_of, tasks_of, term_part, pushed}
 use Rattle.abel_meaning.specs.Terms as term
-use Rattle.expr_bits.specs.declared.step.Step.TheVariants as step
+use Rattle.expr_bits.proofs.Making.{made_is}
+use Rattle.expr_bits.specs.declared.work.Step.TheVariants as step
 use Rattle.expr_bits.specs.declared.work.Work.TheVariants as work
 use Rattle.expr_bits.proofs.Extensions.{both_extended, under_extended}
-use Rattle.expr_bits.proofs.StepLaws.{unary_steps, binary_steps, set_more}
 use Rattle.expr_bits.proofs.Turns.{tasks_last}
+use Rattle.pld_base.specs.declared.out_of_memory.OutOfMemory.{OutOfMemory}
+
+-- ---- operators
+
+pub unary_steps : (d : Context) (sign : Unary) (t : Term) (ss : List Task) (ps : List Part) → after_all d (Push (term.UnaryOf sign t) ∷ ss) ps ≡ after_all d (Push t ∷ Do (step.Under sign) ∷ ss) ps
+unary_steps d sign t ss ps = made_is _ _ refl (omega arith)
+
+pub binary_steps : (d : Context) (sign : Binary) (t u : Term) (ss : List Task) (ps : List Part) → after_all d (Push (term.BinaryOf sign t u) ∷ ss) ps ≡ after_all d (Push t ∷ Push u ∷ Do (step.Both sign) ∷ ss) ps
+binary_steps d sign t u ss ps = made_is _ _ refl (omega arith)
+
+-- ---- sets
+
+set_first : (d : Context) (t : Term) (ts : Terms) (ss : List Task) (ps : List Part) → after_all d (Push (term.Set (term.Before t ts)) ∷ ss) ps ≡ after_all d (Push (term.Set ts) ∷ Push t ∷ Do step.Member ∷ ss) ps
+set_first d t term.NoTerm ss ps = made_is _ _ refl (omega arith)
+set_first d t (term.Before u us) ss ps = made_is _ _ refl (omega arith)
+
+pub set_more : (d : Context) (e : Option Extension) (t : Term) (ts : Terms) (ss : List Task) (ps : List Part) → after_all d (Push (extended_if e (term.Set (term.Before t ts))) ∷ ss) ps ≡ after_all d (Push (extended_if e (term.Set ts)) ∷ Push (extended_if e t) ∷ Do step.Member ∷ ss) ps
+set_more d None t ts ss ps = set_first d t ts ss ps
+set_more d (Some e) t ts ss ps = set_first d (extended e t) (extended_each e ts) ss ps
+
+pub set_none : (d : Context) (e : Option Extension) (ps : List Part) → after_task d (Do step.Empty) ps ≡ after_task d (Push (extended_if e (term.Set term.NoTerm))) ps
+set_none d None ps = refl
+set_none d (Some e) ps = refl
 
 -- ---- members
 
@@ -41,6 +64,9 @@ first_comes es old new w t e c d ps =
     ap (λ ws. after_all d (tasks_of es ws) ps) e ∙ ap (λ ts. after_all d ts ps) (tasks_last es old w)
     ∙ ap (λ (m : Made (List Part)). m >>= after_all d (tasks_of es old)) (c d ps)
 
+pub comes_if : (es : List Entry) (old : List Work) (w : Work) (t u : Term) (r : Result (Vec Work) OutOfMemory) → IfOk r (λ new. new.items ≡ old ++ w ∷ []) → t ≡ u → ComesTo es w t → IfOk r (λ new. ComesFirst es new.items old u)
+comes_if es old w t u r put e c = IfOk-weaker r _ _ (λ new has. same_first es new.items old t u e (first_comes es old new.items w t has c)) put
+
 pub number_comes : (d : Context) (e : Option Extension) (n : ℕ) (ps : List Part) → after_task d (Do (step.Number n)) ps ≡ after_task d (Push (extended_if e (term.Number n))) ps
 number_comes d None n ps = refl
 number_comes d (Some e) n ps = refl
@@ -49,9 +75,8 @@ pub zero_comes : (d : Context) (e : Option Extension) (t : Term) (ps : List Part
 zero_comes d e t ps h = number_comes d e 0 ps ∙ ap (λ u. after_task d (Push (extended_if e u)) ps) (sym h)
 
 special_by : (e : Extension) (b c : Bool) → extended_if (Some e) (if b then term.X else if c then term.Pulse else term.Release) ≡ (if b then term.X else if c then term.Pulse else term.Release)
-special_by e true c = refl
-special_by e false true = refl
 special_by e false false = refl
+special_by e _ _ = refl
 
 pub special_extended : (e : Option Extension) (letter : ℕ) → extended_if e (special_term letter) ≡ special_term letter
 special_extended None letter = refl

@@ -50,14 +50,14 @@ pub use Rattle.set_expr.specs.FoundNames.{found_of, found_use, found_value, is_p
 pub use Rattle.set_expr.specs.FoundNames.{range_found, refused_there}
 pub use Rattle.set_expr.specs.declared.fault.SectionFault.{SectionFault}
 pub use Rattle.set_expr.specs.declared.shaped.Shaped.{Shaped}
-pub use Rattle.expr_bits.specs.{AllIn, AreParts, AreRows, AreStacked, ComesTo, Do, Finds, HasForm, HasUnknown, IsBits, IsBlank, IsKept, IsKeptIf, IsMade}
+pub use Rattle.expr_bits.specs.{ALeaf, ASignal, AllIn, AreParts, Asked, inside, told_by, AreRows, AreStacked, ComesTo, Do, Finds, HasForm, HasUnknown, IsBits, IsBlank, IsKept, IsKeptIf, IsMade}
 pub use Rattle.expr_bits.specs.{IsPart, IsPast, IsReads, IsRow, Makes, MakesBits, MeetsAs, Part, Precedes, Push, ShowsAll, ShowsItems, ShowsOne, ShowsStack}
 pub use Rattle.expr_bits.specs.{ShowsTwo, Standing, Task, after_all, after_task, along, any_reads_leaf, as_set, below, bit_id, both_part, computed_part}
 pub use Rattle.expr_bits.specs.{computed_value, digit_ids, each_extended, here_term, is_last, is_leaf, joined_part, kept_ids, leaf_under, left_by, list_of}
-pub use Rattle.expr_bits.specs.{made_by, named_leaf, named_signal, named_term, names_to, no_part, no_reads, number_part, or_and_of, place_of, places_of}
+pub use Rattle.expr_bits.specs.{made_by, named_answer, named_term, names_to, no_part, no_reads, number_part, or_and_of, place_of, places_of}
 pub use Rattle.expr_bits.specs.{positions_of, pushed, reads_at, reads_leaf, reads_of_row, reads_signal, related_part, relation_of, relation_step}
 pub use Rattle.expr_bits.specs.{relation_steps, resized_ids, set_by, shape_of, some_of_read, some_read, start_id, start_of, step_by, step_of, sum_step, task_of}
-pub use Rattle.expr_bits.specs.{tasks_of, term_part, top, under_of, under_part, upto_of, used_leaf, used_signal, width_of_two, with_value, word_at, word_in}
+pub use Rattle.expr_bits.specs.{tasks_of, term_part, top, under_of, under_part, upto_of, used_answer, width_of_two, with_value, word_at, word_in}
 pub use Rattle.expr_bits.specs.declared.forms.Bits.{Bits}
 pub use Rattle.expr_bits.specs.declared.forms.Form.{Form}
 pub use Rattle.expr_bits.specs.declared.reads.Reads.{Reads}

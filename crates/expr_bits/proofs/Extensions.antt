@@ -5,15 +5,11 @@ use Rattle.abel_meaning.specs.Terms as term
 
 mutual
   twice : (e f : Extension) (t : Term) → extended e t ≡ extended f (extended e t)
-  twice e f (term.Number n) = refl
-  twice e f term.X = refl
-  twice e f term.Pulse = refl
-  twice e f term.Release = refl
-  twice e f (term.Read s None) = refl
   twice e f (term.Read s (Some g)) = refl
   twice e f (term.Set ts) = ap term.Set (twice_each e f ts)
   twice e f (term.UnaryOf sign t) = ap (term.UnaryOf sign) (twice e f t)
   twice e f (term.BinaryOf sign t u) = ap₂ (term.BinaryOf sign) (twice e f t) (twice e f u)
+  twice e f _ = refl
 
   twice_each : (e f : Extension) (ts : Terms) → extended_each e ts ≡ extended_each f (extended_each e ts)
   twice_each e f NoTerm = refl

@@ -1,5 +1,5 @@
 -- What is found of expressions over names, and their terms.
-use Rattle.expr_bits.proofs.Common.{nat_tests, Place, Binary, Extension, Unary, Entry, Kind, APin, ANode, AConstant, ADeviceName, range_names, Tree, ANumber, ASpecial, AName, ASet, AParen, AUnary, ABinary, SetMember, OneMember, SpanMember, Members, NoMember, MoreMembers, Context, Shape, Number, Single, Set, Value, width_of, member_width, meeting, Term, Terms, Known, term_named, term_of, terms_of, member_before, named_before, term_meant, known_after, known_of, extended_if, constant_of, set_value, nowhere, plain_value, unary_value, binary_value, binary_by, is_relation, SectionFault, NameFound, found_value, found_use, refused_there, at_name, name_found, named, nothing_found, one_position, range_found, found_of, all_found, found_before, found_constant, found_kind, found_entry, found_after, names_found, expression_found, is_pulse_kind}
+use Rattle.expr_bits.proofs.Common.{nat_tests, Place, Binary, Extension, Unary, Entry, Kind, AConstant, ADeviceName, range_names, Tree, ANumber, ASpecial, AName, ASet, AParen, AUnary, ABinary, SetMember, OneMember, SpanMember, Members, NoMember, MoreMembers, Context, Shape, Number, Single, Set, Value, width_of, member_width, meeting, Term, Terms, Known, term_named, term_of, terms_of, member_before, named_before, term_meant, known_after, known_of, extended_if, constant_of, set_value, nowhere, plain_value, unary_value, binary_value, binary_by, is_relation, SectionFault, NameFound, found_value, found_use, refused_there, at_name, name_found, named, nothing_found, one_position, range_found, found_of, all_found, found_before, found_constant, found_kind, found_entry, found_after, names_found, expression_found, is_pulse_kind}
 use Rattle.std.proofs.Common.{◌≡◌, ℕ, suc, ◌+◌, ◌≤◌, nat_lt, arith, Bool, true, false, Option, None, Some, List, [], ◌∷◌, ◌++◌, if◌then◌else◌, unwrap_or, bytes_eq, codes, refl, sym, ap, ap₂, subst}
 use Rattle.abel_meaning.specs.Terms as term
 use Rattle.set_expr.specs.declared.fault.SectionFault.TheVariants.{MisplacedSpecial, BadWidth}
@@ -54,10 +54,8 @@ both_kind sign (Some v) (Some u) c e h k = binary_kind sign v c u e h k
 
 meet_narrow : (s t : Shape) → width_of s ≤ 32 → width_of t ≤ 32 → width_of (meeting s t) ≤ 32
 meet_narrow Number t a b = b
-meet_narrow Single Number a b = a
-meet_narrow Single Single a b = a
 meet_narrow Single (Set w) a b = b
-meet_narrow (Set v) t a b = a
+meet_narrow _ _ a b = a
 
 narrow_by : (relation : Bool) (sign : Binary) (v u : Value) → width_of v.shape ≤ 32 → width_of u.shape ≤ 32 → width_of (binary_by relation sign v u).shape ≤ 32
 narrow_by true sign v u a b = omega arith
@@ -100,8 +98,6 @@ first_width (Some v) c r w h e = ap (λ s. Set (member_width v.shape + width_of 
 
 linked_members : (d : Context) (p : Place) (fs : List Found) (ts : Terms) → AreLinked d fs ts → members_refused p fs ≡ [] → SetLinked d fs ts
 linked_members d p [] term.NoTerm l e = record { shape = refl; known = λ x. tt; sound = tt; width = refl }
-linked_members d p [] (term.Before t ts) l e = absurd l
-linked_members d p (f ∷ fs) term.NoTerm l e = absurd l
 linked_members d p (f ∷ fs) (term.Before t ts) l e =
     let own = left_empty f.refusals (large_member p f.value) (left_empty (f.refusals ++ large_member p f.value) (members_refused p fs) e) in
     let h = there d f.value f.specials t (l.0.valued own) l.0.linked in
@@ -114,6 +110,7 @@ linked_members d p (f ∷ fs) (term.Before t ts) l e =
       sound = (h.2, rest.sound);
       width = first_width f.value (constant_of d t) (members_value fs) (members_width fs) h.0 rest.width;
     }
+linked_members d p _ _ l e = absurd l
 
 set_number : (d : Context) (fs : List Found) (ts : Terms) → (set_value d nowhere ts).shape ≡ (members_value fs).shape → SameKind (members_value fs) (set_value d nowhere ts)
 set_number d [] ts e = record { shape = e; number = λ n. absurd cc }
@@ -171,8 +168,6 @@ number_linked d n = linked_value d (plain_value n) (term.Number n) (same_kind (p
 
 looked : (d : Context) (ns : List NameFound) (ks : List Known) (w : List ℕ) → NamesLinked d ns ks → IsFoundTerm d (name_found ns w) (term_named ks w)
 looked d [] [] w l = λ e. number_linked d 0
-looked d [] (k ∷ ks) w l = absurd l
-looked d (n ∷ ns) [] w l = absurd l
 looked d (n ∷ ns) (k ∷ ks) w l = here (bytes_eq w n.name) (bytes_eq w k.name) (ap (bytes_eq w) l.0.name) (looked d ns ks w l.1)
   where
     here : (b c : Bool) → b ≡ c → IsFoundTerm d (name_found ns w) (term_named ks w) → IsFoundTerm d (unwrap_or (if b then Some n else named ns w) nothing_found) (if c then k.term else term_named ks w)
@@ -180,6 +175,7 @@ looked d (n ∷ ns) (k ∷ ks) w l = here (bytes_eq w n.name) (bytes_eq w k.name
     here false false e more = more
     here true false e more = absurd cc
     here false true e more = absurd cc
+looked d _ _ w l = absurd l
 
 at_none : (p : Place) (xs : List SectionFault) → at_name p xs ≡ [] → xs ≡ []
 at_none p [] e = refl
@@ -232,16 +228,14 @@ signal_linked : (d : Context) (s : ℕ) → IsLinked d (found_value (one_positio
 signal_linked d s = linked_value d (one_position false) (term.Read s None) (record { shape = refl; number = λ e. absurd cc }) (refl, tt) tt (omega arith)
 
 kind_linked : (d : Context) (ns : List NameFound) (ks : List Known) (s : ℕ) → NamesLinked d ns ks → (k : Kind) → is_pulse_kind k ≡ false → IsLinked d (found_kind ns k) (term_meant ks s k)
-kind_linked d ns ks s l (APin pin negated) e = signal_linked d s
-kind_linked d ns ks s l (ANode number) e = signal_linked d s
 kind_linked d ns ks s l (AConstant t) e = subst (λ b. IsLinked d (found_constant b (found_of ns t)) (term_of ks t)) (sym e) (tree_linked d ns ks l t)
 kind_linked d ns ks s l ADeviceName e = number_linked d 0
+kind_linked d ns ks s l _ e = signal_linked d s
 
 one_more : (d : Context) (ns : List NameFound) (ks : List Known) (n : NameFound) (k : Known) → NamesLinked d ns ks → NameLinked d n k → NamesLinked d (ns ++ n ∷ []) (ks ++ k ∷ [])
 one_more d [] [] n k l h = (h, tt)
-one_more d [] (y ∷ ks) n k l h = absurd l
-one_more d (x ∷ ns) [] n k l h = absurd l
 one_more d (x ∷ ns) (y ∷ ks) n k l h = (l.0, one_more d ns ks n k l.1 h)
+one_more d _ _ n k l h = absurd l
 
 after_linked : (d : Context) (ns : List NameFound) (ks : List Known) (s : ℕ) (es : List Entry) → NamesLinked d ns ks → NamesLinked d (found_after ns es) (known_after ks s es)
 after_linked d ns ks s [] l = l

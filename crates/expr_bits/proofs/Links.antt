@@ -1,6 +1,6 @@
 -- What is found of an expression and what its term comes to: the same shape, and X only where nothing is made of it.
 use Rattle.std.proofs.Common.{◌≡◌, ℕ, zero, suc, ◌+◌, Bool, true, false, None, Some, List, [], ◌∷◌, ◌++◌, replicate, refl, sym, ap, ap₂, ◌∙◌, subst}
-use Rattle.expr_bits.proofs.Common.{Binary, Extension, Unary, Context, Shape, Number, Single, Set, Value, width_of, member_width, meeting, met_number, met_unknown_by, Term, Terms, extended, extended_each, constant_of, set_value, nowhere, is_relation, binary_by, binary_value, unary_value, operator_number, unary_number}
+use Rattle.expr_bits.proofs.Common.{Binary, Extension, Unary, Context, Shape, Number, Single, Set, Value, width_of, member_width, meeting, met_unknown_by, Term, Terms, extended, extended_each, constant_of, set_value, nowhere, is_relation, binary_by, binary_value, unary_value}
 use Rattle.abel_meaning.specs.Terms as term
 
 -- ---- values of one kind
@@ -16,38 +16,19 @@ pub kind_then : (v u w : Value) → SameKind v u → SameKind u w → SameKind v
 kind_then v u w a b = record { shape = b.shape ∙ a.shape; number = λ e. b.number (a.shape ∙ e) ∙ a.number e }
 
 pub unary_kind : (sign : Unary) (v c : Value) → SameKind v c → SameKind (unary_value sign v) (unary_value sign c)
-unary_kind sign v c k =
-    record {
-      shape = k.shape;
-      number = λ e. ap₂ (λ s n. unary_by s n) k.shape (k.number e);
-    }
-  where
-    unary_by : Shape → ℕ → ℕ
-    unary_by s n = unary_number sign (width_of s) n
+unary_kind sign v c k = record { shape = k.shape; number = λ e. rw (k.shape, k.number e) refl }
 
 both_numbers : (s t : Shape) → meeting s t ≡ Number → (s ≡ Number) × (t ≡ Number)
 both_numbers Number t e = (refl, e)
 both_numbers Single Number e = absurd cc
-both_numbers Single Single e = absurd cc
-both_numbers Single (Set w) e = absurd cc
-both_numbers (Set v) t e = absurd cc
-
--- the number of an operator on two values, by their shapes
-abbrev number_by : Binary → (s t : Shape) → ℕ → ℕ → ℕ
-number_by sign s t m n = operator_number sign (meeting s t) (met_number (width_of (meeting s t)) s m) (met_number (width_of (meeting s t)) t n)
-
-two_numbers : (sign : Binary) (s t s1 t1 : Shape) (m n m1 n1 : ℕ) → s1 ≡ s → t1 ≡ t → m1 ≡ m → n1 ≡ n → number_by sign s1 t1 m1 n1 ≡ number_by sign s t m n
-two_numbers sign s t s1 t1 m n m1 n1 e f g h =
-    ap₂ (λ x y. number_by sign x y m1 n1) e f ∙ ap₂ (λ x y. number_by sign s t x y) g h
+both_numbers _ _ e = absurd cc
 
 by_kind : (relation : Bool) (sign : Binary) (v c u e : Value) → SameKind v c → SameKind u e → SameKind (binary_by relation sign v u) (binary_by relation sign c e)
 by_kind true sign v c u e k l = record { shape = refl; number = λ p. absurd cc }
 by_kind false sign v c u e k l =
     record {
       shape = ap₂ meeting k.shape l.shape;
-      number = λ p.
-          two_numbers sign v.shape u.shape c.shape e.shape v.number u.number c.number e.number k.shape l.shape
-          (k.number (both_numbers v.shape u.shape p).0) (l.number (both_numbers v.shape u.shape p).1);
+      number = λ p. rw (k.shape, l.shape, k.number (both_numbers v.shape u.shape p).0, l.number (both_numbers v.shape u.shape p).1) refl;
     }
 
 pub binary_kind : (sign : Binary) (v c u e : Value) → SameKind v c → SameKind u e → SameKind (binary_value sign v u) (binary_value sign c e)
@@ -68,10 +49,9 @@ known_spread zero x e = tt
 known_spread (suc w) x e = (e, known_spread w x e)
 
 pub known_met : (w : ℕ) (s : Shape) (xs : List Bool) → AllKnown xs → AllKnown (met_unknown_by w s xs)
-known_met w Number xs a = known_spread w false refl
-known_met w Single [] a = known_spread w false refl
 known_met w Single (x ∷ xs) a = known_spread w x a.0
 known_met w (Set v) xs a = a
+known_met w _ _ a = known_spread w false refl
 
 known_by : (relation : Bool) (sign : Binary) (v u : Value) → AllKnown (binary_by relation sign v u).unknown
 known_by true sign v u = (refl, tt)
@@ -84,14 +64,9 @@ known_binary sign v u = known_by (is_relation sign) sign v u
 
 abbrev mutual
   pub Sound : Context → Term → Type 0
-  Sound d (term.Number n) = Unit {0}
-  Sound d term.X = Unit {0}
-  Sound d term.Pulse = Unit {0}
-  Sound d term.Release = Unit {0}
-  Sound d (term.Read s e) = Unit {0}
   Sound d (term.Set ts) = AllSound d ts
   Sound d (term.UnaryOf sign t) = AllKnown (constant_of d t).unknown
-  Sound d (term.BinaryOf sign t u) = Unit {0}
+  Sound d _ = Unit {0}
 
   pub AllSound : Context → Terms → Type 0
   AllSound d term.NoTerm = Unit {0}
@@ -110,10 +85,6 @@ pub record Alike (v c : Value) (before after : Type 0) : Type 0 where
 
 mutual
   pub extended_alike : (d : Context) (e : Extension) (t : Term) → Alike (constant_of d t) (constant_of d (extended e t)) (Sound d t) (Sound d (extended e t))
-  extended_alike d e (term.Number n) = record { kind = same_kind _; unknown = refl; sound = λ s. tt }
-  extended_alike d e term.X = record { kind = same_kind _; unknown = refl; sound = λ s. tt }
-  extended_alike d e term.Pulse = record { kind = same_kind _; unknown = refl; sound = λ s. tt }
-  extended_alike d e term.Release = record { kind = same_kind _; unknown = refl; sound = λ s. tt }
   extended_alike d e (term.Read s None) = record { kind = record { shape = refl; number = λ p. absurd cc }; unknown = refl; sound = λ s. tt }
   extended_alike d e (term.Read s (Some f)) = record { kind = same_kind _; unknown = refl; sound = λ s. tt }
   extended_alike d e (term.Set ts) = set_alike d e ts
@@ -132,6 +103,7 @@ mutual
         unknown = flags_by (is_relation sign) sign (constant_of d t) (constant_of d (extended e t)) (constant_of d u) (constant_of d (extended e u)) a.kind b.kind;
         sound = λ s. tt;
       }
+  extended_alike d e _ = record { kind = same_kind _; unknown = refl; sound = λ s. tt }
 
   set_alike : (d : Context) (e : Extension) (ts : Terms) → Alike (set_value d nowhere ts) (set_value d nowhere (extended_each e ts)) (AllSound d ts) (AllSound d (extended_each e ts))
   set_alike d e term.NoTerm = record { kind = same_kind _; unknown = refl; sound = λ s. tt }

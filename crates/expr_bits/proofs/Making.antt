@@ -1,11 +1,7 @@
 -- Making one thing after another.
-use Rattle.std.proofs.Common.{◌≡◌, ◌⊎◌, inl, inr, ℕ, zero, suc, ◌+◌, ◌<◌, ◌≤◌, false, List, [], ◌∷◌, length, get_or, drop, reverse, ◌++◌, Result, Ok, Err, refl, sym, ap, ap₂, ◌∙◌, subst, arith}
-use Rattle.expr_bits.proofs.Common.{reverse-append, slice_get_within, slice_get-get_or, get_or_from_slice_get, MOST, arena, formula_at, Grew, Adds, PassesLimit, Made, free, ◌>>=◌, Formula, Const, ExprFault, ExprId, Node, or_and_of, IsPast, ShowsOne, AllIn, word_at, Makes}
+use Rattle.std.proofs.Common.{◌≡◌, ℕ, zero, suc, ◌+◌, ◌<◌, ◌≤◌, false, List, [], ◌∷◌, length, get_or, drop, reverse, ◌++◌, Result, Ok, Err, refl, sym, ap, ap₂, ◌∙◌, subst, arith}
+use Rattle.expr_bits.proofs.Common.{reverse-append, slice_get_within, slice_get-get_or, get_or_from_slice_get, MOST, arena, formula_at, Grew, Adds, PassesLimit, Made, free, ◌>>=◌, Formula, Const, ExprFault, ExprId, Node, or_and_of, IsMade, ShowsOne, AllIn, word_at, Makes}
 use Rattle.bit_expr.specs.declared.fault.ExprFault.TheVariants as fault
-
-cases_zero : (n : ℕ) → (n ≡ 0) ⊎ (0 < n)
-cases_zero zero = inl refl
-cases_zero (suc n) = inr (omega arith)
 
 -- two things that were made of the same nodes
 pub made_is : {A : Type 0} (m n : Made A) → m.what ≡ n.what → m.nodes ≡ n.nodes → m ≡ n
@@ -34,7 +30,8 @@ grew_then a b c m n g h = record { keeps = λ i f e. h.keeps i f (g.keeps i f e)
 
 -- what passes the limit only with the second part passes it there
 apart : (m n a b : ℕ) → b ≡ a + m → (PassesLimit MOST a m → ⊥) → PassesLimit MOST a (m + n) → PassesLimit MOST b n
-apart m n a b e h p = elim (cases_zero n) [ inl z ↦ absurd (h (omega (arith, p.0, z), omega (arith, p.1, z))) | inr k ↦ (k, omega (arith, p.1, e)) ]
+apart m zero a b e h p = absurd (h (omega (arith, p.0), omega (arith, p.1)))
+apart m (suc n) a b e h p = (omega arith, omega (arith, p.1, e))
 
 -- one thing was made, and then the whole
 pub then_all : {A B R S : Type 0} (ShowsA : List Formula → R → A → Type 0) (ShowsB : List Formula → S → B → Type 0) (old mid new : List Node) (r : R) (result : Result S ExprFault) (m : Made A) (k all : Made B) → Makes ShowsA old mid (Ok r) m → Makes ShowsB mid new result k → all.what ≡ k.what → all.nodes ≡ m.nodes + k.nodes → Makes ShowsB old new result all
@@ -85,57 +82,36 @@ adds_makes old new (Err fault.OutOfMemory) m a = λ i t e. rw a e
 
 -- ---- in a loop
 
--- on the way: so much was made, and with what is left to make it gives all
+-- on the way: this was made, and with what is left to make it gives all
 pub record Going {A B R : Type 0} (Shows : List Formula → R → A → Type 0) (old now : List Node) (r : R) (rest : A → Made B) (all : Made B) : Type 0 where
-  pub made : A
-  pub nodes : ℕ
-  pub shows : Shows (arena now) r made
-  pub grew : Grew (arena old) (arena now) nodes
-  pub within : IsPast (arena old) nodes → ⊥
-  pub what : all.what ≡ (rest made).what
-  pub total : all.nodes ≡ nodes + (rest made).nodes
+  pub part : Made A
+  pub is : IsMade Shows (arena old) (arena now) r part
+  pub what : all.what ≡ (rest part.what).what
+  pub total : all.nodes ≡ part.nodes + (rest part.what).nodes
 
 pub going_start : {A B R : Type 0} (Shows : List Formula → R → A → Type 0) (old : List Node) (r : R) (rest : A → Made B) (all : Made B) (a : A) → Shows (arena old) r a → all.what ≡ (rest a).what → all.nodes ≡ (rest a).nodes → Going Shows old old r rest all
-going_start Shows old r rest all a s e f =
-    record {
-      made = a;
-      nodes = 0;
-      shows = s;
-      grew = grew_none (arena old);
-      within = λ p. omega (arith, p.0);
-      what = e;
-      total = omega (arith, f);
-    }
+going_start Shows old r rest all a s e f = record { part = free a; is = nothing_made Shows old r a s; what = e; total = omega (arith, f) }
 
 -- a step was made
-pub going_on : {A A' B C R R' S : Type 0} (Shows : List Formula → R → A → Type 0) (ShowsC : List Formula → S → C → Type 0) (Shows' : List Formula → R' → A' → Type 0) (old now new : List Node) (r : R) (s : S) (r' : R') (rest : A → Made B) (all : Made B) (step : Made C) (rest' : A' → Made B) (a' : A') → (g : Going Shows old now r rest all) → Makes ShowsC now new (Ok s) step → Shows' (arena new) r' a' → (rest g.made).what ≡ (rest' a').what → (rest g.made).nodes ≡ step.nodes + (rest' a').nodes → Going Shows' old new r' rest' all
-going_on Shows ShowsC Shows' old now new r s r' rest all step rest' a' g m shows e f =
+pub going_on : {A A' B C R R' S : Type 0} (Shows : List Formula → R → A → Type 0) (ShowsC : List Formula → S → C → Type 0) (Shows' : List Formula → R' → A' → Type 0) (old now new : List Node) (r : R) (s : S) (r' : R') (rest : A → Made B) (all : Made B) (step : Made C) (rest' : A' → Made B) (a' : A') → (g : Going Shows old now r rest all) → Makes ShowsC now new (Ok s) step → Shows' (arena new) r' a' → (rest g.part.what).what ≡ (rest' a').what → (rest g.part.what).nodes ≡ step.nodes + (rest' a').nodes → Going Shows' old new r' rest' all
+going_on {A' = A'} Shows ShowsC Shows' old now new r s r' rest all step rest' a' g m shows e f =
+    let here : Made A' = record { what = a'; nodes = step.nodes } in
     record {
-      made = a';
-      nodes = g.nodes + step.nodes;
-      shows = shows;
-      grew = grew_then (arena old) (arena now) (arena new) g.nodes step.nodes g.grew m.grew;
-      within = λ p. m.within (apart g.nodes step.nodes (length (arena old)) (length (arena now)) g.grew.count g.within p);
+      part = record { what = a'; nodes = g.part.nodes + step.nodes };
+      is = then_all Shows Shows' old now new r (Ok r') g.part here _ g.is (record { shows = shows; grew = m.grew; within = m.within }) refl refl;
       what = g.what ∙ e;
       total = omega (arith, g.total, f);
     }
 
 -- a step was refused
-pub going_stop : {A B C R S T : Type 0} (Shows : List Formula → R → A → Type 0) (ShowsC : List Formula → S → C → Type 0) (ShowsB : List Formula → T → B → Type 0) (old now new : List Node) (r : R) (e : ExprFault) (rest : A → Made B) (all : Made B) (step : Made C) → (g : Going Shows old now r rest all) → Makes ShowsC now new (Err e) step → step.nodes ≤ (rest g.made).nodes → Makes ShowsB old new (Err e) all
-going_stop Shows ShowsC ShowsB old now new r fault.NodeLimit rest all step g m h = (
-  λ i t e. m.0 i t (g.grew.keeps i t e),
-  (omega (arith, g.total, m.1.0, h), omega (arith, g.total, m.1.1, g.grew.count, h)),
-)
-going_stop Shows ShowsC ShowsB old now new r fault.OutOfMemory rest all step g m h = λ i t e. m i t (g.grew.keeps i t e)
+pub going_stop : {A B C R S T : Type 0} (Shows : List Formula → R → A → Type 0) (ShowsC : List Formula → S → C → Type 0) (ShowsB : List Formula → T → B → Type 0) (old now new : List Node) (r : R) (e : ExprFault) (rest : A → Made B) (all : Made B) (step : Made C) → (g : Going Shows old now r rest all) → Makes ShowsC now new (Err e) step → step.nodes ≤ (rest g.part.what).nodes → Makes ShowsB old new (Err e) all
+going_stop Shows ShowsC ShowsB old now new r e rest all step g m h = then_all Shows ShowsB old now new r (Err e) g.part (rest g.part.what) all g.is (stopped ShowsC ShowsB now new e step (rest g.part.what) m h) g.what g.total
 
 -- all is made
-pub going_done : {A B R T : Type 0} (Shows : List Formula → R → A → Type 0) (ShowsB : List Formula → T → B → Type 0) (old now : List Node) (r : R) (s : T) (rest : A → Made B) (all : Made B) → (g : Going Shows old now r rest all) → (rest g.made).nodes ≡ 0 → ShowsB (arena now) s (rest g.made).what → Makes ShowsB old now (Ok s) all
+pub going_done : {A B R T : Type 0} (Shows : List Formula → R → A → Type 0) (ShowsB : List Formula → T → B → Type 0) (old now : List Node) (r : R) (s : T) (rest : A → Made B) (all : Made B) → (g : Going Shows old now r rest all) → (rest g.part.what).nodes ≡ 0 → ShowsB (arena now) s (rest g.part.what).what → Makes ShowsB old now (Ok s) all
 going_done Shows ShowsB old now r s rest all g e b =
-    record {
-      shows = subst (ShowsB (arena now) s) (sym g.what) b;
-      grew = record { keeps = g.grew.keeps; count = omega (arith, g.grew.count, g.total, e) };
-      within = λ p. g.within (omega (arith, p.0, g.total, e), omega (arith, p.1, g.total, e));
-    }
+    let last : IsMade ShowsB (arena now) (arena now) s (rest g.part.what) = record { shows = b; grew = record { keeps = λ i f h. h; count = omega (arith, e) }; within = λ p. omega (arith, p.0, e) } in
+    then_all Shows ShowsB old now now r (Ok s) g.part (rest g.part.what) all g.is last g.what g.total
 
 -- ---- places of words
 

@@ -1,5 +1,5 @@
 -- Words of the positions of others: their loops, and the formulas of their ids.
-use Rattle.std.proofs.Common.{◌≡◌, ℕ, zero, suc, ◌+◌, ◌/◌, ◌%◌, ◌<◌, ◌≤◌, ◌==◌, Bool, true, false, List, [], ◌∷◌, ◌++◌, min, length, map, get_or, take, replicate, Ok, refl, sym, ap, ap₂, ◌∙◌, subst, arith, append-nil, add-one}
+use Rattle.std.proofs.Common.{◌≡◌, ℕ, zero, suc, ◌/◌, ◌%◌, ◌<◌, ◌≤◌, ◌==◌, Bool, true, false, List, [], ◌∷◌, ◌++◌, min, length, map, get_or, take, replicate, Ok, refl, sym, ap, ap₂, ◌∙◌, subst, arith, append-nil}
 use Rattle.expr_bits.proofs.Common.{ExprId, Node, arena, formula_at, Formula, Const, resized, kept_bits, digits_low_first, Vec, free, AllIn, word_at, ShowsAll, ShowsItems, Makes, bit_id, digit_ids, resized_ids, kept_ids}
 use Rattle.expr_bits.proofs.Making.{nothing_made}
 use Rattle.expr_bits.proofs.AlongWords.{zero_there, one_there, zero_is, one_is}
@@ -15,59 +15,47 @@ abbrev pub halved : ℕ → ℕ → ℕ
 halved zero n = n
 halved (suc i) n = halved i (n / 2)
 
-pub halved_next : (i n rest : ℕ) → rest ≡ halved i n → rest / 2 ≡ halved (i + 1) n
-halved_next i n rest e = ap (λ m. m / 2) e ∙ last i n ∙ ap (λ k. halved k n) (sym (add-one i))
-  where
-    last : (i n : ℕ) → halved i n / 2 ≡ halved (suc i) n
-    last zero n = refl
-    last (suc i) n = last i (n / 2)
+pub halved_next : (i n : ℕ) → halved i n / 2 ≡ halved (suc i) n
+halved_next zero n = refl
+halved_next (suc i) n = halved_next i (n / 2)
 
-pub digits_next : (i n rest : ℕ) → rest ≡ halved i n → digit_ids (i + 1) n ≡ digit_ids i n ++ bit_id (rest % 2 == 1) ∷ []
-digits_next i n rest e = ap (λ k. digit_ids k n) (add-one i) ∙ last i n ∙ ap (λ m. digit_ids i n ++ bit_id (m % 2 == 1) ∷ []) (sym e)
-  where
-    last : (i n : ℕ) → digit_ids (suc i) n ≡ digit_ids i n ++ bit_id (halved i n % 2 == 1) ∷ []
-    last zero n = refl
-    last (suc i) n = ap (λ ids. bit_id (n % 2 == 1) ∷ ids) (last i (n / 2))
+pub digits_next : (i n : ℕ) → digit_ids (suc i) n ≡ digit_ids i n ++ bit_id (halved i n % 2 == 1) ∷ []
+digits_next zero n = refl
+digits_next (suc i) n = ap (λ ids. bit_id (n % 2 == 1) ∷ ids) (digits_next i (n / 2))
 
-pub resized_next : (i : ℕ) (xs : List ExprId) → resized_ids (i + 1) xs ≡ resized_ids i xs ++ get_or xs i (record { 0 = 0 }) ∷ []
-resized_next i xs = ap (λ k. resized_ids k xs) (add-one i) ∙ last i xs
-  where
-    last : (i : ℕ) (xs : List ExprId) → resized_ids (suc i) xs ≡ resized_ids i xs ++ get_or xs i (record { 0 = 0 }) ∷ []
-    last zero [] = refl
-    last zero (x ∷ xs) = refl
-    last (suc i) [] = ap (λ ys. bit_id false ∷ ys) (last i [])
-    last (suc i) (x ∷ xs) = ap (λ ys. x ∷ ys) (last i xs)
+pub resized_next : (i : ℕ) (xs : List ExprId) → resized_ids (suc i) xs ≡ resized_ids i xs ++ get_or xs i (record { 0 = 0 }) ∷ []
+resized_next zero [] = refl
+resized_next zero (x ∷ xs) = refl
+resized_next (suc i) [] = ap (λ ys. bit_id false ∷ ys) (resized_next i [])
+resized_next (suc i) (x ∷ xs) = ap (λ ys. x ∷ ys) (resized_next i xs)
 
 -- one position, if it is not dropped
 abbrev kept_one : Bool → ExprId → List ExprId
 kept_one true x = []
 kept_one false x = x ∷ []
 
-kept_next : (bs : List Bool) (xs : List ExprId) (i : ℕ) (b : Bool) (x : ExprId) → i < length bs → i < length xs → kept_ids (take (i + 1) bs) (take (i + 1) xs) ≡ kept_ids (take i bs) (take i xs) ++ kept_one (get_or bs i b) (get_or xs i x)
-kept_next bs xs i b x h k = ap (λ n. kept_ids (take n bs) (take n xs)) (add-one i) ∙ last bs xs i h k
-  where
-    last : (bs : List Bool) (xs : List ExprId) (i : ℕ) → i < length bs → i < length xs → kept_ids (take (suc i) bs) (take (suc i) xs) ≡ kept_ids (take i bs) (take i xs) ++ kept_one (get_or bs i b) (get_or xs i x)
-    last [] xs i h k = absurd (omega (arith, h))
-    last (c ∷ bs) [] i h k = absurd (omega (arith, k))
-    last (true ∷ bs) (y ∷ xs) zero h k = refl
-    last (false ∷ bs) (y ∷ xs) zero h k = refl
-    last (true ∷ bs) (y ∷ xs) (suc i) h k = last bs xs i (omega (arith, h)) (omega (arith, k))
-    last (false ∷ bs) (y ∷ xs) (suc i) h k = ap (λ ys. y ∷ ys) (last bs xs i (omega (arith, h)) (omega (arith, k)))
+kept_next : (bs : List Bool) (xs : List ExprId) (i : ℕ) (b : Bool) (x : ExprId) → i < length bs → i < length xs → kept_ids (take (suc i) bs) (take (suc i) xs) ≡ kept_ids (take i bs) (take i xs) ++ kept_one (get_or bs i b) (get_or xs i x)
+kept_next [] xs i b x h k = absurd (omega (arith, h))
+kept_next (c ∷ bs) [] i b x h k = absurd (omega (arith, k))
+kept_next (true ∷ bs) (y ∷ xs) zero b x h k = refl
+kept_next (false ∷ bs) (y ∷ xs) zero b x h k = refl
+kept_next (true ∷ bs) (y ∷ xs) (suc i) b x h k = kept_next bs xs i b x (omega (arith, h)) (omega (arith, k))
+kept_next (false ∷ bs) (y ∷ xs) (suc i) b x h k = ap (λ ys. y ∷ ys) (kept_next bs xs i b x (omega (arith, h)) (omega (arith, k)))
 
-pub kept_dropped : (bs : List Bool) (xs : List ExprId) (i : ℕ) (b : Bool) (x : ExprId) → i < length bs → i < length xs → get_or bs i b ≡ true → kept_ids (take (i + 1) bs) (take (i + 1) xs) ≡ kept_ids (take i bs) (take i xs)
+pub kept_dropped : (bs : List Bool) (xs : List ExprId) (i : ℕ) (b : Bool) (x : ExprId) → i < length bs → i < length xs → get_or bs i b ≡ true → kept_ids (take (suc i) bs) (take (suc i) xs) ≡ kept_ids (take i bs) (take i xs)
 kept_dropped bs xs i b x h k e = kept_next bs xs i b x h k ∙ ap (λ c. kept_ids (take i bs) (take i xs) ++ kept_one c (get_or xs i x)) e ∙ append-nil (kept_ids (take i bs) (take i xs))
 
-pub kept_stays : (bs : List Bool) (xs : List ExprId) (i : ℕ) (b : Bool) (x : ExprId) → i < length bs → i < length xs → get_or bs i b ≡ false → kept_ids (take (i + 1) bs) (take (i + 1) xs) ≡ kept_ids (take i bs) (take i xs) ++ get_or xs i x ∷ []
+pub kept_stays : (bs : List Bool) (xs : List ExprId) (i : ℕ) (b : Bool) (x : ExprId) → i < length bs → i < length xs → get_or bs i b ≡ false → kept_ids (take (suc i) bs) (take (suc i) xs) ≡ kept_ids (take i bs) (take i xs) ++ get_or xs i x ∷ []
 kept_stays bs xs i b x h k e = kept_next bs xs i b x h k ∙ ap (λ c. kept_ids (take i bs) (take i xs) ++ kept_one c (get_or xs i x)) e
 
 pub kept_all : (bs : List Bool) (xs : List ExprId) (i : ℕ) → min (length xs) (length bs) ≤ i → kept_ids (take i bs) (take i xs) ≡ kept_ids bs xs
-kept_all [] xs zero h = refl
 kept_all [] xs (suc i) h = refl
-kept_all (b ∷ bs) [] zero h = refl
 kept_all (b ∷ bs) [] (suc i) h = refl
 kept_all (b ∷ bs) (x ∷ xs) zero h = absurd (omega (arith, h))
 kept_all (true ∷ bs) (x ∷ xs) (suc i) h = kept_all bs xs i (omega (arith, h))
 kept_all (false ∷ bs) (x ∷ xs) (suc i) h = ap (λ ys. x ∷ ys) (kept_all bs xs i (omega (arith, h)))
+kept_all [] xs zero h = refl
+kept_all (b ∷ bs) [] zero h = refl
 
 -- ---- formulas of these ids
 
@@ -106,24 +94,21 @@ spread_at fs zero x = refl
 spread_at fs (suc w) x = ap (λ ys. formula_at fs x ∷ ys) (spread_at fs w x)
 
 pub kept_in : (count : ℕ) (bs : List Bool) (xs : List ExprId) → AllIn count xs → AllIn count (kept_ids bs xs)
-kept_in count [] xs a = tt
-kept_in count (b ∷ bs) [] a = tt
 kept_in count (true ∷ bs) (x ∷ xs) a = kept_in count bs xs a.1
 kept_in count (false ∷ bs) (x ∷ xs) a = (a.0, kept_in count bs xs a.1)
+kept_in count _ _ a = tt
 
 pub kept_at : (fs : List Formula) (bs : List Bool) (xs : List ExprId) → word_at fs (kept_ids bs xs) ≡ kept_bits bs (word_at fs xs)
-kept_at fs [] xs = refl
-kept_at fs (b ∷ bs) [] = refl
 kept_at fs (true ∷ bs) (x ∷ xs) = kept_at fs bs xs
 kept_at fs (false ∷ bs) (x ∷ xs) = ap (λ ys. formula_at fs x ∷ ys) (kept_at fs bs xs)
+kept_at fs _ _ = refl
 
 pub kept_length : (bs : List Bool) (xs ys : List ExprId) → length xs ≡ length ys → length (kept_ids bs xs) ≡ length (kept_ids bs ys)
-kept_length [] xs ys e = refl
-kept_length (b ∷ bs) [] [] e = refl
 kept_length (b ∷ bs) [] (y ∷ ys) e = absurd (omega (arith, e))
 kept_length (b ∷ bs) (x ∷ xs) [] e = absurd (omega (arith, e))
 kept_length (true ∷ bs) (x ∷ xs) (y ∷ ys) e = kept_length bs xs ys (omega (arith, e))
 kept_length (false ∷ bs) (x ∷ xs) (y ∷ ys) e = ap suc (kept_length bs xs ys (omega (arith, e)))
+kept_length _ _ _ e = refl
 
 -- a word of zeros, as wide as another
 pub zeros_at : (ns : List Node) (xs : List ExprId) → word_at (arena ns) (replicate (length xs) (record { 0 = 0 })) ≡ map (λ x. Const false) (word_at (arena ns) xs)

@@ -1,6 +1,6 @@
 -- What terms read: with extensions, and by the names of an expression.
 use Rattle.std.proofs.Common.{◌≡◌, ℕ, ◌||◌, Bool, true, false, Option, None, Some, List, [], ◌∷◌, ◌++◌, if◌then◌else◌, bytes_eq, codes, refl, sym, ap, ap₂, ◌∙◌}
-use Rattle.expr_bits.proofs.Common.{list_any, or_assoc, or-false, Extension, innermost, range_names, Tree, ANumber, ASpecial, AName, ASet, AParen, AUnary, ABinary, SetMember, OneMember, SpanMember, Members, NoMember, MoreMembers, Context, Term, Terms, NoTerm, Before, Known, extended, extended_each, extended_if, member_before, named_before, term_named, term_of, terms_of, Reads, Finds, IsReads, leaf_under, names_to, no_reads, reads_leaf, reads_signal, some_of_read, some_read, used_leaf, used_signal}
+use Rattle.expr_bits.proofs.Common.{list_any, or_assoc, or-false, Extension, innermost, range_names, Tree, ANumber, ASpecial, AName, ASet, AParen, AUnary, ABinary, SetMember, OneMember, SpanMember, Members, NoMember, MoreMembers, Context, Term, Terms, NoTerm, Before, Known, extended, extended_each, extended_if, member_before, named_before, term_named, term_of, terms_of, Reads, ALeaf, ASignal, Asked, Finds, IsReads, leaf_under, names_to, no_reads, reads_leaf, reads_signal, some_of_read, some_read, told_by, used_answer}
 use Rattle.std.proofs.lemmas.List.Folds.{list_any-append}
 use Rattle.abel_tree.specs.declared.words.Extension.TheVariants as extension
 use Rattle.abel_meaning.specs.Terms as term
@@ -15,39 +15,32 @@ alike s l = record { signal = s; bare = l; q = l; fb = l; pin = l; control = l }
 pub alike_leaf : (s l : Bool) (e : Option Extension) → leaf_under (alike s l) e ≡ l
 alike_leaf s l None = refl
 alike_leaf s l (Some extension.Q) = refl
-alike_leaf s l (Some extension.Fb) = refl
-alike_leaf s l (Some extension.Pin) = refl
-alike_leaf s l (Some _) = refl
+alike_leaf s l _ = refl
 
-pub nothing_found : Finds no_reads false (λ e. false)
-nothing_found = record { signal = refl; leaf = alike_leaf false false }
+pub nothing_found : Finds no_reads (λ q. false)
+nothing_found ASignal = refl
+nothing_found (ALeaf e) = alike_leaf false false e
+
+pub nothing_read : (d : Context) (n : ℕ) → IsReads d no_reads (term.Number n)
+nothing_read d n ASignal = refl
+nothing_read d n (ALeaf e) = alike_leaf false false e
 
 -- one more of several
-pub more_found : {A : Type 0} (r s u : Reads) (f : A → Bool) (g : Option Extension → A → Bool) (xs ys : List A) (x : A) → ys ≡ xs ++ x ∷ [] → u.signal ≡ (r.signal || s.signal) → ((e : Option Extension) → leaf_under u e ≡ (leaf_under r e || leaf_under s e))
-    → Finds r (list_any f xs) (λ e. list_any (g e) xs) → Finds s (f x) (λ e. g e x) → Finds u (list_any f ys) (λ e. list_any (g e) ys)
-more_found r s u f g xs ys x all signal leaf h k =
-    record {
-      signal = signal ∙ ap₂ (λ a b. a || b) h.signal k.signal ∙ last f;
-      leaf = λ e. leaf e ∙ ap₂ (λ a b. a || b) (h.leaf e) (k.leaf e) ∙ last (g e);
-    }
-  where
-    last : (p : _ → Bool) → (list_any p xs || p x) ≡ list_any p ys
-    last p = ap (λ b. list_any p xs || b) (sym (or-false (p x))) ∙ sym (list_any-append p xs (x ∷ [])) ∙ ap (list_any p) (sym all)
+pub more_found : {A : Type 0} (r s u : Reads) (f : Asked → A → Bool) (xs ys : List A) (x : A) → ys ≡ xs ++ x ∷ [] → ((q : Asked) → told_by u q ≡ (told_by r q || told_by s q)) → Finds r (λ q. list_any (f q) xs) → Finds s (λ q. f q x) → Finds u (λ q. list_any (f q) ys)
+more_found r s u f xs ys x all both h k q =
+    both q ∙ ap₂ (λ a b. a || b) (h q) (k q) ∙ ap (λ b. list_any (f q) xs || b) (sym (or-false (f q x))) ∙ sym (list_any-append (f q) xs (x ∷ []))
+    ∙ ap (list_any (f q)) (sym all)
 
 -- ---- with an extension of its own, under which each bare read is one under another
 
 module _ (passes : ℕ → Option Extension → Bool) (e f : Option Extension) (x : Extension) (same : (s : ℕ) → passes s (Some x) ≡ passes s f) where
   mutual
     extended_read : (t : Term) → some_read passes e (extended x t) ≡ some_read passes f t
-    extended_read (term.Number n) = refl
-    extended_read term.X = refl
-    extended_read term.Pulse = refl
-    extended_read term.Release = refl
     extended_read (term.Read s None) = same s
-    extended_read (term.Read s (Some own)) = refl
     extended_read (term.Set ts) = each_read ts
     extended_read (term.UnaryOf sign t) = extended_read t
     extended_read (term.BinaryOf sign t u) = ap₂ (λ a b. a || b) (extended_read t) (extended_read u)
+    extended_read _ = refl
 
     each_read : (ts : Terms) → some_of_read passes e (extended_each x ts) ≡ some_of_read passes f ts
     each_read NoTerm = refl
@@ -63,9 +56,8 @@ module _ (passes : ℕ → Option Extension → Bool) (counts : Option Extension
   use_passes u = list_any (name_passes u.extension) (names_to u.first u.last)
 
   special_read : (o : Option Extension) (b c : Bool) → some_read passes (counts o) (if b then term.X else if c then term.Pulse else term.Release) ≡ false
-  special_read o true c = refl
-  special_read o false true = refl
   special_read o false false = refl
+  special_read o _ _ = refl
 
   range_read : (o : Option Extension) (names : List (List ℕ)) (ts : Terms) → some_of_read passes (counts o) (named_before known names ts) ≡ (list_any (name_passes o) names || some_of_read passes (counts o) ts)
   range_read o [] ts = refl
@@ -108,9 +100,6 @@ leaf_inside : (d : Context) (e o x : Option Extension) (t : Term) → reads_leaf
 leaf_inside d e o None t = refl
 leaf_inside d e o (Some x) t = extended_read _ (innermost o e) (Some x) x (λ s. refl) t
 
-pub uses_read : (d : Context) (known : List Known) (r : Reads) (t : Tree) → Finds r (list_any (used_signal known) (names_used None t)) (λ e. list_any (used_leaf d known e) (names_used None t)) → IsReads d r (term_of known t)
-uses_read d known r t h =
-    record {
-      signal = h.signal ∙ sym (tree_read _ (λ o. None) known signal_inside None t);
-      leaf = λ e. h.leaf e ∙ sym (tree_read _ (λ o. innermost o e) known (leaf_inside d e) None t);
-    }
+pub uses_read : (d : Context) (known : List Known) (r : Reads) (t : Tree) → Finds r (λ q. list_any (used_answer d known q) (names_used None t)) → IsReads d r (term_of known t)
+uses_read d known r t h ASignal = h ASignal ∙ sym (tree_read _ (λ o. None) known signal_inside None t)
+uses_read d known r t h (ALeaf e) = h (ALeaf e) ∙ sym (tree_read _ (λ o. innermost o e) known (leaf_inside d e) None t)

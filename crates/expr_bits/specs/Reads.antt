@@ -43,23 +43,33 @@ reads_leaf d e t = some_read (λ s f. is_leaf (source_of d s f)) e t
 abbrev pub any_reads_leaf : Context → Option Extension → Terms → Bool
 any_reads_leaf d e ts = some_of_read (λ s f. is_leaf (source_of d s f)) e ts
 
+-- ---- what may be asked of a term
+
+-- whether it reads a signal at all, and whether a leaf under an extension
+pub data Asked : Type 0 where
+  ASignal : Asked
+  ALeaf : Option Extension → Asked
+
+abbrev pub answer_of : Context → Asked → Term → Bool
+answer_of d ASignal t = reads_signal t
+answer_of d (ALeaf e) t = reads_leaf d e t
+
+-- what it asks of a term inside an extension
+abbrev pub inside : Option Extension → Asked → Asked
+inside own ASignal = ASignal
+inside own (ALeaf e) = ALeaf (innermost own e)
+
 -- ---- by the names that an expression uses
 
 abbrev pub names_to : Word → Option Word → List (List ℕ)
 names_to first None = first.text ∷ []
 names_to first (Some last) = range_names first.text last.text
 
-abbrev pub named_signal : List Known → List ℕ → Bool
-named_signal known name = reads_signal (term_named known name)
+abbrev pub named_answer : Context → List Known → Asked → List ℕ → Bool
+named_answer d known q name = answer_of d q (term_named known name)
 
-abbrev pub named_leaf : Context → List Known → Option Extension → List ℕ → Bool
-named_leaf d known e name = reads_leaf d e (term_named known name)
-
-abbrev pub used_signal : List Known → UsedName → Bool
-used_signal known u = list_any (named_signal known) (names_to u.first u.last)
-
-abbrev pub used_leaf : Context → List Known → Option Extension → UsedName → Bool
-used_leaf d known e u = list_any (named_leaf d known (innermost u.extension e)) (names_to u.first u.last)
+abbrev pub used_answer : Context → List Known → Asked → UsedName → Bool
+used_answer d known q u = list_any (named_answer d known (inside u.extension q)) (names_to u.first u.last)
 
 -- ---- as the code has it
 
@@ -73,9 +83,12 @@ leaf_under r (Some extension.Fb) = r.fb
 leaf_under r (Some extension.Pin) = r.pin
 leaf_under r (Some _) = r.control
 
-pub record Finds (r : Reads) (s : Bool) (l : Option Extension → Bool) : Type 0 where
-  pub signal : r.signal ≡ s
-  pub leaf : (e : Option Extension) → leaf_under r e ≡ l e
+abbrev pub told_by : Reads → Asked → Bool
+told_by r ASignal = r.signal
+told_by r (ALeaf e) = leaf_under r e
+
+abbrev pub Finds : Reads → (Asked → Bool) → Type 0
+Finds r answers = (q : Asked) → told_by r q ≡ answers q
 
 abbrev pub IsReads : Context → Reads → Term → Type 0
-IsReads d r t = Finds r (reads_signal t) (λ e. reads_leaf d e t)
+IsReads d r t = Finds r (λ q. answer_of d q t)

@@ -3,8 +3,8 @@ use Rattle.std.specs.Prelude.{List, [], ◌∷◌}
 use Rattle.expr_bits.specs.Prelude.{Made, free, ◌>>=◌, Context, bits_of, Shape, Number, Single, Set, Term, constant_of}
 use Rattle.abel_meaning.specs.Terms as term
 use Rattle.expr_bits.specs.Parts.{Part, with_value, number_part, under_part, both_part, no_part, joined_part}
-use Rattle.expr_bits.specs.declared.step.Step.{Step}
-use Rattle.expr_bits.specs.declared.step.Step.TheVariants as step
+use Rattle.expr_bits.specs.declared.work.Step.{Step}
+use Rattle.expr_bits.specs.declared.work.Step.TheVariants as step
 
 -- what a term comes to
 abbrev pub term_part : Context → Term → Made Part

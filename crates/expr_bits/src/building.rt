@@ -5,12 +5,11 @@ ghost use Rattle.expr_bits.specs.Prelude.{ANode, arena, Formula, context_for};
 ghost use Rattle.expr_bits.specs.{Makes, Part, IsPart, AreStacked, Standing, top, below, as_set, made_by, left_by};
 ghost use Rattle.expr_bits.specs.declared.forms.Form.TheVariants as form;
 
-use crate::forms::{Bits, Form};
-use crate::leaves::{number_bits, one_bit};
+use crate::forms::{Bits, Form, number_bits, one_bit};
 use crate::reading::read;
 use crate::sets::{empty_set, with_member};
-use crate::step::Step;
 use crate::value_operators::{both, under};
+use crate::work::Step;
 use bit_expr::{ExprFault, ExprId, Exprs};
 use pld_base::{ListOf, OutOfMemory};
 use pld_device::Device;

@@ -6,8 +6,7 @@ ghost use Rattle.expr_bits.specs.{MakesBits, reads_signal, AreRows};
 
 use crate::forms::Bits;
 use crate::keeping::rows_of;
-use crate::reading_names::expr_reads;
-use crate::rows::Row;
+use crate::rows::{Row, expr_reads};
 use crate::shaping::shaped;
 use crate::walking::walk;
 use crate::work::{Outer, Work};

@@ -5,10 +5,8 @@ ghost use Rattle.expr_bits.specs.Prelude.{AnExtension, Entry, entries_of, member
 ghost use Rattle.abel_meaning.specs.Terms as term;
 ghost use Rattle.expr_bits.specs.{Part, ComesTo, Precedes, tasks_of, Do, Push, after_all, after_task};
 
-use crate::naming::name_work;
-use crate::step::Step;
-use crate::work::{Outer, Work};
-use abel_tree::{Expr, Extension, Member};
+use crate::work::{Outer, Step, Work, name_work};
+use abel_tree::{Expr, Member};
 use name_uses::range_list;
 use pld_base::OutOfMemory;
 use set_expr::Scope;
@@ -109,28 +107,18 @@ pub(crate) fn expand<'a>(
     match expr {
         Expr::Number(number) => first_of(work, Work::Do(Step::Number(number.value))),
         Expr::Special { letter, place: _ } => first_of(work, Work::Do(special_step(*letter))),
-        Expr::Name {
-            word,
-            extension: own,
-        } => {
-            let outer = Outer {
-                extension: Extension::innermost(*own, outer.extension),
-                count: outer.count,
-            };
-            let next = name_work(scope, word.text.bytes(), outer);
+        Expr::Name { word, extension } => {
+            let next = name_work(scope, word.text.bytes(), outer.inside(*extension));
             first_of(work, next)
         }
         Expr::Set {
             place: _,
             members,
-            extension: own,
-        } => {
-            let outer = Outer {
-                extension: Extension::innermost(*own, outer.extension),
-                count: outer.count,
-            };
-            first_of(work, Work::Members(members.as_slice(), outer))
-        }
+            extension,
+        } => first_of(
+            work,
+            Work::Members(members.as_slice(), outer.inside(*extension)),
+        ),
         Expr::Paren { place: _, inner } => { first_of(work, Work::Whole(inner.get(), outer)) }
         Expr::Unary {
             sign,

@@ -1,14 +1,11 @@
 //! The rows of all names, each by those before it.
 
-ghost use Rattle.std.specs.Prelude.{◌≡◌, ℕ, false, None, Some, IfOk, length, slice_get, take};
-ghost use Rattle.abel_tree.specs.declared.words.Extension.TheVariants as extension;
+ghost use Rattle.std.specs.Prelude.{◌≡◌, ℕ, None, Some, IfOk, length, slice_get, take};
 ghost use Rattle.expr_bits.specs.Prelude.{entries_of, view_declared, view, Context, name_at, source_by, Read, known_of, term_of, context_for};
-ghost use Rattle.expr_bits.specs.{IsReads, is_leaf, reads_leaf, here_term, AreRows, IsKeptIf, IsRow};
+ghost use Rattle.expr_bits.specs.{IsReads, is_leaf, here_term, AreRows, IsRow};
 
-use crate::forms::Bits;
-use crate::reading_names::expr_reads;
 use crate::reads::Reads;
-use crate::rows::Row;
+use crate::rows::{Row, expr_reads};
 use crate::sources::source_of;
 use crate::walking::walk;
 use crate::work::{Outer, Work};
@@ -40,37 +37,8 @@ fn signal_reads<D: Device>(declared: &Declared) -> Reads
     }
 }
 
-/// The bits of a constant whose own extensions read no leaf, built where its other signals stand as `.CLK`, under which
+/// The row of a constant. Where its own extensions read no leaf, it is built with its other signals as `.CLK`, under which
 /// they read none. It is kept where it made no node, and has the same bits under each extension with which it makes none.
-fn still_bits<D: Device>(
-    alloc: Global,
-    scope: &Scope<'_>,
-    rows: &[Row],
-    expr: &Expr,
-) -> Result<Option<Bits>, OutOfMemory>
-    requires rows { AreRows (entries_of scope.now) (context_for D.table scope.now) 0 rows.now }
-    requires still { reads_leaf (context_for D.table scope.now) (Some extension.Clk) (term_of (known_of (take (length rows.now) (entries_of scope.now))) (view expr.now)) ≡ false }
-    ensures { IfOk result (λ o. IsKeptIf (context_for D.table scope.now) o (term_of (known_of (take (length rows.now) (entries_of scope.now))) (view expr.now))) }
-{
-    let mut exprs = Exprs::new(alloc);
-    let outer = Outer {
-        extension: Some(Extension::Clk),
-        count: rows.len(),
-    };
-    match walk::<D>(alloc, scope, rows, Work::Whole(expr, outer), &mut exprs) {
-        Ok(bits) => {
-            if exprs.made() == 0 {
-                Ok(Some(bits))
-            } else {
-                Ok(None)
-            }
-        }
-        Err(ExprFault::NodeLimit) => Ok(None),
-        Err(ExprFault::OutOfMemory) => Err(OutOfMemory),
-    }
-}
-
-/// The row of a constant.
 fn constant_row<D: Device>(
     alloc: Global,
     scope: &Scope<'_>,
@@ -84,8 +52,25 @@ fn constant_row<D: Device>(
     if reads.control {
         return Ok(Row::of(reads));
     }
-    let bits = still_bits::<D>(alloc, scope, rows, expr)?;
-    Ok(Row { reads, bits })
+    let mut exprs = Exprs::new(alloc);
+    let outer = Outer {
+        extension: Some(Extension::Clk),
+        count: rows.len(),
+    };
+    match walk::<D>(alloc, scope, rows, Work::Whole(expr, outer), &mut exprs) {
+        Ok(bits) => {
+            if exprs.made() == 0 {
+                Ok(Row {
+                    reads,
+                    bits: Some(bits),
+                })
+            } else {
+                Ok(Row::of(reads))
+            }
+        }
+        Err(ExprFault::NodeLimit) => Ok(Row::of(reads)),
+        Err(ExprFault::OutOfMemory) => Err(OutOfMemory),
+    }
 }
 
 /// The row of the next name.

@@ -1,6 +1,6 @@
 //! Values in so many positions.
 
-ghost use Rattle.std.specs.Prelude.{◌≡◌, false, ◌||◌, List, length, get_or, replicate, IfOk};
+ghost use Rattle.std.specs.Prelude.{◌≡◌, false, ◌||◌, List, length, get_or, IfOk};
 ghost use Rattle.expr_bits.specs.Prelude.{Node, arena, Formula, Word, met_word, Value, width_of, meeting, met_unknown, either_unknown};
 ghost use Rattle.expr_bits.specs.{ShowsItems, HasForm, HasUnknown, IsBits};
 
@@ -51,18 +51,6 @@ pub fn meet_word(alloc: Global, value: &Bits, width: usize) -> Result<Vec<ExprId
     }
 }
 
-/// One flag for so many positions.
-pub(crate) fn spread_flag(
-    alloc: Global,
-    unknown: bool,
-    width: usize,
-) -> Result<Vec<bool>, OutOfMemory>
-    ensures { IfOk result (λ xs. xs.items ≡ replicate width unknown) }
-{
-    let flags = vec![in alloc; unknown; width]?;
-    Ok(flags)
-}
-
 /// The X positions of a value in so many positions.
 pub(crate) fn meet_unknown(
     alloc: Global,
@@ -73,8 +61,8 @@ pub(crate) fn meet_unknown(
 {
     let unknown = value.unknown.as_slice();
     match value.form {
-        Form::Number(_) => spread_flag(alloc, false, width),
-        Form::Single => spread_flag(alloc, flag_at(unknown, 0), width),
+        Form::Number(_) => Ok(vec![in alloc; false; width]?),
+        Form::Single => Ok(vec![in alloc; flag_at(unknown, 0); width]?),
         Form::Set => Ok(Vec::from_slice(alloc, unknown)?),
     }
 }

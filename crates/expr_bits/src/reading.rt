@@ -5,8 +5,7 @@ ghost use Rattle.expr_bits.specs.Prelude.{Context, make_source, source_of, IsCon
 ghost use Rattle.abel_meaning.specs.Terms as term;
 ghost use Rattle.expr_bits.specs.{Makes, ShowsOne, IsPart, HasLeaf, view_reading, term_part};
 
-use crate::forms::Bits;
-use crate::leaves::one_bit;
+use crate::forms::{Bits, one_bit};
 use crate::sources::{Reading, source_of};
 use abel_tree::Extension;
 use bit_expr::{ExprFault, ExprId, Exprs, Node};

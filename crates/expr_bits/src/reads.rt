@@ -1,8 +1,7 @@
 //! What a value reads.
 
-ghost use Rattle.std.specs.Prelude.{◌≡◌, ◌||◌, Option};
-ghost use Rattle.expr_bits.specs.Prelude.{AnExtension, innermost};
-ghost use Rattle.expr_bits.specs.{leaf_under, no_reads};
+ghost use Rattle.std.specs.Prelude.{◌≡◌, ◌||◌};
+ghost use Rattle.expr_bits.specs.{Asked, inside, leaf_under, no_reads, told_by};
 
 use abel_tree::Extension;
 
@@ -49,8 +48,7 @@ impl Reads {
 
     /// With an extension, which no other takes the place of.
     pub(crate) fn under(self, extension: Option<Extension>) -> Reads
-        ensures signal { result.signal ≡ self.signal }
-        ensures leaf { (e : Option AnExtension) → leaf_under result e ≡ leaf_under self (innermost extension e) }
+        ensures { (q : Asked) → told_by result q ≡ told_by self (inside extension q) }
     {
         match extension {
             None => self,
@@ -70,8 +68,7 @@ impl Reads {
 
     /// What both read.
     pub(crate) fn with(self, other: Reads) -> Reads
-        ensures signal { result.signal ≡ (self.signal || other.signal) }
-        ensures leaf { (e : Option AnExtension) → leaf_under result e ≡ (leaf_under self e || leaf_under other e) }
+        ensures { (q : Asked) → told_by result q ≡ (told_by self q || told_by other q) }
     {
         Reads {
             signal: self.signal || other.signal,

@@ -4,10 +4,9 @@ ghost use Rattle.std.specs.Prelude.{ℕ, Bool, List, false};
 ghost use Rattle.expr_bits.specs.Prelude.{arena, Value, unary_value};
 ghost use Rattle.expr_bits.specs.{Makes, HasForm, HasUnknown, MeetsAs, related_part, computed_part, Part, IsPart, Stands, under_part, both_part, computed_value};
 
-use crate::dropping::{Compared, kept_relation};
-use crate::forms::{Bits, Form};
-use crate::leaves::{number_bits, one_bit};
-use crate::meeting::{dropped, meet_word, spread_flag, width_of_both};
+use crate::compare::{Compared, kept_relation};
+use crate::forms::{Bits, Form, number_bits, one_bit};
+use crate::meeting::{dropped, meet_word, width_of_both};
 use crate::word_operators::{operator_word, unary_word};
 use abel_tree::{Binary, Unary};
 use bit_expr::{ExprFault, Exprs};
@@ -102,7 +101,7 @@ fn computed(
         Form::Number(number) => Ok(number_bits(alloc, number)),
         _ => {
             let width = width_of_both(left, right);
-            let unknown = spread_flag(alloc, false, width)?;
+            let unknown = vec![in alloc; false; width]?;
             let first = meet_word(alloc, left, width)?;
             let second = meet_word(alloc, right, width)?;
             let word = operator_word(alloc, exprs, sign, first.as_slice(), second.as_slice())?;

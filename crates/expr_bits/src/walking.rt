@@ -7,9 +7,8 @@ ghost use Rattle.expr_bits.specs.{Makes, IsPart, task_of, Push, term_part, AreRo
 use crate::building::{build, copied, taken};
 use crate::expanding::{expand, expand_members};
 use crate::forms::Bits;
-use crate::naming::declared_work;
 use crate::rows::{Row, bits_at};
-use crate::work::Work;
+use crate::work::{Work, declared_work};
 use bit_expr::{ExprFault, Exprs};
 use pld_device::Device;
 use set_expr::Scope;

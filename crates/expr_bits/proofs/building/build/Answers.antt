@@ -1,6 +1,6 @@
 -- Numbers, `.X.` and sets make no node.
 use Rattle.std.proofs.Common.{false, refl}
-use Rattle.expr_bits.proofs.Common.{arena, Const, constant_of, context_for, IsPart, joined_part, no_part, number_part, as_set, below, term_part, top}
+use Rattle.expr_bits.proofs.Common.{arena, Const, constant_of, context_for, IsPart, joined_part, no_part, number_part, plain_value, as_set, below, term_part, top}
 use Rattle.abel_meaning.specs.Terms as term
 use Rattle.expr_bits.proofs.AlongWords.{zero_there, zero_is}
 use Rattle.expr_bits.proofs.Contexts.{is_context}
@@ -10,7 +10,7 @@ use Rattle.expr_bits.proofs.building.build.Goals as goal
 pub returns-in-Number-clause-made : goal.returns-in-Number-clause-made
 returns-in-Number-clause-made g c ps a =
     let old = c.args.exprs.now in
-    rw c.in-Number.is (nothing_made IsPart old c.number_bits.result (number_part c.in-Number.number) (c.number_bits.ensures (arena old)))
+    rw c.in-Number.is (nothing_made IsPart old c.number_bits.result (number_part c.in-Number.number) (c.number_bits.ensures (arena old) (plain_value c.in-Number.number) refl refl))
 
 pub returns-in_ok-one_bit-in-Unknown-clause-made : goal.returns-in_ok-one_bit-in-Unknown-clause-made
 returns-in_ok-one_bit-in-Unknown-clause-made g c ps a =

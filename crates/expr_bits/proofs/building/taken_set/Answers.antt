@@ -1,6 +1,6 @@
 -- A set is taken as it is.
 use Rattle.expr_bits.proofs.Common.{top}
-use Rattle.expr_bits.proofs.StackLaws.{set_empty, set_kept}
+use Rattle.expr_bits.proofs.Turns.{set_empty, set_kept}
 use Rattle.expr_bits.proofs.building.taken_set.Goals as goal
 
 pub returns-in-Set-clause-top : goal.returns-in-Set-clause-top

@@ -1,7 +1,7 @@
 -- The bits by form, and their width.
 use Rattle.std.proofs.Common.{◌≡◌, length, get_or, replicate, sym, ap, ◌∙◌, subst}
 use Rattle.expr_bits.proofs.Common.{IfOk-weaker, arena, met_word, ShowsAll, resized_ids}
-use Rattle.expr_bits.proofs.MetWords.{met_number, met_single, met_set, digits_length, resized_length}
+use Rattle.expr_bits.proofs.Shaped.{met_number, met_single, met_set, digits_length, resized_length}
 use Rattle.expr_bits.proofs.meeting.meet_word.Goals as goal
 
 pub returns-in-Number-clause-shows : goal.returns-in-Number-clause-shows

@@ -2,7 +2,7 @@
 use Rattle.std.proofs.Common.{refl}
 use Rattle.expr_bits.proofs.Common.{make_source, source_of, constant_of}
 use Rattle.abel_meaning.specs.Terms as term
-use Rattle.expr_bits.proofs.TwoValues.{one_made}
+use Rattle.expr_bits.proofs.OperatedBits.{one_made}
 use Rattle.expr_bits.proofs.reading.read.Goals as goal
 
 pub returns : goal.returns

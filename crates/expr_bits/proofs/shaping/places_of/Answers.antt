@@ -1,5 +1,5 @@
 -- One position more, and all of them.
-use Rattle.std.proofs.Common.{◌≤◌, false, sym, ap₂, ◌∙◌, subst}
+use Rattle.std.proofs.Common.{add-one, ◌≤◌, false, sym, ap₂, ◌∙◌, subst}
 use Rattle.expr_bits.proofs.Common.{take_all, places_of}
 use Rattle.expr_bits.proofs.PositionWords.{next}
 use Rattle.expr_bits.proofs.Shaped.{places_next}
@@ -7,7 +7,7 @@ use Rattle.expr_bits.proofs.shaping.places_of.Goals as goal
 
 pub loop-index-preserved : goal.loop-index-preserved
 loop-index-preserved c =
-    rw (c.in_ok-push.ensures.items, c.place_of.ensures)
+    rw (c.in_ok-push.ensures.items, c.place_of.ensures, add-one c.loop-index.index)
     (next _ _ _ _ (places_next c.args.word.now c.args.unknown.now c.loop-index.index (record { 0 = 0 }) false c.loop-index-test.true c.requires) c.loop-index.invariant)
 
 pub returns : goal.returns

@@ -1,8 +1,7 @@
 -- Two numbers have no bits, and all else has a word as wide as both values.
 use Rattle.std.proofs.Common.{◌≡◌, false, replicate, length, Result, Ok, Err, sym, ap, ap₂, ◌∙◌, subst}
 use Rattle.expr_bits.proofs.Common.{err_from_is_err_and, Vec, ExprFault, ExprId, arena, operator_bits, Bits, AllIn, Makes, ShowsItems, word_at, MeetsAs, computed_part, IsPart, computed_value, width_of_two, word_in}
-use Rattle.expr_bits.proofs.OperatedBits.{shown_length}
-use Rattle.expr_bits.proofs.TwoValues.{number_made, operated_made, operated_stops}
+use Rattle.expr_bits.proofs.OperatedBits.{shown_length, number_made, operated_made, operated_stops}
 use Rattle.expr_bits.proofs.value_operators.computed.Goals as goal
 
 pub returns-in-Number : goal.returns-in-Number
@@ -48,4 +47,4 @@ returns-in_ok-word-in_default c p q l r =
     (subst (λ n. length (word_in n p) ≡ n) w (sym (shown_length (arena ns) c.in_ok-first-in_default.first.items (word_in width p) (first.shows ns p.value p.word l)) ∙ first.width))
     (subst (λ n. length (word_in n q) ≡ n) w (sym (shown_length (arena ns) c.in_ok-second-in_default.second.items (word_in width q) (second.shows ns q.value q.word r)) ∙ second.width))
     (subst (λ m. Makes ShowsItems ns new (Ok c.in_ok-word-in_default.word) m) (ap₂ (operator_bits c.args.sign) x y) c.in_ok-word-in_default.ensures)
-    c.from_vec.ensures (c.from_vec-in_default.ensures ∙ c.in_ok-unknown-in_default.ensures ∙ ap (λ n. replicate n false) w) meets c.in_default.not-Number
+    c.from_vec.ensures (c.from_vec-in_default.ensures ∙ c.in_ok-unknown-in_default.ensures.items_if_clones_equal (λ y e. e) ∙ ap (λ n. replicate n false) w) meets c.in_default.not-Number

@@ -2,8 +2,7 @@
 use Rattle.std.proofs.Common.{length, true, Result, Ok, Err, refl, sym, ap, ◌∙◌, subst, arith}
 use Rattle.expr_bits.proofs.Common.{err_from_is_err_and, arena, ExprFault, ExprId, binary_by, Bits, AllIn, Makes, ShowsOne, word_at, related_part, IsPart, relation_of}
 use Rattle.expr_bits.proofs.Making.{stopped}
-use Rattle.expr_bits.proofs.OperatedBits.{relation_made}
-use Rattle.expr_bits.proofs.TwoValues.{one_made}
+use Rattle.expr_bits.proofs.OperatedBits.{relation_made, one_made}
 use Rattle.expr_bits.proofs.value_operators.related.Goals as goal
 
 pub kept_relation-requires-clause-first : goal.kept_relation-requires-clause-first

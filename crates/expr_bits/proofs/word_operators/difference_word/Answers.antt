@@ -2,6 +2,7 @@
 use Rattle.std.proofs.Common.{◌≡◌, length, true, refl, sym, ap, ◌∙◌, subst}
 use Rattle.expr_bits.proofs.Common.{length-map, arena, formula_at, Const, each_not, sum_bits, difference_bits, Makes, ShowsItems, word_at}
 use Rattle.expr_bits.proofs.AlongWords.{one_there, one_is, length_not, sum_along}
+use Rattle.expr_bits.proofs.OperatedBits.{shown_length}
 use Rattle.expr_bits.proofs.Making.{in_kept, word_kept, then_all}
 use Rattle.expr_bits.proofs.word_operators.difference_word.Goals as goal
 
@@ -13,13 +14,9 @@ along-requires-clause-first c = in_kept (arena c.args.exprs.now) (arena c.comple
 
 pub along-requires-clause-same : goal.along-requires-clause-same
 along-requires-clause-same c =
-    let mid = arena c.complement_word.new.exprs in
     let ys = word_at (arena c.args.exprs.now) c.args.second.now in
-    c.requires.same
-    ∙ (sym (length-map c.args.second.now (λ id. formula_at (arena c.args.exprs.now) id))
-    ∙ (sym (length_not ys)
-    ∙ (sym (ap length c.in_ok-complement.ensures.shows.1)
-    ∙ (length-map c.in_ok-complement.complement.items (λ id. formula_at mid id) ∙ sym (ap length c.as_slice.ensures.value)))))
+    let long = shown_length (arena c.complement_word.new.exprs) c.in_ok-complement.complement.items (each_not ys).what c.in_ok-complement.ensures.shows in
+    c.requires.same ∙ sym (ap length c.as_slice.ensures.value ∙ long ∙ length_not ys ∙ length-map c.args.second.now (λ id. formula_at (arena c.args.exprs.now) id))
 
 pub returns : goal.returns
 returns c =

@@ -1,16 +1,8 @@
 -- The bits of the walk over all names, of which there are few.
-use Rattle.std.proofs.Common.{◌≡◌, ℕ, List, length, take, refl, sym, ap, ◌∙◌, subst}
-use Rattle.expr_bits.proofs.Common.{take-length, arena, Node, Table, Names, Entry, entries_of, Tree, view, bits_of, known_of, term_of, context_for, Bits, IsMade, IsPart, term_part, AreRows}
+use Rattle.std.proofs.Common.{length, take, refl, sym, subst}
+use Rattle.expr_bits.proofs.Common.{take-length, arena, Names, entries_of, view, bits_of, known_of, term_of, context_for, IsMade, IsPart, term_part, AreRows}
 use Rattle.expr_bits.proofs.Accepted.{accepted, few}
 use Rattle.expr_bits.proofs.device_scope.DeviceScope.bits.Goals as goal
-
--- as many of the first names as there are names are all of them
-over_all : (t : Table) (s n : Names) (count : ℕ) (x : Tree) (old new : List Node) (b : Bits) → s ≡ n → count ≡ length (entries_of n) → IsMade IsPart (arena old) (arena new) b (term_part (context_for t s) (term_of (known_of (take count (entries_of s))) x))
-    → IsMade IsPart (arena old) (arena new) b (term_part (context_for t n) (term_of (known_of (entries_of n)) x))
-over_all t s n count x old new b e k m =
-    let all = ap (λ j. take j (entries_of n)) k ∙ take-length (entries_of n) in
-    subst (λ (es : List Entry). IsMade IsPart (arena old) (arena new) b (term_part (context_for t n) (term_of (known_of es) x))) all
-    (subst (λ (u : Names). IsMade IsPart (arena old) (arena new) b (term_part (context_for t u) (term_of (known_of (take count (entries_of u))) x))) e m)
 
 pub walk-requires : goal.walk-requires
 walk-requires g c =
@@ -22,8 +14,9 @@ shaped-requires-clause-few g c =
     let t = g.D.Device.table in
     let n = c.args.self.now in
     let x = view c.args.expr.now in
-    few n (context_for t n) x c.args.exprs.now c.walk.new.exprs c.in_ok-bits.bits c.requires.accepted refl
-    (over_all t c.self.inside.scope n (length c.rows-rows.result.now) x c.args.exprs.now c.walk.new.exprs c.in_ok-bits.bits c.self.view_is c.rows-rows.ensures.all (c.in_ok-bits.ensures _ refl))
+    let made : IsMade IsPart (arena c.args.exprs.now) (arena c.walk.new.exprs) c.in_ok-bits.bits (term_part (context_for t n) (term_of (known_of (entries_of n)) x)) =
+    rw (c.self.view_is, c.rows-rows.ensures.all, take-length (entries_of n)) at (c.in_ok-bits.ensures (term_of (known_of (take (length c.rows-rows.result.now) (entries_of c.self.inside.scope))) x) refl) in
+    few n (context_for t n) x c.args.exprs.now c.walk.new.exprs c.in_ok-bits.bits c.requires.accepted refl made
 
 pub shaped-requires-clause-positions : goal.shaped-requires-clause-positions
 shaped-requires-clause-positions g c = (c.in_ok-bits.ensures _ refl).shows.positions
@@ -35,6 +28,7 @@ returns g c =
     let d = context_for t n in
     let x = view c.args.expr.now in
     let new = c.walk.new.exprs in
-    accepted n d x c.args.exprs.now new c.in_ok-bits.bits c.in_ok-shaped.shaped c.requires.accepted refl
-    (over_all t c.self.inside.scope n (length c.rows-rows.result.now) x c.args.exprs.now new c.in_ok-bits.bits c.self.view_is c.rows-rows.ensures.all (c.in_ok-bits.ensures _ refl))
+    let made : IsMade IsPart (arena c.args.exprs.now) (arena new) c.in_ok-bits.bits (term_part d (term_of d.known x)) =
+    rw (c.self.view_is, c.rows-rows.ensures.all, take-length (entries_of n)) at (c.in_ok-bits.ensures (term_of (known_of (take (length c.rows-rows.result.now) (entries_of c.self.inside.scope))) x) refl) in
+    accepted n d x c.args.exprs.now new c.in_ok-bits.bits c.in_ok-shaped.shaped c.requires.accepted refl made
     (λ v b z. c.in_ok-shaped.ensures (arena new) v (bits_of d (term_of d.known x)).what b z)

@@ -3,7 +3,7 @@ use Rattle.std.proofs.Common.{◌≡◌, ◌≤◌, None, length, slice_get, sym
 use Rattle.expr_bits.proofs.Common.{ltb-false, slice_get_past, entries_of, extended_if, ComesTo, here_term}
 use Rattle.expr_bits.proofs.Coming.{zero_comes}
 use Rattle.expr_bits.proofs.NamesBefore.{entry_at, entries_long}
-use Rattle.expr_bits.proofs.naming.declared_work.Goals as goal
+use Rattle.expr_bits.proofs.work.declared_work.Goals as goal
 
 pub returns-in-Some : goal.returns-in-Some
 returns-in-Some c =

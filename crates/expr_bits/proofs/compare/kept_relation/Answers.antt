@@ -2,7 +2,7 @@
 use Rattle.std.proofs.Common.{◌≡◌, length, sym, ap, ◌∙◌, subst}
 use Rattle.expr_bits.proofs.Common.{arena, kept_bits, AllIn, word_at}
 use Rattle.expr_bits.proofs.PositionWords.{kept_in, kept_at, kept_length}
-use Rattle.expr_bits.proofs.dropping.kept_relation.Goals as goal
+use Rattle.expr_bits.proofs.compare.kept_relation.Goals as goal
 
 pub relation_word-requires-clause-first : goal.relation_word-requires-clause-first
 relation_word-requires-clause-first c =

@@ -2,7 +2,7 @@
 use Rattle.std.proofs.Common.{drop}
 use Rattle.expr_bits.proofs.Common.{arena, ShowsOne, word_at, relation_steps, start_of}
 use Rattle.expr_bits.proofs.Making.{Going}
-use Rattle.expr_bits.proofs.compare.compared.Given as goal
+use Rattle.expr_bits.proofs.compare.found_along.Given as goal
 
 abbrev pub invariant-loop-i : goal.invariant-loop-i
 invariant-loop-i l =

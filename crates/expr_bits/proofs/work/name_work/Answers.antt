@@ -3,7 +3,7 @@ use Rattle.std.proofs.Common.{sym, ap}
 use Rattle.expr_bits.proofs.Common.{entries_of, extended_if, Push, after_task}
 use Rattle.expr_bits.proofs.Coming.{zero_comes}
 use Rattle.expr_bits.proofs.NamesBefore.{here_is, named_none, named_past}
-use Rattle.expr_bits.proofs.naming.name_work.Goals as goal
+use Rattle.expr_bits.proofs.work.name_work.Goals as goal
 
 pub returns-in_default : goal.returns-in_default
 returns-in_default c d ps =
