@@ -1,6 +1,6 @@
 -- What units leave that are made one after another.
 use Rattle.std.proofs.Common.{◌≡◌, ℕ, suc, ◌+◌, ◌<◌, Bool, true, false, List, [], ◌∷◌, ◌++◌, All, Result, Ok, Err, map, length, get_or, if◌then◌else◌, refl, sym, ap, ap₂, ◌∙◌, subst, arith, append_assoc, append-nil}
-use Rattle.section_targets.proofs.Common.{map-append, All-append, slice_get-get_or, get_or_from_slice_get, slice_get_within, Place, ExprId, arena, formula_at, Grew, Formula, Const, Contribution, Contributions, SectionFault, Keeps, view_contribution, Stops, NoMemory, AtLimit, StopsWith, IsBuilt, Builds, Appends, Leaves, Contributed, CountedUnit, is_past, limit_at, limit_refused, units_refused, units_nodes, all_refused}
+use Rattle.section_targets.proofs.Common.{map-append, All-append, All-head, All-tail, slice_get-get_or, get_or_from_slice_get, slice_get_within, Place, ExprId, arena, formula_at, Grew, Formula, Const, Contribution, Contributions, SectionFault, Keeps, view_contribution, Stops, NoMemory, AtLimit, StopsWith, IsBuilt, Builds, Appends, Leaves, Contributed, CountedUnit, is_past, limit_at, limit_refused, units_refused, units_nodes, all_refused}
 use Rattle.abel_meaning.specs.Contributions as meant
 
 pub left_empty : {A : Type 0} (xs ys : List A) → xs ++ ys ≡ [] → xs ≡ []
@@ -30,9 +30,8 @@ nodes_append (u ∷ us) vs = omega (arith, nodes_append us vs)
 
 -- a unit that isn't refused and doesn't pass the limit leaves it to those behind it
 limit_clear : (rs : List SectionFault) (p : Place) (past : Bool) (later more : List SectionFault) → rs ≡ [] → limit_at rs p past later ≡ [] → (later ≡ []) × (limit_at rs p past more ≡ more)
-limit_clear [] p true later more e h = absurd cc
 limit_clear [] p false later more e h = (h, refl)
-limit_clear (r ∷ rs) p past later more e h = absurd cc
+limit_clear _ p _ later more e h = absurd cc
 
 pub limit_append : (count : ℕ) (us vs : List CountedUnit) → units_refused us ≡ [] → limit_refused count us ≡ [] → limit_refused count (us ++ vs) ≡ limit_refused (count + units_nodes us) vs
 limit_append count [] vs e h = ap (λ n. limit_refused n vs) (omega arith)
@@ -49,9 +48,8 @@ limit_stays count (u ∷ us) vs h = by_unit u.refusals (is_past count u.nodes) h
     by_unit : (rs : List SectionFault) (past : Bool) → (limit_at rs u.place past (limit_refused (count + u.nodes) us) ++ (rs ++ units_refused us) ≡ [] → ⊥)
         → ((all_refused (count + u.nodes) us ≡ [] → ⊥) → limit_refused (count + u.nodes) (us ++ vs) ≡ limit_refused (count + u.nodes) us)
         → limit_at rs u.place past (limit_refused (count + u.nodes) (us ++ vs)) ≡ limit_at rs u.place past (limit_refused (count + u.nodes) us)
-    by_unit [] true h k = refl
     by_unit [] false h k = k h
-    by_unit (r ∷ rs) past h k = refl
+    by_unit _ _ h k = refl
 
 -- what stops units stops them with more behind them, or behind what was made
 pub stops_on : (f : SectionFault) (count later : ℕ) (us vs : List CountedUnit) → (limit_refused count us ≡ f ∷ [] → limit_refused later vs ≡ f ∷ []) → Stops f count us → Stops f later vs
@@ -76,17 +74,12 @@ view_kept old new c e = rw e refl
 abbrev Inside : List Formula → List Contribution → Type 0
 Inside fs cs = All (λ (c : Contribution). c.when.0 < length fs) cs
 
-inside_head : (fs : List Formula) (c : Contribution) (cs : List Contribution) → Inside fs (c ∷ cs) → c.when.0 < length fs
-inside_head fs c cs h = h 0 c (omega arith)
-
-inside_tail : (fs : List Formula) (c : Contribution) (cs : List Contribution) → Inside fs (c ∷ cs) → Inside fs cs
-inside_tail fs c cs h = λ k d lt. h (suc k) d (omega arith)
-
 views_kept : (old new : List Formula) (cs : List Contribution) → Keeps old new → Inside old cs → map (view_contribution new) cs ≡ map (view_contribution old) cs
 views_kept old new [] k h = refl
 views_kept old new (c ∷ cs) k h =
-    ap₂ (λ x xs. x ∷ xs) (view_kept old new c (kept_formula old new c.when k (inside_head old c cs h)))
-    (views_kept old new cs k (inside_tail old c cs h))
+    let inside = λ (x : Contribution). x.when.0 < length old in
+    ap₂ (λ x xs. x ∷ xs) (view_kept old new c (kept_formula old new c.when k (All-head inside c cs h)))
+    (views_kept old new cs k (All-tail inside c cs h))
 
 stays_inside : (old new : List Formula) (cs : List Contribution) → Keeps old new → Inside old cs → Inside new cs
 stays_inside old new cs k h = λ i d lt. kept_inside old new (get_or cs i d).when k (h i d lt)

@@ -5,7 +5,7 @@ pub use Rattle.std.proofs.lemmas.Bool.Decides.{nat_tests}
 pub use Rattle.std.proofs.lemmas.Iterator.Adapters.{position_from-zero}
 pub use Rattle.std.proofs.lemmas.List.{append-nil, drop_all, length-map, length-take, length-take-le, map-append, take-append-drop, take-map, take-take}
 pub use Rattle.std.proofs.lemmas.List.{take_all, take_more}
-pub use Rattle.std.proofs.lemmas.List.Elements.{All-append, All-map, All-take}
+pub use Rattle.std.proofs.lemmas.List.Elements.{All-append, All-head, All-map, All-tail, All-take}
 pub use Rattle.std.proofs.lemmas.Option.{get_or_from_slice_get, slice_get-get_or, slice_get_past, slice_get_read, slice_get_within}
 pub use Rattle.std.proofs.lemmas.Result.{IfOk-weaker, err_from_is_err_and}
 pub use Rattle.std.specs.List.{list_any, position_from}
@@ -48,7 +48,7 @@ pub use Rattle.set_expr.specs.declared.fault.SectionFault.TheVariants.{BadWidth,
 pub use Rattle.section_targets.specs.{AfterMaking, Appends, AreBits, AreFirsts, AreNamed, AreOfTerms, AreSignals, AreTargets, AtLimit, Builds, Contributed}
 pub use Rattle.section_targets.specs.{CountedUnit, IsBit, IsBuilt, IsOfMembers, IsOfTerm, IsSide, Leaves, NoMemory, StandFor, Stops, StopsWith, TargetFound}
 pub use Rattle.section_targets.specs.{Walks, aim_at, aims_at, aims_refused, all_name_signals, all_refused, differs_from, each_given, each_part, fault_behind}
-pub use Rattle.section_targets.specs.{first_manner, first_name, is_against_kind, is_itself, is_only, is_output, is_output_kind, is_past, is_same_part}
+pub use Rattle.section_targets.specs.{first_manner, first_name, is_against_kind, is_signal_number, is_output, is_output_kind, is_past, is_same_part}
 pub use Rattle.section_targets.specs.{known_ids, left_side, limit_at, limit_refused, manner_of, mixed, names_signals, no_output, no_signals, no_target}
 pub use Rattle.section_targets.specs.{one_given, one_part, part, part_of, places_of, standing, start_at, start_of, target_member, target_members, target_name}
 pub use Rattle.section_targets.specs.{target_one, target_range, target_set, targets_both, units_nodes, units_refused}

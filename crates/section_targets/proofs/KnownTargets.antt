@@ -47,13 +47,11 @@ module _ (Q : ℕ → Type 0) where
 
     mutual
       pub term_targets : (t : Tree) → EachTarget (targets_of (term_of ks t))
-      term_targets (ANumber n) = tt
       term_targets (ASpecial letter p) = special_targets letter
       term_targets (AName word e) = extended_each e (term_named ks word.text) (named_targets ks word.text known)
       term_targets (ASet p ms e) = extended_each e (Set (terms_of ks ms)) (members_targets ms)
       term_targets (AParen p t) = term_targets t
-      term_targets (AUnary sign p t) = tt
-      term_targets (ABinary sign p t u) = tt
+      term_targets _ = tt
 
       members_targets : (ms : Members) → EachTarget (all_targets (terms_of ks ms))
       members_targets NoMember = tt
@@ -68,10 +66,9 @@ module _ (Q : ℕ → Type 0) where
   known_append (x ∷ ks) k h g = (h.0, known_append ks k h.1 g)
 
   meant_targets : (ks : List Known) (s : ℕ) (kind : Kind) → EachKnown ks → (is_signal kind ≡ true → Q s) → EachTarget (targets_of (term_meant ks s kind))
-  meant_targets ks s (APin pin negated) h q = (q refl, tt)
-  meant_targets ks s (ANode n) h q = (q refl, tt)
   meant_targets ks s (AConstant value) h q = term_targets ks h value
   meant_targets ks s ADeviceName h q = tt
+  meant_targets ks s _ h q = (q refl, tt)
 
   after_known : (names before es : List Entry) (ks : List Known) → before ++ es ≡ names → ((s : ℕ) → is_signal (get_or names s no_name).kind ≡ true → Q s) → EachKnown ks → EachKnown (known_after ks (length before) es)
   after_known names before [] ks e q h = h

@@ -1,5 +1,6 @@
 -- Look-ups from the front.
 use Rattle.std.proofs.Common.{◌≡◌, ℕ, zero, suc, ◌+◌, ◌-◌, ◌<◌, ◌≤◌, Bool, true, false, ◌||◌, List, [], ◌∷◌, ◌++◌, Option, None, Some, cond, length, map, get_or, drop, if◌then◌else◌, refl, sym, ap, ap₂, ◌∙◌, subst, arith, add-one, position}
+use Rattle.std.proofs.lemmas.List.Folds.{find-append}
 use Rattle.section_targets.proofs.Common.{list_any, position_from, is_some, option_or, position_from-zero, drop-cons, drop_all, Aim, Manner, AreNamed, nat_tests, first_manner, is_same_part, part_of, AreFirsts}
 
 -- what is left from k on
@@ -15,22 +16,6 @@ back_more f xs k x some h i =
 pub back_none : {A B : Type 0} (f : A → B) (xs : List A) → map f (drop (length xs) xs) ≡ []
 back_none f xs = ap (map f) (drop_all (length xs) xs (omega arith))
 
-first_from : (ms : List Manner) (k : ℕ) (d : Manner) (s part : ℕ) → k < length ms → first_manner (drop k ms) s part ≡ (if is_same_part (get_or ms k d) s part then Some (get_or ms k d) else first_manner (drop (k + 1) ms) s part)
-first_from ms k d s part lt = ap (λ xs. first_manner xs s part) (next_of ms k d lt)
-
--- the one at k is the first, and it is not
-pub first_is : (ms : List Manner) (k : ℕ) (d : Manner) (s part : ℕ) → k < length ms → is_same_part (get_or ms k d) s part ≡ true → first_manner (drop k ms) s part ≡ Some (get_or ms k d)
-first_is ms k d s part lt e = first_from ms k d s part lt ∙ rw e refl
-
-pub first_not : (ms : List Manner) (k : ℕ) (d : Manner) (s part : ℕ) → k < length ms → is_same_part (get_or ms k d) s part ≡ false → first_manner (drop k ms) s part ≡ first_manner (drop (k + 1) ms) s part
-first_not ms k d s part lt e = first_from ms k d s part lt ∙ rw e refl
-
-pub first_in : (xs ms : List Manner) (s part : ℕ) (o : Option Manner) → xs ≡ ms → first_manner xs s part ≡ o → o ≡ first_manner ms s part
-first_in xs ms s part o e f = sym (ap (λ ys. first_manner ys s part) (sym e) ∙ f)
-
-pub first_end : (ms : List Manner) (k : ℕ) (s part : ℕ) → length ms ≤ k → first_manner (drop k ms) s part ≡ None
-first_end ms k s part h = ap (λ xs. first_manner xs s part) (drop_all k ms h)
-
 -- there is a place where some is
 pub placed_any : {X : Type 0} (t : X → Bool) (xs : List X) → is_some (position t xs) ≡ list_any t xs
 placed_any {X = X} t xs = ap is_some (position_from-zero t xs) ∙ from 0 xs
@@ -45,31 +30,22 @@ placed_any {X = X} t xs = ap is_some (position_from-zero t xs) ∙ from 0 xs
 
 -- ---- the first of each part
 
--- one more at the end is the first where none was
-first_push : (ms : List Manner) (m : Manner) (s part : ℕ) → first_manner (ms ++ m ∷ []) s part ≡ option_or (first_manner ms s part) (first_manner (m ∷ []) s part)
-first_push [] m s part = refl
-first_push (x ∷ ms) m s part = by_test (is_same_part x s part) (first_push ms m s part)
-  where
-    by_test : (b : Bool) → first_manner (ms ++ m ∷ []) s part ≡ option_or (first_manner ms s part) (first_manner (m ∷ []) s part)
-        → (if b then Some x else first_manner (ms ++ m ∷ []) s part) ≡ option_or (if b then Some x else first_manner ms s part) (first_manner (m ∷ []) s part)
-    by_test true e = refl
-    by_test false e = e
-
 -- what is kept and what all are agree with one more at the end of both
 pub firsts_push : (firsts all : List Manner) (m : Manner) → AreFirsts firsts all → AreFirsts (firsts ++ m ∷ []) (all ++ m ∷ [])
 firsts_push firsts all m h s part =
-    first_push firsts m s part ∙ ap (λ o. option_or o (first_manner (m ∷ []) s part)) (h s part) ∙ sym (first_push all m s part)
+    let test = λ (x : Manner). is_same_part x s part in
+    find-append test firsts (m ∷ []) ∙ ap (λ o. option_or o (first_manner (m ∷ []) s part)) (h s part) ∙ sym (find-append test all (m ∷ []))
 
 -- nothing need be kept where the part is assigned before
 pub firsts_stay : (firsts all : List Manner) (m f : Manner) → AreFirsts firsts all → Some f ≡ first_manner firsts m.signal (part_of m.extension) → AreFirsts firsts (all ++ m ∷ [])
 firsts_stay firsts all m f h e s part =
-    sym (first_push all m s part ∙ ap (λ o. option_or o (first_manner (m ∷ []) s part)) (sym (h s part)) ∙ stays (is_same_part m s part) refl)
+    sym (find-append (λ (x : Manner). is_same_part x s part) all (m ∷ []) ∙ ap (λ o. option_or o (first_manner (m ∷ []) s part)) (sym (h s part)) ∙ stays (is_same_part m s part) refl)
   where
     last : (o : Option Manner) → option_or o None ≡ o
     last None = refl
     last (Some x) = refl
 
-    stays : (b : Bool) → is_same_part m s part ≡ b → option_or (first_manner firsts s part) (if b then Some m else None) ≡ first_manner firsts s part
+    stays : (b : Bool) → is_same_part m s part ≡ b → option_or (first_manner firsts s part) (cond b (Some m) None) ≡ first_manner firsts s part
     stays false q = last (first_manner firsts s part)
     stays true q =
         let i : m.signal ≡ s = grind (arith, nat_tests, q) in

@@ -31,8 +31,7 @@ none_at ks (Some j) h = rw (slice_get_past ks j (h j refl)) refl
 here_or : (b c : Bool) (i : ℕ) (ks : List Known) (k : Known) (o : Option ℕ) (u : Term) → b ≡ c → slice_get ks i ≡ Some k → u ≡ term_at ks o → (if c then k.term else u) ≡ term_at ks (cond b (Some i) o)
 here_or true true i ks k o u e g h = rw g refl
 here_or false false i ks k o u e g h = h
-here_or true false i ks k o u e g h = absurd cc
-here_or false true i ks k o u e g h = absurd cc
+here_or _ _ i ks k o u e g h = absurd cc
 
 seam : (before : List Known) (k : Known) (ks : List Known) (i : ℕ) → length before ≡ i → slice_get (before ++ k ∷ ks) i ≡ Some k
 seam before k ks i e =
@@ -71,10 +70,9 @@ IsAt count (Some n) t = IsOfTerm count n t
 
 at_place : (count : ℕ) (ns : List NamedSignals) (ks : List Known) (i : ℕ) → AreOfTerms count ns ks → IsAt count (slice_get ns i) (term_or (slice_get ks i))
 at_place count [] [] i h = refl
-at_place count (n ∷ ns) [] i h = absurd h
-at_place count [] (k ∷ ks) i h = absurd h
 at_place count (n ∷ ns) (k ∷ ks) zero h = h.0
 at_place count (n ∷ ns) (k ∷ ks) (suc i) h = at_place count ns ks i h.1
+at_place count _ _ i h = absurd h
 
 module _ (count : ℕ) (es : List Entry) (ns : List NamedSignals) (ks : List Known) (w : List ℕ) (h : StandFor count es ns ks) where
   pub named_none : find es w ≡ None → term_named ks w ≡ Number 0
@@ -130,8 +128,7 @@ known_names ks s (e ∷ es) =
 pub terms_push : (count : ℕ) (ns : List NamedSignals) (ks : List Known) (n : NamedSignals) (k : Known) → AreOfTerms count ns ks → IsOfTerm count n k.term → AreOfTerms count (ns ++ n ∷ []) (ks ++ k ∷ [])
 terms_push count [] [] n k h g = (g, tt)
 terms_push count (x ∷ ns) (y ∷ ks) n k h g = (h.0, terms_push count ns ks n k h.1 g)
-terms_push count [] (y ∷ ks) n k h g = absurd h
-terms_push count (x ∷ ns) [] n k h g = absurd h
+terms_push count _ _ n k h g = absurd h
 
 -- the first names, of all
 pub stand_front : (count : ℕ) (front rest : List Entry) (ns : List NamedSignals) → AreOfTerms count ns (known_of front) → StandFor count (front ++ rest) ns (known_of front)

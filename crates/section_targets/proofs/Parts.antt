@@ -7,9 +7,8 @@ not_past : (count n : ℕ) → (PassesLimit MOST count n → ⊥) → is_past co
 not_past count n h = past_by (nat_lt 0 n) (nat_lt MOST (count + n)) refl refl
   where
     past_by : (a b : Bool) → nat_lt 0 n ≡ a → nat_lt MOST (count + n) ≡ b → (a && b) ≡ false
-    past_by false b p q = refl
-    past_by true false p q = refl
     past_by true true p q = absurd (h (grind (arith, nat_tests), grind (arith, nat_tests)))
+    past_by _ _ p q = refl
 
 past : (count n : ℕ) → PassesLimit MOST count n → is_past count n ≡ true
 past count n h = grind (arith, nat_tests, h.0, h.1)

@@ -6,9 +6,6 @@ use Rattle.abel_tree.specs.declared.names.Names.{Names}
 use Rattle.pld_device.specs.Table.{Table}
 use Rattle.expr_bits.proofs.NamesBefore.{entry_at, entries_long}
 
-pub first_of_both : (fs gs : List SectionFault) → first_refusal section_order (fs ++ gs) ≡ earlier section_order (first_refusal section_order fs) (first_refusal section_order gs)
-first_of_both fs gs = first_append section_order fs gs
-
 ranked_later : (a b c d : ℕ) → d ≤ c → sooner a b c a b d ≡ false
 ranked_later a b c d h = grind (arith, nat_tests, h)
 
@@ -50,7 +47,7 @@ refused_next d before now e c k xs i x lt h =
     let t : take (i + 1) xs ≡ take i xs ++ get_or xs i x ∷ [] = ap (λ n. take n xs) (add-one i) ∙ take-suc xs i x lt in
     ap (λ ys. first_refusal section_order (aims_refused d before e c k ys)) t
     ∙ ap (first_refusal section_order) (refused_push d before e c k (take i xs) (get_or xs i x))
-    ∙ first_of_both (aims_refused d before e c k (take i xs)) (aim_refused d (before ++ map (manner_of e c k) (take i xs)) e c k (get_or xs i x))
+    ∙ first_append section_order (aims_refused d before e c k (take i xs)) (aim_refused d (before ++ map (manner_of e c k) (take i xs)) e c k (get_or xs i x))
     ∙ ap (λ rs. earlier section_order (first_refusal section_order (aims_refused d before e c k (take i xs))) (first_refusal section_order rs)) (sym (firsts_refused d now (before ++ map (manner_of e c k) (take i xs)) e c k (get_or xs i x) h))
 
 -- the signals up to i, and the one at i

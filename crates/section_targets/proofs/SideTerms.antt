@@ -18,15 +18,9 @@ right_true false b e = absurd cc
 
 mutual
   signals_alone : (t : Term) → names_signals t ≡ true → targets_of t ≡ map Some (some_signals (targets_of t))
-  signals_alone (Number n) e = absurd cc
-  signals_alone X e = absurd cc
-  signals_alone Pulse e = absurd cc
-  signals_alone Release e = absurd cc
   signals_alone (Read s None) e = refl
-  signals_alone (Read s (Some f)) e = absurd cc
   signals_alone (Set ts) e = all_alone ts e
-  signals_alone (UnaryOf sign t) e = absurd cc
-  signals_alone (BinaryOf sign t u) e = absurd cc
+  signals_alone _ e = absurd cc
 
   all_alone : (ts : Terms) → all_name_signals ts ≡ true → all_targets ts ≡ map Some (some_signals (all_targets ts))
   all_alone NoTerm e = refl
@@ -61,15 +55,10 @@ range_positions d p (n ∷ names) ts x h e =
 
 mutual
   pub member_positions : (d : Context) (t : Tree) → (target_member d t).refusals ≡ [] → targets_of (term_of d.known t) ≡ positions_of (target_member d t).aims
-  member_positions d (ANumber n) e = absurd cc
-  member_positions d (ASpecial letter p) e = absurd cc
   member_positions d (AName word None) e = name_positions d word.place word.place word.text e
-  member_positions d (AName word (Some x)) e = absurd cc
   member_positions d (ASet p ms None) e = members_positions d ms (left_empty (target_members d ms).refusals (too_wide p (length (target_members d ms).aims)) e)
-  member_positions d (ASet p ms (Some x)) e = absurd cc
   member_positions d (AParen p t) e = member_positions d t e
-  member_positions d (AUnary sign p t) e = absurd cc
-  member_positions d (ABinary sign p t u) e = absurd cc
+  member_positions d _ e = absurd cc
 
   members_positions : (d : Context) (ms : Members) → (target_members d ms).refusals ≡ [] → all_targets (terms_of d.known ms) ≡ positions_of (target_members d ms).aims
   members_positions d NoMember e = refl
@@ -90,8 +79,4 @@ extended_positions (Some e) t = extended_targets e t
 pub side_positions : (d : Context) (p : Place) (t : Tree) → (left_side d p t).refusals ≡ [] → targets_of (term_of d.known t) ≡ positions_of (left_side d p t).aims
 side_positions d p (AName word x) e = extended_positions x (term_named d.known word.text) ∙ name_positions d word.place (start_of d p word) word.text e
 side_positions d p (ASet q ms x) e = extended_positions x (Set (terms_of d.known ms)) ∙ members_positions d ms (left_empty (target_members d ms).refusals (too_wide q (length (target_members d ms).aims)) e)
-side_positions d p (ANumber n) e = member_positions d (ANumber n) e
-side_positions d p (ASpecial letter q) e = member_positions d (ASpecial letter q) e
-side_positions d p (AParen q t) e = member_positions d (AParen q t) e
-side_positions d p (AUnary sign q t) e = member_positions d (AUnary sign q t) e
-side_positions d p (ABinary sign q t u) e = member_positions d (ABinary sign q t u) e
+side_positions d p t e = member_positions d t e

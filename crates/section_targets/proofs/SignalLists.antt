@@ -1,6 +1,6 @@
 -- The signals of several names, one after another.
 use Rattle.std.proofs.Common.{◌≡◌, ℕ, zero, suc, ◌<◌, ◌≤◌, ◌==◌, min, Bool, true, false, ◌&&◌, Option, None, Some, List, [], ◌∷◌, ◌++◌, All, length, take, get_or, refl, sym, ap, ap₂, ◌∙◌, subst, arith, append_assoc, if◌then◌else◌, bytes_eq, codes}
-use Rattle.section_targets.proofs.Common.{take-map, take-take, take_all, length-take, All-append, All-map, All-take, nat_tests, Place, Extension, earlier, first_refusal, first_append, Entry, find, Tree, Context, first_place, NotAnOutput, targets_of, all_targets, some_signals, Term, Terms, Number, X, Pulse, Release, Read, Set, UnaryOf, BinaryOf, NoTerm, Before, extended, extended_each, special_term, term_named, SectionFault, section_order, too_wide, Aim, NamedSignals, Side, AreNamed, AreSignals, IsOfTerm, IsOfMembers, IsSide, TargetFound, aim_at, aims_at, names_signals, all_name_signals, is_only, is_itself, start_at, first_name, no_target, targets_both, target_set, target_member}
+use Rattle.section_targets.proofs.Common.{take-map, take-take, take_all, length-take, All-append, All-map, All-take, nat_tests, Place, Extension, earlier, first_refusal, first_append, Entry, find, Tree, Context, first_place, NotAnOutput, targets_of, all_targets, some_signals, Term, Terms, Number, X, Pulse, Release, Read, Set, UnaryOf, BinaryOf, NoTerm, Before, extended, extended_each, special_term, term_named, SectionFault, section_order, too_wide, Aim, NamedSignals, Side, AreNamed, AreSignals, IsOfTerm, IsOfMembers, IsSide, TargetFound, aim_at, aims_at, names_signals, all_name_signals, is_signal_number, start_at, first_name, no_target, targets_both, target_set, target_member}
 
 -- ---- signals
 
@@ -8,12 +8,6 @@ pub some_append : (xs ys : List (Option ℕ)) → some_signals (xs ++ ys) ≡ so
 some_append [] ys = refl
 some_append (None ∷ xs) ys = some_append xs ys
 some_append (Some s ∷ xs) ys = ap (λ ss. s ∷ ss) (some_append xs ys)
-
--- one signal, by how many there are
-pub only_is : (n : ℕ) (ss : List ℕ) → ((length ss == 1) && (get_or ss 0 0 == n)) ≡ is_only n ss
-only_is n [] = refl
-only_is n (s ∷ []) = refl
-only_is n (s ∷ t ∷ ss) = let e : (length (s ∷ t ∷ ss) == 1) ≡ false = grind (arith, nat_tests) in rw e refl
 
 -- ---- the first 33
 
@@ -29,15 +23,6 @@ joined P list us vs xs ys l u v a b = (
   l ∙ ap₂ (λ fs gs. take 33 (fs ++ gs)) u v ∙ listed_both 33 33 33 xs ys (omega arith) (omega arith),
   subst (All P) (sym l) (All-take P 33 (us ++ vs) (All-append P us vs a b)),
 )
-
-only_listed : (n : ℕ) (xs : List ℕ) → is_only n (take 33 xs) ≡ is_only n xs
-only_listed n [] = refl
-only_listed n (x ∷ []) = refl
-only_listed n (x ∷ y ∷ xs) = refl
-
--- those of a name are that one alone just where so are those that are listed
-pub only_by : (count n : ℕ) (a : NamedSignals) (xs : List ℕ) (b : Bool) → AreSignals count a xs b → is_only n a.signals ≡ is_only n xs
-only_by count n a xs b h = ap (is_only n) h.signals ∙ only_listed n xs
 
 -- signals behind others
 pub signals_joined : (count : ℕ) (a b n : NamedSignals) (xs ys : List ℕ) (p q : Bool) → AreSignals count a xs p → AreSignals count b ys q
@@ -75,15 +60,10 @@ exchange true b true d = refl
 
 mutual
   pub extended_targets : (e : Extension) (t : Term) → targets_of (extended e t) ≡ targets_of t
-  extended_targets e (Number n) = refl
-  extended_targets e X = refl
-  extended_targets e Pulse = refl
-  extended_targets e Release = refl
   extended_targets e (Read s None) = refl
   extended_targets e (Read s (Some f)) = refl
   extended_targets e (Set ts) = each_targets e ts
-  extended_targets e (UnaryOf sign t) = refl
-  extended_targets e (BinaryOf sign t u) = refl
+  extended_targets e _ = refl
 
   each_targets : (e : Extension) (ts : Terms) → all_targets (extended_each e ts) ≡ all_targets ts
   each_targets e NoTerm = refl
@@ -91,15 +71,10 @@ mutual
 
 mutual
   extended_names : (e : Extension) (t : Term) → names_signals (extended e t) ≡ names_signals t && is_empty (some_signals (targets_of t))
-  extended_names e (Number n) = refl
-  extended_names e X = refl
-  extended_names e Pulse = refl
-  extended_names e Release = refl
   extended_names e (Read s None) = refl
   extended_names e (Read s (Some f)) = refl
   extended_names e (Set ts) = each_names e ts
-  extended_names e (UnaryOf sign t) = refl
-  extended_names e (BinaryOf sign t u) = refl
+  extended_names e _ = refl
 
   each_names : (e : Extension) (ts : Terms) → all_name_signals (extended_each e ts) ≡ all_name_signals ts && is_empty (some_signals (all_targets ts))
   each_names e NoTerm = refl
@@ -133,7 +108,7 @@ both_assoc x y z = rw (append_assoc x.refusals y.refusals z.refusals, append_ass
 
 -- a side that begins at the name
 pub start_same : (d : Context) (p : Place) (w : List ℕ) → start_at d p p w ≡ p
-start_same d p w = by_test (is_itself (find d.names w) (term_named d.known w))
+start_same d p w = by_test (is_signal_number d.names (find d.names w))
   where
     by_test : (b : Bool) → (if b then p else p) ≡ p
     by_test true = refl

@@ -17,20 +17,13 @@ many_of ts = length (some_signals (all_targets ts))
 
 member_narrow : (s : Shape) → member_width s ≤ width_of s
 member_narrow Number = omega arith
-member_narrow Single = omega arith
-member_narrow (Set w) = omega arith
+member_narrow _ = omega arith
 
 -- no more than it has positions
 mutual
   term_narrow : (d : Context) (t : Term) → many t ≤ member_width (constant_of d t).shape
-  term_narrow d (term.Number n) = omega arith
-  term_narrow d term.X = omega arith
-  term_narrow d term.Pulse = omega arith
-  term_narrow d term.Release = omega arith
-  term_narrow d (term.Read s e) = omega arith
   term_narrow d (term.Set ts) = set_narrow d ts
-  term_narrow d (term.UnaryOf sign t) = omega arith
-  term_narrow d (term.BinaryOf sign t u) = omega arith
+  term_narrow d _ = omega arith
 
   -- a set is as wide as its members
   set_narrow : (d : Context) (ts : Terms) → many_of ts ≤ member_width (set_value d nowhere ts).shape
@@ -57,24 +50,15 @@ wide_none : (p : Place) (x : TargetFound) → (target_set p x).refusals ≡ [] �
 wide_none p x e = ltb-false 32 (length x.aims) (none_told (nat_lt 32 (length x.aims)) (BadWidth p) (right_empty x.refusals (too_wide p (length x.aims)) e))
 
 pub member_few : (d : Context) (t : Tree) → d.known ≡ known_of d.names → (target_member d t).refusals ≡ [] → length (target_member d t).aims ≤ 32
-member_few d (ANumber n) k e = omega arith
-member_few d (ASpecial letter p) k e = omega arith
 member_few d (AName word None) k e = name_few d word.place word.place word.text k e
-member_few d (AName word (Some x)) k e = omega arith
 member_few d (ASet p ms None) k e = wide_none p (target_members d ms) e
-member_few d (ASet p ms (Some x)) k e = omega arith
 member_few d (AParen p t) k e = member_few d t k e
-member_few d (AUnary sign p t) k e = omega arith
-member_few d (ABinary sign p t u) k e = omega arith
+member_few d _ k e = omega arith
 
 pub side_few : (d : Context) (p : Place) (t : Tree) → d.known ≡ known_of d.names → (left_side d p t).refusals ≡ [] → length (left_side d p t).aims ≤ 32
 side_few d p (AName word x) k e = name_few d word.place (start_of d p word) word.text k e
 side_few d p (ASet q ms x) k e = wide_none q (target_members d ms) e
-side_few d p (ANumber n) k e = member_few d (ANumber n) k e
-side_few d p (ASpecial letter q) k e = member_few d (ASpecial letter q) k e
-side_few d p (AParen q t) k e = member_few d (AParen q t) k e
-side_few d p (AUnary sign q t) k e = member_few d (AUnary sign q t) k e
-side_few d p (ABinary sign q t u) k e = member_few d (ABinary sign q t u) k e
+side_few d p t k e = member_few d t k e
 
 -- where no fault is found, the signals are all there
 pub side_whole : (d : Context) (count : ℕ) (s : Side) (p : Place) (t : Tree) → d.known ≡ known_of d.names → IsSide count s (left_side d p t) → None ≡ s.fault → ((left_side d p t).refusals ≡ []) × (s.aims ≡ (left_side d p t).aims)

@@ -2,7 +2,7 @@
 -- polarity for each control are this project's rule).
 use Rattle.std.specs.Prelude.{◌≡◌, ℕ, ◌==◌, Bool, true, false, ◌&&◌, ◌||◌, Option, None, Some, List, [], ◌∷◌, ◌++◌, if◌then◌else◌}
 use Rattle.section_targets.specs.Prelude.{Place, Table, differ, Kind, APin, ANode, AConstant, ADeviceName, Entry, Context, name_at, SectionFault, NotAnOutput, MixedAssignment}
-use Rattle.std.specs.List.{list_any}
+use Rattle.std.specs.List.{find, list_any}
 use Rattle.pld_device.specs.declared.cell.Cell.{Cell}
 use Rattle.abel_tree.specs.declared.words.Extension.{Extension}
 use Rattle.abel_tree.specs.declared.words.Extension.TheVariants as extension
@@ -31,8 +31,7 @@ abbrev pub is_same_part : Manner → ℕ → (part : ℕ) → Bool
 is_same_part m s part = (m.signal == s) && (part_of m.extension == part)
 
 abbrev pub first_manner : List Manner → ℕ → (part : ℕ) → Option Manner
-first_manner [] s part = None
-first_manner (m ∷ ms) s part = if is_same_part m s part then Some m else first_manner ms s part
+first_manner ms s part = find (λ (m : Manner). is_same_part m s part) ms
 
 -- these assign each part of each signal first as those do
 abbrev pub AreFirsts : (firsts all : List Manner) → Type 0

@@ -1,8 +1,10 @@
 -- The signals of a target with their places, and what is no target (ABEL-HDL Reference Manual, equations and sets).
-use Rattle.std.specs.Prelude.{ℕ, ◌==◌, Bool, true, false, ◌&&◌, Option, None, Some, List, [], ◌∷◌, ◌++◌, length, map, if◌then◌else◌}
+use Rattle.std.specs.Prelude.{ℕ, get_or, Bool, true, false, ◌&&◌, Option, None, Some, List, [], ◌∷◌, ◌++◌, length, map, if◌then◌else◌}
 use Rattle.section_targets.specs.Prelude.{Place, Entry, find, Tree, ASpecial, AName, ASet, AParen, ABinary, SetMember, OneMember, SpanMember, Members, NoMember, MoreMembers, Context, targets_of, some_signals, Term, Terms, term_named, SectionFault, MisplacedSpecial, NotAnOutput, first_place, Found, too_wide}
 use Rattle.abel_tree.specs.declared.words.Word.{Word}
 use Rattle.abel_tree.specs.Ranges.{range_names}
+use Rattle.abel_tree.specs.Entries.{is_signal}
+use Rattle.abel_meaning.specs.Designs.{no_name}
 use Rattle.abel_meaning.specs.Terms as term
 use Rattle.set_expr.specs.FoundNames.{name_found, names_found, found_use}
 use Rattle.section_targets.specs.declared.aim.Aim.{Aim}
@@ -84,20 +86,15 @@ abbrev mutual
   target_one d (OneMember t) = target_member d t
   target_one d (SpanMember first last) = target_range d first.place (range_names first.text last.text)
 
--- these signals are that one alone
-abbrev pub is_only : ℕ → List ℕ → Bool
-is_only n (s ∷ []) = s == n
-is_only n _ = false
-
--- the name of this number stands for itself: it is a signal's, as a constant stands for names before it
-abbrev pub is_itself : Option ℕ → Term → Bool
-is_itself None t = false
-is_itself (Some n) t = is_only n (some_signals (targets_of t))
+-- the name of this number is a signal's
+abbrev pub is_signal_number : List Entry → Option ℕ → Bool
+is_signal_number es None = false
+is_signal_number es (Some n) = is_signal (get_or es n no_name).kind
 
 -- where the signals of a side stand that is a name, with or without `!`: a signal where the side begins, and what a
 -- constant brings at the constant's name
 abbrev pub start_at : Context → (begin used : Place) → List ℕ → Place
-start_at d p q text = if is_itself (find d.names text) (term_named d.known text) then p else q
+start_at d p q text = if is_signal_number d.names (find d.names text) then p else q
 
 abbrev pub start_of : Context → (begin : Place) → Word → Place
 start_of d p word = start_at d p word.place word.text

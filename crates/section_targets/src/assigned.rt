@@ -39,12 +39,10 @@ impl Assigned {
     pub fn first(&self, manner: Manner) -> Option<Manner>
         ensures { result ≡ first_manner self.now manner.signal (part_of manner.extension) }
     {
-        for earlier in &self.firsts {
-            if earlier.is_of(manner) {
-                return Some(*earlier);
-            }
-        }
-        None
+        self.firsts
+            .iter()
+            .copied()
+            .find(|earlier| earlier.is_of(manner))
     }
 
     /// One assignment more.

@@ -1,11 +1,11 @@
 //! The signals that names stand for as targets.
 
-ghost use Rattle.std.specs.Prelude.{◌≡◌, ◌==◌, ◌<◌, ℕ, Bool, List, [], ◌∷◌, ◌++◌, ◌&&◌, true, if◌then◌else◌, IfOk, length};
+ghost use Rattle.std.specs.Prelude.{◌≡◌, ◌==◌, ◌<◌, ℕ, Bool, List, [], ◌∷◌, ◌++◌, ◌&&◌, true, IfOk, length};
 ghost use Rattle.section_targets.specs.Prelude.{entries_of, targets_of, some_signals, Term, Known, term_named, extended_if};
-ghost use Rattle.section_targets.specs.{AreSignals, IsOfTerm, StandFor, is_itself, is_only};
+ghost use Rattle.section_targets.specs.{AreSignals, IsOfTerm, StandFor};
 
 use abel_tree::Extension;
-use pld_base::{ListOf, OutOfMemory, Place};
+use pld_base::{ListOf, OutOfMemory};
 use set_expr::Scope;
 use std::alloc::Global;
 
@@ -23,14 +23,6 @@ pub(crate) struct Targets<'a> {
     pub(crate) alloc: Global,
     pub(crate) scope: &'a Scope<'a>,
     pub(crate) named: &'a [NamedSignals],
-}
-
-/// Whether these are that signal alone.
-#[tactic(auto, using(crate::proofs::SignalLists::only_is))]
-fn holds_only(signals: &[u32], number: u32) -> bool
-    ensures { result ≡ is_only number signals.now }
-{
-    signals.len() == 1 && signals[0] == number
 }
 
 impl NamedSignals {
@@ -103,22 +95,5 @@ impl NamedSignals {
         ensures { result ≡ self.now.alone && (length self.now.signals == 0) }
     {
         self.alone && self.signals.as_slice().len() == 0
-    }
-
-    /// Where the signals of the name with this number stand: where the side begins if it names itself, as a signal does,
-    /// and else where it is used.
-    pub(crate) fn start(&self, number: Option<u32>, used: Place, begin: Place) -> Place
-        ensures { (count : ℕ) (t : Term) → IsOfTerm count self.now t → result ≡ (if is_itself number t then begin else used) }
-    {
-        match number {
-            None => used,
-            Some(number) => {
-                if holds_only(self.signals.as_slice(), number) {
-                    begin
-                } else {
-                    used
-                }
-            }
-        }
     }
 }

@@ -1,6 +1,6 @@
 //! The signals of all names of a source, made once for all its targets.
 
-ghost use Rattle.std.specs.Prelude.{◌≡◌, ◌+◌, ◌<◌, ℕ, List, IfOk, length};
+ghost use Rattle.std.specs.Prelude.{◌≡◌, ◌<◌, ℕ, List, IfOk, length};
 ghost use Rattle.section_targets.specs.Prelude.{entries_of, view_meaning, view, view_member, Terms, Known, term_of, term_meant, known_of, member_before};
 ghost use Rattle.section_targets.specs.{IsOfTerm, IsOfMembers, StandFor};
 
@@ -26,19 +26,10 @@ pub fn target_names(alloc: Global, scope: &Scope<'_>) -> Result<ListOf<NamedSign
         };
         let signals = named_meaning(&targets, &declared.meaning, number)?;
         named.push(signals)?;
-        number = next(number)?;
+        // So many names that there is no next number are more than memory holds.
+        number = number.checked_add(1).ok_or(OutOfMemory)?;
     }
     Ok(ListOf::from_vec(named))
-}
-
-/// The next number of a name; so many names that there is none are more than memory holds.
-fn next(number: u32) -> Result<u32, OutOfMemory>
-    ensures { IfOk result (λ n. n ≡ number + 1) }
-{
-    match number.checked_add(1) {
-        Some(next) => Ok(next),
-        None => Err(OutOfMemory),
-    }
 }
 
 /// The signals of the name with this number, by those of the names before it.

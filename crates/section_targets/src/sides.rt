@@ -2,14 +2,14 @@
 
 ghost use Rattle.std.specs.Prelude.{◌≡◌, ℕ, Bool, min, if◌then◌else◌, List, [], ◌∷◌, IfOk, length};
 ghost use Rattle.section_targets.specs.Prelude.{entries_of, find, first_refusal, Context, NotAnOutput, too_wide, section_order};
-ghost use Rattle.section_targets.specs.{AreSignals, IsSide, AreTargets, TargetFound, aims_at, no_target, targets_both, target_name, start_at};
+ghost use Rattle.section_targets.specs.{AreSignals, IsSide, AreTargets, TargetFound, aims_at, no_target, targets_both, target_name, start_at, is_signal_number};
 
 use crate::aim::Aim;
 use crate::named::{NamedSignals, Targets};
-use abel_tree::earlier;
+use abel_tree::{Meaning, earlier};
 use pld_base::{ListOf, OutOfMemory, Place};
 use set_expr::{Scope, SectionFault};
-use std::alloc::Global;
+use std::alloc::{AllocError, Global};
 
 /// What is found of a target: its first refusal, and its signals from the left. More than 32 of them are refused, so that
 /// no more than 33 are listed.
@@ -30,39 +30,47 @@ pub fn number_of(scope: &Scope<'_>, text: &[u8]) -> Option<u32>
 }
 
 /// Signals that are all named at one place.
-fn list_aims(alloc: Global, signals: &[u32], place: Place) -> Result<Vec<Aim>, OutOfMemory>
+fn list_aims(alloc: Global, signals: &[u32], place: Place) -> Result<Vec<Aim>, AllocError>
     ensures { IfOk result (λ aims. aims.items ≡ aims_at place signals.now) }
 {
-    let mut aims = Vec::new(alloc);
-    for signal in signals {
-        aims.push(Aim {
+    signals
+        .iter()
+        .map(|signal| Aim {
             signal: *signal,
             place,
-        })?;
+        })
+        .collect(alloc)
+}
+
+/// Where the signals of the name with this number stand: where the side begins if it is a signal's, and else where it is
+/// used.
+fn start(scope: &Scope<'_>, number: Option<u32>, used: Place, begin: Place) -> Place
+    ensures { result ≡ (if is_signal_number (entries_of scope.now) number then begin else used) }
+{
+    let Some(number) = number else {
+        return used;
+    };
+    match scope.list().get(number as usize) {
+        None => used,
+        Some(declared) => match &declared.meaning {
+            Meaning::Pin { .. } | Meaning::Node(_) => begin,
+            Meaning::Constant(_) | Meaning::DeviceName => used,
+        },
     }
-    Ok(aims)
 }
 
 /// Refused where a name stands for what is no signal.
 fn refuse_mixed(alone: bool, place: Place, name: Option<u32>) -> Option<SectionFault>
     ensures { result ≡ first_refusal section_order (if alone then [] else NotAnOutput place name ∷ []) }
 {
-    if alone {
-        None
-    } else {
-        Some(SectionFault::NotAnOutput(place, name))
-    }
+    (!alone).then_some(SectionFault::NotAnOutput(place, name))
 }
 
 /// Refused where a set has more than 32 positions.
 pub(crate) fn refuse_wide(place: Place, width: usize) -> Option<SectionFault>
     ensures { (n : ℕ) → width ≡ min 33 n → result ≡ first_refusal section_order (too_wide place n) }
 {
-    if width > 32 {
-        Some(SectionFault::BadWidth(place))
-    } else {
-        None
-    }
+    (width > 32).then_some(SectionFault::BadWidth(place))
 }
 
 impl Side {
@@ -100,7 +108,7 @@ impl Side {
         let found = targets.scope.check_name(text, used);
         let number = number_of(targets.scope, text);
         let signals = NamedSignals::of_name(targets, text)?;
-        let start = signals.start(number, used, begin);
+        let start = start(targets.scope, number, used, begin);
         let mixed = refuse_mixed(signals.alone, start, number);
         let aims = list_aims(targets.alloc, signals.signals.as_slice(), start)?;
         Ok(Side {
@@ -110,7 +118,7 @@ impl Side {
     }
 
     /// With what is found of a member behind it.
-    #[tactic(auto, using(crate::proofs::Refused::first_of_both))]
+    #[tactic(auto, using(abel_tree::proofs::FirstRefusals::first_append))]
     pub(crate) fn with(self, other: &Side) -> Result<Side, OutOfMemory>
         ensures { IfOk result (λ s. (count : ℕ) (x y : TargetFound) → IsSide count self x → IsSide count other.now y → IsSide count s (targets_both x y)) }
     {

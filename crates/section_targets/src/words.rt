@@ -10,27 +10,23 @@ use bit_expr::ExprId;
 use expr_bits::{digit_word, resized_word, spread_word};
 use pld_base::OutOfMemory;
 use set_expr::{Shape, Shaped};
-use std::alloc::Global;
+use std::alloc::{AllocError, Global};
 
 /// The ids of positions, that of 0 at X.
-fn known_word(alloc: Global, places: &[Option<ExprId>]) -> Result<Vec<ExprId>, OutOfMemory>
+fn known_word(alloc: Global, places: &[Option<ExprId>]) -> Result<Vec<ExprId>, AllocError>
     ensures { IfOk result (λ ids. ids.items ≡ known_ids places.now) }
 {
-    let mut ids = Vec::new(alloc);
-    for place in places {
-        ids.push(place.unwrap_or(ExprId(0)))?;
-    }
-    Ok(ids)
+    places
+        .iter()
+        .map(|place| place.unwrap_or(ExprId(0)))
+        .collect(alloc)
 }
 
 /// The rightmost bit, 0 where there is none.
 fn first_bit(word: &[ExprId]) -> ExprId
     ensures { result ≡ get_or word.now 0 (record { 0 = 0 }) }
 {
-    match word.first() {
-        Some(id) => *id,
-        None => ExprId(0),
-    }
+    word.first().copied().unwrap_or(ExprId(0))
 }
 
 /// The bits of a value in so many positions, the rightmost first: a number is cut or filled, one bit is spread.

@@ -1,5 +1,6 @@
 -- One name more, and all names.
 use Rattle.std.proofs.Common.{◌≡◌, ◌+◌, [], ◌∷◌, ◌++◌, map, take, drop, length, sym, ap, subst, subst₂, ◌∙◌, arith, length-append}
+use Rattle.std.proofs.lemmas.Grind.{common_steps}
 use Rattle.section_targets.proofs.Common.{map-append, take-append-drop, length-take-le, length-map, entries_of, view_declared, known_of, term_meant, front_more, whole_front, AreOfTerms, IsOfTerm, StandFor}
 use Rattle.section_targets.proofs.NameTerms.{known_more, terms_push, stand_front, stand_all}
 use Rattle.section_targets.proofs.naming.target_names.Goals as goal
@@ -18,7 +19,9 @@ loop-declared-preserved c =
     record {
       terms = subst₂ (AreOfTerms (length ds)) (sym c.in_ok-push.ensures.items) (sym (ap known_of here ∙ known_more [] 0 es (view_declared d)))
           (terms_push (length ds) c.loop-declared.named.items (known_of es) c.in_ok-signals.signals _ c.loop-declared.invariant.terms (subst (λ n. IsOfTerm (length ds) c.in_ok-signals.signals (term_meant (known_of es) n (view_declared d).kind)) (omega (arith, c.loop-declared.invariant.number)) one));
-      number = omega (arith, c.in_ok-number.ensures, c.loop-declared.invariant.number, ap length here, length-append es (view_declared d ∷ []));
+      number =
+          let longer = ap length here ∙ length-append es (view_declared d ∷ []) in
+          grind (arith, common_steps, c.loop-declared.invariant.number, longer, c.in_ok-number.was, c.ok_or.ensures.ok_part, c.checked_add.ensures);
     }
 
 pub returns : goal.returns
