@@ -1,6 +1,6 @@
 -- What units leave that are made one after another.
-use Rattle.std.proofs.Common.{◌≡◌, ℕ, suc, ◌+◌, ◌<◌, Bool, true, false, List, [], ◌∷◌, ◌++◌, All, Result, Ok, Err, map, length, get_or, if◌then◌else◌, refl, sym, ap, ap₂, ◌∙◌, subst, arith, append_assoc, append-nil}
-use Rattle.section_targets.proofs.Common.{map-append, All-append, All-head, All-tail, slice_get-get_or, get_or_from_slice_get, slice_get_within, Place, ExprId, arena, formula_at, Grew, Formula, Const, Contribution, Contributions, SectionFault, Keeps, view_contribution, Stops, NoMemory, AtLimit, StopsWith, IsBuilt, Builds, Appends, Leaves, Contributed, CountedUnit, is_past, limit_at, limit_refused, units_refused, units_nodes, all_refused}
+use Rattle.std.proofs.Common.{◌≡◌, ℕ, ◌+◌, ◌<◌, Bool, true, false, List, [], ◌∷◌, ◌++◌, All, Result, Ok, Err, map, length, get_or, if◌then◌else◌, refl, sym, ap, ap₂, ◌∙◌, subst, arith, append_assoc, append-nil}
+use Rattle.section_targets.proofs.Common.{map-append, All-append, All-head, All-tail, slice_get-get_or, get_or_from_slice_get, slice_get_within, Place, ExprId, arena, formula_at, Formula, Const, Contribution, Contributions, SectionFault, Keeps, view_contribution, Stops, NoMemory, AtLimit, StopsWith, IsBuilt, Builds, Appends, Leaves, Contributed, CountedUnit, is_past, limit_at, limit_refused, units_refused, units_nodes, all_refused}
 use Rattle.abel_meaning.specs.Contributions as meant
 
 pub left_empty : {A : Type 0} (xs ys : List A) → xs ++ ys ≡ [] → xs ≡ []
@@ -81,9 +81,6 @@ views_kept old new (c ∷ cs) k h =
     ap₂ (λ x xs. x ∷ xs) (view_kept old new c (kept_formula old new c.when k (All-head inside c cs h)))
     (views_kept old new cs k (All-tail inside c cs h))
 
-stays_inside : (old new : List Formula) (cs : List Contribution) → Keeps old new → Inside old cs → Inside new cs
-stays_inside old new cs k h = λ i d lt. kept_inside old new (get_or cs i d).when k (h i d lt)
-
 -- what was given, and then some of what is given after it
 appends_then : (old mid new : Contributions) (gs hs : List (meant.Contribution Formula)) (ps qs : List Place)
     (more later : List Contribution) (rest : List (meant.Contribution Formula)) (rest_places : List Place)
@@ -96,7 +93,7 @@ appends_then old mid new gs hs ps qs more later rest rest_places k a b =
     let v = views_kept fs ns more k a.inside in
     record {
       list = b.list ∙ ap (λ cs. cs ++ later) a.list ∙ append_assoc old.list more later;
-      inside = All-append (λ (c : Contribution). c.when.0 < length ns) more later (stays_inside fs ns more k a.inside) b.inside;
+      inside = All-append (λ (c : Contribution). c.when.0 < length ns) more later (λ i d lt. kept_inside fs ns (get_or more i d).when k (a.inside i d lt)) b.inside;
       gives = ap₂ (λ xs ys. xs ++ ys) (a.gives ∙ append-nil (map (view_contribution fs) more) ∙ sym v) b.gives
           ∙ sym (append_assoc (map (view_contribution ns) more) (map (view_contribution ns) later) rest)
           ∙ ap (λ xs. xs ++ rest) (sym (map-append (view_contribution ns) more later));
@@ -109,18 +106,6 @@ appends_then old mid new gs hs ps qs more later rest rest_places k a b =
     places cs = map (λ (c : Contribution). c.place) cs
 
 -- a front of what is given is one of more
-appends_less : (old new : Contributions) (gs hs : List (meant.Contribution Formula)) (ps qs : List Place)
-    (more : List Contribution) (rest : List (meant.Contribution Formula)) (rest_places : List Place)
-    → Appends old new gs ps more rest rest_places
-    → Appends old new (gs ++ hs) (ps ++ qs) more (rest ++ hs) (rest_places ++ qs)
-appends_less old new gs hs ps qs more rest rest_places a =
-    record {
-      list = a.list;
-      inside = a.inside;
-      gives = ap (λ xs. xs ++ hs) a.gives ∙ append_assoc (map (view_contribution (arena new.exprs)) more) rest hs;
-      stand = ap (λ xs. xs ++ qs) a.stand ∙ append_assoc (map (λ (c : Contribution). c.place) more) rest_places qs;
-    }
-
 leaves_less : (old new : Contributions) (gs hs : List (meant.Contribution Formula)) (ps qs : List Place) → Leaves old new gs ps → Leaves old new (gs ++ hs) (ps ++ qs)
 leaves_less old new gs hs ps qs l =
     record {
@@ -128,7 +113,12 @@ leaves_less old new gs hs ps qs l =
       more = l.more;
       later = l.later ++ hs;
       later_places = l.later_places ++ qs;
-      front = appends_less old new gs hs ps qs l.more l.later l.later_places l.front;
+      front = record {
+        list = l.front.list;
+        inside = l.front.inside;
+        gives = ap (λ xs. xs ++ hs) l.front.gives ∙ append_assoc (map (view_contribution (arena new.exprs)) l.more) l.later hs;
+        stand = ap (λ xs. xs ++ qs) l.front.stand ∙ append_assoc (map (λ (c : Contribution). c.place) l.more) l.later_places qs;
+      };
     }
 
 leaves_then : (old mid new : Contributions) (gs hs : List (meant.Contribution Formula)) (ps qs : List Place) (nodes : ℕ) → Contributed old mid gs ps nodes → Leaves mid new hs qs → Leaves old new (gs ++ hs) (ps ++ qs)
@@ -141,14 +131,13 @@ leaves_then old mid new gs hs ps qs nodes c l =
       front = appends_then old mid new gs hs ps qs c.more l.more l.later l.later_places l.keeps c.whole l.front;
     }
 
-grew_then : (old mid new : List Formula) (m n : ℕ) → Grew old mid m → Grew mid new n → Grew old new (m + n)
-grew_then old mid new m n g h =
-    record { keeps = keeps_on old mid new g.keeps h.keeps; count = omega (arith, g.count, h.count) }
-
 pub made_then : (old mid new : Contributions) (gs hs : List (meant.Contribution Formula)) (ps qs : List Place) (m n : ℕ) → Contributed old mid gs ps m → Contributed mid new hs qs n → Contributed old new (gs ++ hs) (ps ++ qs) (m + n)
 made_then old mid new gs hs ps qs m n c e =
     record {
-      grew = grew_then (arena old.exprs) (arena mid.exprs) (arena new.exprs) m n c.grew e.grew;
+      grew = record {
+        keeps = keeps_on (arena old.exprs) (arena mid.exprs) (arena new.exprs) c.grew.keeps e.grew.keeps;
+        count = omega (arith, c.grew.count, e.grew.count);
+      };
       more = c.more ++ e.more;
       whole = appends_then old mid new gs hs ps qs c.more e.more [] [] e.grew.keeps c.whole e.whole;
     }

@@ -1,5 +1,6 @@
 -- What is given by one unit, signal after signal.
-use Rattle.std.proofs.Common.{◌≡◌, ℕ, zero, suc, ◌+◌, ◌<◌, ◌≤◌, List, [], ◌∷◌, ◌++◌, Result, Ok, Err, map, length, drop, get_or, refl, sym, ap, subst, subst₂, arith, append-nil}
+use Rattle.std.proofs.Common.{◌≡◌, ℕ, ◌+◌, ◌<◌, ◌≤◌, List, [], ◌∷◌, ◌++◌, Result, Ok, Err, map, length, drop, get_or, refl, sym, ap, subst, subst₂, arith, append-nil}
+use Rattle.std.proofs.lemmas.List.Elements.{All-cons, All-nil}
 use Rattle.section_targets.proofs.Common.{Place, ExprId, Node, arena, formula_at, Formula, Contribution, Contributions, SectionFault, Keeps, view_contribution, Context, Aim, one_given, one_part, each_given, each_part, places_of, drop_all, Leaves, NoMemory, StopsWith, IsBuilt, Builds, CountedUnit}
 use Rattle.abel_meaning.specs.Contributions as meant
 use Rattle.set_expr.specs.declared.fault.SectionFault.TheVariants as fault
@@ -29,16 +30,12 @@ given_after us g p old new list more c b e inside v q =
         more = c ∷ [];
         whole = record {
           list = e;
-          inside = λ k d lt. subst (λ (x : Contribution). x.when.0 < length (arena new)) (sym (only k d lt)) inside;
+          inside = All-cons (λ (x : Contribution). x.when.0 < length (arena new)) c [] inside (All-nil (λ (x : Contribution). x.when.0 < length (arena new)));
           gives = ap (λ x. x ∷ []) (sym v);
           stand = ap (λ x. x ∷ []) (sym q);
         };
       };
     }
-  where
-    only : (k : ℕ) (d : Contribution) → k < 1 → get_or (c ∷ []) k d ≡ c
-    only zero d lt = refl
-    only (suc k) d lt = absurd (omega arith)
 
 -- ---- signal after signal
 

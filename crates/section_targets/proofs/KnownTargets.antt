@@ -1,6 +1,7 @@
 -- The targets of a design are signals.
-use Rattle.std.proofs.Common.{◌≡◌, ℕ, suc, Bool, true, false, Option, None, Some, List, [], ◌∷◌, ◌++◌, length, get_or, refl, sym, ap, subst, ◌∙◌, arith, append_assoc, length-append, if◌then◌else◌, bytes_eq, codes}
-use Rattle.section_targets.proofs.Common.{get_or-append_seam, Extension, Kind, APin, ANode, AConstant, ADeviceName, Entry, is_signal, range_names, Tree, ANumber, ASpecial, AName, ASet, AParen, AUnary, ABinary, SetMember, OneMember, SpanMember, Members, NoMember, MoreMembers, Context, name_at, no_name, targets_of, all_targets, Term, Terms, X, Pulse, Release, Set, Known, term_named, extended_if, named_before, member_before, special_term, term_of, terms_of, term_meant, known_after, known_of}
+use Rattle.std.proofs.Common.{◌≡◌, ℕ, suc, true, Option, None, Some, List, [], ◌∷◌, ◌++◌, length, get_or, refl, sym, ap, subst, ◌∙◌, arith, append_assoc, length-append, if◌then◌else◌, bytes_eq, codes}
+use Rattle.std.proofs.lemmas.Bool.{cond_both}
+use Rattle.section_targets.proofs.Common.{get_or-append_seam, Extension, Kind, AConstant, ADeviceName, Entry, is_signal, range_names, Tree, ASpecial, AName, ASet, AParen, SetMember, OneMember, SpanMember, Members, NoMember, MoreMembers, Context, name_at, no_name, targets_of, all_targets, Term, Terms, X, Pulse, Release, Set, Known, term_named, extended_if, named_before, member_before, special_term, term_of, terms_of, term_meant, known_after, known_of}
 use Rattle.section_targets.proofs.SignalLists.{extended_targets}
 
 module _ (Q : ℕ → Type 0) where
@@ -21,23 +22,17 @@ module _ (Q : ℕ → Type 0) where
 
   named_targets : (ks : List Known) (w : List ℕ) → EachKnown ks → EachTarget (targets_of (term_named ks w))
   named_targets [] w h = tt
-  named_targets (k ∷ ks) w h = by (bytes_eq w k.name) (named_targets ks w h.1)
-    where
-      by : (b : Bool) → EachTarget (targets_of (term_named ks w)) → EachTarget (targets_of (if b then k.term else term_named ks w))
-      by true rest = h.0
-      by false rest = rest
+  named_targets (k ∷ ks) w h =
+      cond_both (bytes_eq w k.name) k.term (term_named ks w) (λ t. EachTarget (targets_of t)) (λ e. h.0) (λ e. named_targets ks w h.1)
 
   extended_each : (e : Option Extension) (t : Term) → EachTarget (targets_of t) → EachTarget (targets_of (extended_if e t))
   extended_each None t h = h
   extended_each (Some e) t h = subst EachTarget (sym (extended_targets e t)) h
 
   special_targets : (letter : ℕ) → EachTarget (targets_of (special_term letter))
-  special_targets letter = by (bytes_eq (letter ∷ []) (codes "X")) (bytes_eq (letter ∷ []) (codes "C"))
-    where
-      by : (x c : Bool) → EachTarget (targets_of (if x then X else if c then Pulse else Release))
-      by true c = tt
-      by false true = tt
-      by false false = tt
+  special_targets letter =
+      cond_both (bytes_eq (letter ∷ []) (codes "X")) X (if bytes_eq (letter ∷ []) (codes "C") then Pulse else Release) (λ t. EachTarget (targets_of t)) (λ e. tt)
+      (λ e. cond_both (bytes_eq (letter ∷ []) (codes "C")) Pulse Release (λ t. EachTarget (targets_of t)) (λ f. tt) (λ f. tt))
 
   module _ (ks : List Known) (known : EachKnown ks) where
     range_targets : (names : List (List ℕ)) (ts : Terms) → EachTarget (all_targets ts) → EachTarget (all_targets (named_before ks names ts))

@@ -1,5 +1,7 @@
 -- Look-ups from the front.
-use Rattle.std.proofs.Common.{◌≡◌, ℕ, zero, suc, ◌+◌, ◌-◌, ◌<◌, ◌≤◌, Bool, true, false, ◌||◌, List, [], ◌∷◌, ◌++◌, Option, None, Some, cond, length, map, get_or, drop, if◌then◌else◌, refl, sym, ap, ap₂, ◌∙◌, subst, arith, add-one, position}
+use Rattle.std.proofs.Common.{◌≡◌, ℕ, ◌+◌, ◌-◌, ◌<◌, ◌≤◌, Bool, true, ◌||◌, List, [], ◌∷◌, ◌++◌, Option, None, Some, length, map, get_or, drop, refl, sym, ap, ap₂, ◌∙◌, subst, arith, add-one, position}
+use Rattle.std.proofs.lemmas.Bool.{cond_both}
+use Rattle.std.proofs.lemmas.List.Elements.{All-cons, All-nil}
 use Rattle.std.proofs.lemmas.List.Folds.{find-append}
 use Rattle.section_targets.proofs.Common.{list_any, position_from, is_some, option_or, position_from-zero, drop-cons, drop_all, Aim, Manner, AreNamed, nat_tests, first_manner, is_same_part, part_of, AreFirsts}
 
@@ -22,11 +24,7 @@ placed_any {X = X} t xs = ap is_some (position_from-zero t xs) ∙ from 0 xs
   where
     from : (i : ℕ) (ys : List X) → is_some (position_from t i ys) ≡ list_any t ys
     from i [] = refl
-    from i (y ∷ ys) = by_test (t y) (from (i + 1) ys)
-      where
-        by_test : (b : Bool) → is_some (position_from t (i + 1) ys) ≡ list_any t ys → is_some (cond b (Some i) (position_from t (i + 1) ys)) ≡ (b || list_any t ys)
-        by_test true e = refl
-        by_test false e = e
+    from i (y ∷ ys) = cond_both (t y) (Some i) (position_from t (i + 1) ys) (λ o. is_some o ≡ (t y || list_any t ys)) (λ e. rw e refl) (λ e. rw e (from (i + 1) ys))
 
 -- ---- the first of each part
 
@@ -39,19 +37,18 @@ firsts_push firsts all m h s part =
 -- nothing need be kept where the part is assigned before
 pub firsts_stay : (firsts all : List Manner) (m f : Manner) → AreFirsts firsts all → Some f ≡ first_manner firsts m.signal (part_of m.extension) → AreFirsts firsts (all ++ m ∷ [])
 firsts_stay firsts all m f h e s part =
-    sym (find-append (λ (x : Manner). is_same_part x s part) all (m ∷ []) ∙ ap (λ o. option_or o (first_manner (m ∷ []) s part)) (sym (h s part)) ∙ stays (is_same_part m s part) refl)
+    sym (find-append (λ (x : Manner). is_same_part x s part) all (m ∷ []) ∙ ap (λ o. option_or o (first_manner (m ∷ []) s part)) (sym (h s part))
+    ∙ cond_both (is_same_part m s part) (Some m) None (λ o. option_or (first_manner firsts s part) o ≡ first_manner firsts s part) same (λ q. last (first_manner firsts s part)))
   where
     last : (o : Option Manner) → option_or o None ≡ o
     last None = refl
     last (Some x) = refl
 
-    stays : (b : Bool) → is_same_part m s part ≡ b → option_or (first_manner firsts s part) (cond b (Some m) None) ≡ first_manner firsts s part
-    stays false q = last (first_manner firsts s part)
-    stays true q =
+    same : is_same_part m s part ≡ true → option_or (first_manner firsts s part) (Some m) ≡ first_manner firsts s part
+    same q =
         let i : m.signal ≡ s = grind (arith, nat_tests, q) in
         let j : part_of m.extension ≡ part = grind (arith, nat_tests, q) in
         subst (λ o. option_or o (Some m) ≡ o) (e ∙ ap₂ (λ a b. first_manner firsts a b) i j) refl
 
 pub named_one : (n : ℕ) (a : Aim) → a.signal < n → AreNamed n (a ∷ [])
-named_one n a h zero d lt = h
-named_one n a h (suc k) d lt = absurd (omega (arith, lt))
+named_one n a h = All-cons (λ (x : Aim). x.signal < n) a [] h (All-nil (λ (x : Aim). x.signal < n))

@@ -1,5 +1,6 @@
 -- The bits of a value, position after position.
-use Rattle.std.proofs.Common.{◌≡◌, ℕ, zero, suc, ◌<◌, false, true, List, [], ◌∷◌, All, Option, None, Some, length, get_or, replicate, unwrap_or, refl, ap, ap₂, ◌∙◌, subst, sym, arith}
+use Rattle.std.proofs.Common.{◌≡◌, ℕ, ◌<◌, false, true, List, [], ◌∷◌, All, Option, None, Some, length, get_or, replicate, unwrap_or, refl, ap, ap₂, ◌∙◌, subst, sym, arith}
+use Rattle.std.proofs.lemmas.List.Elements.{All-cons, All-nil}
 use Rattle.section_targets.proofs.Common.{length-map, ExprId, Node, arena, formula_at, Formula, Const, met_by, met_word, Value, IsShaped, AreIn, bits_at, positions, digit_ids, resized_ids, AreBits, IsBit, known_ids}
 use Rattle.bit_expr.proofs.ArenaLists.{arena_count, first_formula}
 use Rattle.abel_meaning.specs.Numbers as number
@@ -18,9 +19,8 @@ high_bit ns id e = (omega (arith, arena_count ns, e), ap (λ k. get_or (arena ns
 
 -- ids that show a word are its bits
 all_in : (count : ℕ) (ids : List ExprId) → AllIn count ids → All (λ (id : ExprId). id.0 < count) ids
-all_in count [] h k d lt = absurd (omega (arith, lt))
-all_in count (id ∷ ids) h zero d lt = h.0
-all_in count (id ∷ ids) h (suc k) d lt = all_in count ids h.1 k d (omega (arith, lt))
+all_in count [] h = All-nil (λ (id : ExprId). id.0 < count)
+all_in count (id ∷ ids) h = All-cons (λ (x : ExprId). x.0 < count) id ids h.0 (all_in count ids h.1)
 
 pub shown_bits : (fs : List Formula) (ids : List ExprId) (gs : List Formula) → ShowsAll fs ids gs → AreBits fs ids gs
 shown_bits fs ids gs h = (all_in (length fs) ids h.0, h.1)

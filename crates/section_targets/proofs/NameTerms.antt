@@ -1,19 +1,16 @@
 -- What names stand for, and the members of sets one at a time.
-use Rattle.std.proofs.Common.{◌≡◌, ℕ, zero, suc, ◌+◌, ◌≤◌, Bool, true, false, Option, None, Some, List, [], ◌∷◌, ◌++◌, if◌then◌else◌, length, map, get_or, slice_get, cond, bytes_eq, refl, sym, ap, ◌∙◌, subst, arith, append_assoc, append-nil, length-append}
+use Rattle.std.proofs.Common.{◌≡◌, ℕ, inl, inr, zero, suc, ◌+◌, ◌≤◌, Bool, true, false, Option, None, Some, List, [], ◌∷◌, ◌++◌, if◌then◌else◌, length, map, get_or, slice_get, cond, bytes_eq, refl, sym, ap, ◌∙◌, subst, arith, append_assoc, append-nil, length-append}
+use Rattle.std.proofs.lemmas.Bool.{cases_cond}
 use Rattle.section_targets.proofs.Common.{position_from, position_from-zero, map-append, slice_get_past, slice_get-get_or, get_or-append_seam, Entry, find, range_names, SetMember, OneMember, SpanMember, members_of, targets_of, all_targets, Term, Terms, Number, NoTerm, Known, term_named, term_meant, term_of, terms_of, member_before, named_before, known_after, known_of, NamedSignals, IsOfTerm, AreOfTerms, StandFor}
 
 -- ---- names by place
 
 pub position_past : (test : Entry → Bool) (i : ℕ) (es : List Entry) (j : ℕ) → position_from test i es ≡ Some j → i ≤ j
 position_past test i [] j e = absurd cc
-position_past test i (x ∷ es) j e = by_test (test x) e (position_past test (i + 1) es j)
-  where
-    by_test : (b : Bool) → cond b (Some i) (position_from test (i + 1) es) ≡ Some j → (position_from test (i + 1) es ≡ Some j → i + 1 ≤ j) → i ≤ j
-    by_test true e more = omega (arith, some_same e)
-      where
-        some_same : Some i ≡ Some j → i ≡ j
-        some_same e = cc
-    by_test false e more = omega (arith, more e)
+position_past test i (x ∷ es) j e = elim (cases_cond (test x) (Some i) (position_from test (i + 1) es) (Some j) (sym e)) [
+  | inl h ↦ let same : i ≡ j = cc in omega (arith, same)
+  | inr h ↦ omega (arith, position_past test (i + 1) es j (sym h))
+]
 
 -- what stands at a place, a number where nothing does
 abbrev term_or : Option Known → Term
@@ -45,16 +42,12 @@ placed_from i before [] es later w l e =
     (λ j g. omega (arith, position_past (λ (e : Entry). bytes_eq w e.name) i es j g, l, length-append before []))
 placed_from i before (k ∷ ks) [] later w l e = absurd cc
 placed_from i before (k ∷ ks) (x ∷ es) later w l e =
+    let first : x.name ≡ k.name = cc in
+    let rest : map (λ (y : Entry). y.name) es ≡ map (λ (j : Known). j.name) ks ++ later = cc in
     here_or (bytes_eq w x.name) (bytes_eq w k.name) i (before ++ k ∷ ks) k (position_from (λ (e : Entry). bytes_eq w e.name) (i + 1) es) (term_named ks w)
-    (ap (bytes_eq w) (head_same e)) (seam before k ks i l)
+    (ap (bytes_eq w) first) (seam before k ks i l)
     (subst (λ ms. term_named ks w ≡ term_at ms (position_from (λ (e : Entry). bytes_eq w e.name) (i + 1) es)) (append_assoc before (k ∷ []) ks)
-    (placed_from (i + 1) (before ++ k ∷ []) ks es later w (omega (arith, l, length-append before (k ∷ []))) (tail_same e)))
-  where
-    head_same : x.name ∷ map (λ (e : Entry). e.name) es ≡ k.name ∷ (map (λ (k : Known). k.name) ks ++ later) → x.name ≡ k.name
-    head_same e = cc
-
-    tail_same : x.name ∷ map (λ (e : Entry). e.name) es ≡ k.name ∷ (map (λ (k : Known). k.name) ks ++ later) → map (λ (e : Entry). e.name) es ≡ map (λ (k : Known). k.name) ks ++ later
-    tail_same e = cc
+    (placed_from (i + 1) (before ++ k ∷ []) ks es later w (omega (arith, l, length-append before (k ∷ []))) rest))
 
 placed : (ks : List Known) (es : List Entry) (later : List (List ℕ)) (w : List ℕ) → map (λ (e : Entry). e.name) es ≡ map (λ (k : Known). k.name) ks ++ later → term_named ks w ≡ term_at ks (find es w)
 placed ks es later w h =

@@ -13,9 +13,6 @@ past_later : (count m n : ℕ) (b : Bool) → is_past count m ≡ false → is_p
 past_later count m n true h k = grind (arith, nat_tests, h, k)
 past_later count m n false h k = grind (arith, nat_tests, h, k)
 
-past_here : (count m n : ℕ) → is_past count m ≡ true → is_past count (m + n) ≡ true
-past_here count m n h = grind (arith, nat_tests, h)
-
 parts_limit : (p : Place) (count : ℕ) (us : List CountedUnit) → AreParts p us → limit_refused count us ≡ limit_at [] p (is_past count (units_nodes us)) []
 parts_limit p count [] h = refl
 parts_limit p count (u ∷ us) h =
@@ -24,7 +21,7 @@ parts_limit p count (u ∷ us) h =
   where
     by_past : (b : Bool) → is_past count u.nodes ≡ b → limit_refused (count + u.nodes) us ≡ limit_at [] p (is_past (count + u.nodes) (units_nodes us)) []
         → limit_at [] p b (limit_refused (count + u.nodes) us) ≡ limit_at [] p (is_past count (u.nodes + units_nodes us)) []
-    by_past true e k = ap (λ b. limit_at [] p b []) (sym (past_here count u.nodes (units_nodes us) e))
+    by_past true e k = let here : is_past count (u.nodes + units_nodes us) ≡ true = grind (arith, nat_tests, e) in ap (λ b. limit_at [] p b []) (sym here)
     by_past false e k = k ∙ ap (λ b. limit_at [] p b []) (sym (past_later count u.nodes (units_nodes us) (is_past (count + u.nodes) (units_nodes us)) e refl))
 
 -- what is left by parts is left by the unit

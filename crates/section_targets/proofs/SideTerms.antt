@@ -1,20 +1,13 @@
 -- The signals of a target that isn't refused are those of its term, position by position.
-use Rattle.std.proofs.Common.{◌≡◌, ℕ, Bool, true, false, ◌&&◌, Option, None, Some, List, [], ◌∷◌, ◌++◌, if◌then◌else◌, length, map, append_assoc, refl, sym, ap, ap₂, ◌∙◌}
-use Rattle.section_targets.proofs.Common.{map-append, Place, Extension, find, range_names, Tree, ANumber, ASpecial, AName, ASet, AParen, AUnary, ABinary, OneMember, SpanMember, Members, NoMember, MoreMembers, Context, targets_of, all_targets, some_signals, Term, Terms, Number, X, Pulse, Release, Read, Set, UnaryOf, BinaryOf, NoTerm, Before, extended_if, term_named, term_of, terms_of, named_before, NotAnOutput, found_use, name_found, names_found, too_wide, Aim, TargetFound, aims_at, names_signals, all_name_signals, no_signals, target_name, target_range, target_member, target_members, left_side, start_of}
+use Rattle.std.proofs.Common.{◌≡◌, ℕ, Bool, true, false, Option, None, Some, List, [], ◌∷◌, ◌++◌, if◌then◌else◌, length, map, append_assoc, refl, sym, ap, ap₂, ◌∙◌}
+use Rattle.std.proofs.lemmas.Bool.{and_parts}
+use Rattle.section_targets.proofs.Common.{map-append, Place, Extension, find, range_names, Tree, AName, ASet, AParen, OneMember, SpanMember, Members, NoMember, MoreMembers, Context, targets_of, all_targets, some_signals, Term, Terms, Read, Set, NoTerm, Before, extended_if, term_named, term_of, terms_of, named_before, NotAnOutput, found_use, name_found, names_found, too_wide, Aim, TargetFound, aims_at, names_signals, all_name_signals, no_signals, target_name, target_range, target_member, target_members, left_side, start_of}
 use Rattle.section_targets.proofs.Built.{left_empty, right_empty}
 use Rattle.section_targets.proofs.SignalLists.{some_append, extended_targets}
 
 -- each aim's signal, as a position of a target
 abbrev pub positions_of : List Aim → List (Option ℕ)
 positions_of aims = map (λ (a : Aim). Some a.signal) aims
-
-left_true : (a b : Bool) → (a && b) ≡ true → a ≡ true
-left_true true b e = refl
-left_true false b e = absurd cc
-
-right_true : (a b : Bool) → (a && b) ≡ true → b ≡ true
-right_true true b e = e
-right_true false b e = absurd cc
 
 mutual
   signals_alone : (t : Term) → names_signals t ≡ true → targets_of t ≡ map Some (some_signals (targets_of t))
@@ -25,7 +18,8 @@ mutual
   all_alone : (ts : Terms) → all_name_signals ts ≡ true → all_targets ts ≡ map Some (some_signals (all_targets ts))
   all_alone NoTerm e = refl
   all_alone (Before t ts) e =
-      ap₂ (λ xs ys. xs ++ ys) (signals_alone t (left_true (names_signals t) (all_name_signals ts) e)) (all_alone ts (right_true (names_signals t) (all_name_signals ts) e))
+      let both = and_parts (names_signals t) (all_name_signals ts) e in
+      ap₂ (λ xs ys. xs ++ ys) (signals_alone t both.0) (all_alone ts both.1)
       ∙ sym (ap (map Some) (some_append (targets_of t) (all_targets ts)) ∙ map-append Some (some_signals (targets_of t)) (some_signals (all_targets ts)))
 
 aims_positions : (q : Place) (ss : List ℕ) → positions_of (aims_at q ss) ≡ map Some ss

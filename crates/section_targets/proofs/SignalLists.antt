@@ -1,6 +1,7 @@
 -- The signals of several names, one after another.
-use Rattle.std.proofs.Common.{◌≡◌, ℕ, zero, suc, ◌<◌, ◌≤◌, ◌==◌, min, Bool, true, false, ◌&&◌, Option, None, Some, List, [], ◌∷◌, ◌++◌, All, length, take, get_or, refl, sym, ap, ap₂, ◌∙◌, subst, arith, append_assoc, if◌then◌else◌, bytes_eq, codes}
-use Rattle.section_targets.proofs.Common.{take-map, take-take, take_all, length-take, All-append, All-map, All-take, nat_tests, Place, Extension, earlier, first_refusal, first_append, Entry, find, Tree, Context, first_place, NotAnOutput, targets_of, all_targets, some_signals, Term, Terms, Number, X, Pulse, Release, Read, Set, UnaryOf, BinaryOf, NoTerm, Before, extended, extended_each, special_term, term_named, SectionFault, section_order, too_wide, Aim, NamedSignals, Side, AreNamed, AreSignals, IsOfTerm, IsOfMembers, IsSide, TargetFound, aim_at, aims_at, names_signals, all_name_signals, is_signal_number, start_at, first_name, no_target, targets_both, target_set, target_member}
+use Rattle.std.proofs.Common.{◌≡◌, ℕ, zero, suc, ◌<◌, ◌≤◌, ◌==◌, min, Bool, true, false, ◌&&◌, Option, None, Some, List, [], ◌∷◌, ◌++◌, All, length, take, refl, sym, ap, ap₂, ◌∙◌, subst, arith, append_assoc, if◌then◌else◌, bytes_eq, codes}
+use Rattle.std.proofs.lemmas.Bool.{cond_both}
+use Rattle.section_targets.proofs.Common.{take-map, take-take, take_all, length-take, All-append, All-map, All-take, nat_tests, Place, Extension, earlier, first_refusal, first_append, Entry, find, Tree, Context, first_place, NotAnOutput, targets_of, all_targets, some_signals, Term, Terms, X, Pulse, Release, Read, Set, NoTerm, Before, extended, extended_each, special_term, SectionFault, section_order, too_wide, Aim, NamedSignals, Side, AreNamed, AreSignals, IsOfTerm, IsOfMembers, IsSide, TargetFound, aim_at, aims_at, names_signals, all_name_signals, is_signal_number, start_at, first_name, no_target, targets_both, target_set, target_member}
 
 -- ---- signals
 
@@ -47,10 +48,7 @@ empty_append (x ∷ xs) ys = refl
 
 empty_listed : (xs : List ℕ) → (length (take 33 xs) == 0) ≡ is_empty xs
 empty_listed [] = refl
-empty_listed (x ∷ xs) = some (length (take 32 xs))
-  where
-    some : (n : ℕ) → (suc n == 0) ≡ false
-    some n = grind (arith, nat_tests)
+empty_listed (x ∷ xs) = let some : (suc (length (take 32 xs)) == 0) ≡ false = grind (arith, nat_tests) in some
 
 exchange : (a b c d : Bool) → (a && c) && (b && d) ≡ (a && b) && (c && d)
 exchange false b c d = refl
@@ -94,12 +92,9 @@ signals_extended count e a n t h list alone =
 
 -- a special stands for no signal
 pub special_none : (count : ℕ) (n : NamedSignals) (letter : ℕ) → AreSignals count n [] false → IsOfTerm count n (special_term letter)
-special_none count n letter h = by_tests (bytes_eq (letter ∷ []) (codes "X")) (bytes_eq (letter ∷ []) (codes "C"))
-  where
-    by_tests : (a b : Bool) → IsOfTerm count n (if a then X else if b then Pulse else Release)
-    by_tests true b = h
-    by_tests false true = h
-    by_tests false false = h
+special_none count n letter h =
+    cond_both (bytes_eq (letter ∷ []) (codes "X")) X (if bytes_eq (letter ∷ []) (codes "C") then Pulse else Release) (IsOfTerm count n) (λ e. h)
+    (λ e. cond_both (bytes_eq (letter ∷ []) (codes "C")) Pulse Release (IsOfTerm count n) (λ f. h) (λ f. h))
 
 -- ---- sides
 
@@ -108,11 +103,7 @@ both_assoc x y z = rw (append_assoc x.refusals y.refusals z.refusals, append_ass
 
 -- a side that begins at the name
 pub start_same : (d : Context) (p : Place) (w : List ℕ) → start_at d p p w ≡ p
-start_same d p w = by_test (is_signal_number d.names (find d.names w))
-  where
-    by_test : (b : Bool) → (if b then p else p) ≡ p
-    by_test true = refl
-    by_test false = refl
+start_same d p w = cond_both (is_signal_number d.names (find d.names w)) p p (λ q. q ≡ p) (λ e. refl) (λ e. refl)
 
 -- those of a name, which all stand at one place
 pub side_named : (count : ℕ) (n : NamedSignals) (s : Side) (x : TargetFound) (p : Place) (xs : List ℕ) (b : Bool) → s.fault ≡ first_refusal section_order x.refusals → x.aims ≡ aims_at p xs → AreSignals count n xs b

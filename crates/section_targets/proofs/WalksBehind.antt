@@ -1,12 +1,11 @@
 -- Walks one after another, and the walk over one unit.
-use Rattle.std.proofs.Common.{◌≡◌, ℕ, ◌+◌, Bool, true, false, if◌then◌else◌, Option, None, Some, List, [], ◌∷◌, ◌++◌, Result, Ok, Err, length, refl, sym, ap, ap₂, ◌∙◌, subst, append_assoc, append-nil}
+use Rattle.std.proofs.Common.{◌≡◌, ℕ, ◌+◌, Bool, true, false, Option, None, Some, List, [], ◌∷◌, ◌++◌, Result, Ok, Err, length, refl, sym, ap, ap₂, ◌∙◌, subst, append_assoc, append-nil}
+use Rattle.std.proofs.lemmas.Bool.{cond_both}
+use Rattle.std.proofs.lemmas.Option.{none-some}
 use Rattle.section_targets.proofs.Common.{is_some, Place, arena, Formula, is_before, earlier, first_refusal, earlier_assoc, first_append, none_refused, SectionFault, Keeps, section_order, Manner, Contributed, Stops, NoMemory, AtLimit, Builds, AreFirsts, CountedUnit, is_past, limit_at, limit_refused, units_refused, units_nodes, all_refused, AfterMaking, Walks, fault_behind, standing}
 use Rattle.abel_meaning.specs.Contributions as meant
 use Rattle.section_targets.specs.declared.walked.Walked.{Walked}
 use Rattle.section_targets.proofs.Built.{left_empty, right_empty, both_empty, refused_append, nodes_append, limit_append, limit_stays, keeps_on, made_then, builds_none}
-
-not_none : (f : SectionFault) → ◌≡◌ {A = Option SectionFault} (Some f) None → ⊥
-not_none f k = cc
 
 -- ---- the first refusal of units behind others
 
@@ -18,7 +17,7 @@ refused_front count us vs y e =
     ∙ sym (first_append section_order (all_refused count us) (units_refused vs))
     ∙ ap (first_refusal section_order)
     (append_assoc (limit_refused count us) (units_refused us) (units_refused vs)
-    ∙ ap₂ (λ ls rs. ls ++ rs) (sym (limit_stays count us vs (λ k. not_none y (e ∙ ap (first_refusal section_order) k)))) (sym (refused_append us vs)))
+    ∙ ap₂ (λ ls rs. ls ++ rs) (sym (limit_stays count us vs (λ k. none-some y (sym (e ∙ ap (first_refusal section_order) k))))) (sym (refused_append us vs)))
 
 -- nothing of the first units is refused
 accepted_front : (count : ℕ) (us vs : List CountedUnit) → None ≡ first_refusal section_order (all_refused count us)
@@ -32,11 +31,7 @@ accepted_front count us vs e =
 -- what is refused stays refused
 stays_refused : (x : SectionFault) (g : Option SectionFault) → is_some (earlier section_order (Some x) g) ≡ true
 stays_refused x None = refl
-stays_refused x (Some g) = chosen (is_before section_order g x)
-  where
-    chosen : (b : Bool) → is_some (if b then Some g else Some x) ≡ true
-    chosen true = refl
-    chosen false = refl
+stays_refused x (Some g) = cond_both (is_before section_order g x) (Some g) (Some x) (λ f. is_some f ≡ true) (λ e. refl) (λ e. refl)
 
 never : ◌≡◌ {A = Bool} true false → ⊥
 never k = cc
@@ -96,7 +91,7 @@ walks_alike all ms us vs gs hs ps qs old new f e r w =
       keeps = w.keeps;
       fault = told;
       manners = w.manners;
-      given = λ n. absurd (not_none f (sym e ∙ clear_before old.fault (length (arena old.exprs)) vs (sym n ∙ told)));
+      given = λ n. absurd (none-some f (sym (clear_before old.fault (length (arena old.exprs)) vs (sym n ∙ told)) ∙ e));
     }
   where
     told : new.fault ≡ fault_behind old.fault (length (arena old.exprs)) vs
@@ -156,7 +151,7 @@ walks_made all ms us gs ps old made new (Err f) o m e a b k =
       keeps = b.1.keeps;
       fault = stopped b.0;
       manners = a;
-      given = λ n. absurd (not_none f n);
+      given = λ n. absurd (none-some f (sym n));
     })
   where
     stopped : Stops f (length (arena old.exprs)) us → Some f ≡ fault_behind old.fault (length (arena old.exprs)) us

@@ -36,13 +36,8 @@ fn is_free(scope: &Scope<'_>, guard: Guard, signal: u32) -> bool
     requires { signal < length (entries_of scope.now) }
     ensures { (d : Context) (fs : List Formula) → d.names ≡ entries_of scope.now → result ≡ is_dontcare (view_guard fs guard) (name_at d signal) guard.block }
 {
-    match guard.block {
-        None => false,
-        Some(_) => {
-            let attributes = scope.list()[signal as usize].attributes;
-            guard.dontcare || attributes.contains(Attributes::DC)
-        }
-    }
+    let attributes = scope.list()[signal as usize].attributes;
+    guard.block.is_some() && (guard.dontcare || attributes.contains(Attributes::DC))
 }
 
 /// Appends what a signal is given where the guard and this bit are 1.

@@ -2,7 +2,8 @@
 
 ghost use Rattle.std.specs.Prelude.{◌≡◌, ℕ, Bool, min, if◌then◌else◌, List, [], ◌∷◌, IfOk, length};
 ghost use Rattle.section_targets.specs.Prelude.{entries_of, find, first_refusal, Context, NotAnOutput, too_wide, section_order};
-ghost use Rattle.section_targets.specs.{AreSignals, IsSide, AreTargets, TargetFound, aims_at, no_target, targets_both, target_name, start_at, is_signal_number};
+ghost use Rattle.std.specs.Option.{option_to_list};
+ghost use Rattle.section_targets.specs.{AreSignals, IsSide, AreTargets, TargetFound, aims_at, targets_both, target_name, start_at, is_signal_number};
 
 use crate::aim::Aim;
 use crate::named::{NamedSignals, Targets};
@@ -74,23 +75,13 @@ pub(crate) fn refuse_wide(place: Place, width: usize) -> Option<SectionFault>
 }
 
 impl Side {
-    /// No signal.
-    pub(crate) fn none(alloc: Global) -> Side
-        ensures { (count : ℕ) → IsSide count result (record { refusals = []; aims = [] }) }
+    /// No signal, with what is refused, if anything is.
+    pub(crate) fn empty(alloc: Global, fault: Option<SectionFault>) -> Side
+        ensures { (count : ℕ) → IsSide count result (record { refusals = option_to_list fault; aims = [] }) }
     {
         Side {
             aims: ListOf::from_vec(Vec::new(alloc)),
-            fault: None,
-        }
-    }
-
-    /// Refused as no target.
-    pub(crate) fn refused(alloc: Global, fault: SectionFault) -> Side
-        ensures { (count : ℕ) → IsSide count result (no_target fault) }
-    {
-        Side {
-            aims: ListOf::from_vec(Vec::new(alloc)),
-            fault: Some(fault),
+            fault,
         }
     }
 

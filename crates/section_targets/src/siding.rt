@@ -58,7 +58,7 @@ pub fn refuse_operator(scope: &Scope<'_>, expr: &Expr) -> SectionFault
 fn set_side(targets: &Targets<'_>, members: &[Member], place: Place) -> Result<Side, OutOfMemory>
     ensures { IfOk result (λ s. (d : Context) → d.names ≡ entries_of targets.now.scope.now → AreTargets d targets.now.named.now → IsSide (length d.names) s (target_set place (target_members d (members_of (map view_member members.now))))) }
 {
-    let mut side = Side::none(targets.alloc);
+    let mut side = Side::empty(targets.alloc, None);
     for index in (0..members.len()).rev() {
         side = with_member(targets, &members[index], side)?;
     }
@@ -98,7 +98,7 @@ pub(crate) fn member_side(targets: &Targets<'_>, expr: &Expr) -> Result<Side, Ou
 {
     match expr {
         Expr::Name { word, extension } => match extension {
-            Some(_) => Ok(Side::refused(targets.alloc, refuse_operator(targets.scope, expr))),
+            Some(_) => Ok(Side::empty(targets.alloc, Some(refuse_operator(targets.scope, expr)))),
             None => Side::of_name(targets, word.text.bytes(), word.place, word.place),
         },
         Expr::Set {
@@ -106,15 +106,15 @@ pub(crate) fn member_side(targets: &Targets<'_>, expr: &Expr) -> Result<Side, Ou
             members,
             extension,
         } => match extension {
-            Some(_) => Ok(Side::refused(targets.alloc, refuse_operator(targets.scope, expr))),
+            Some(_) => Ok(Side::empty(targets.alloc, Some(refuse_operator(targets.scope, expr)))),
             None => set_side(targets, members.as_slice(), *place),
         },
         Expr::Paren { inner, .. } => member_side(targets, inner.get()),
         Expr::Special { place, .. } => {
-            Ok(Side::refused(targets.alloc, SectionFault::MisplacedSpecial(*place)))
+            Ok(Side::empty(targets.alloc, Some(SectionFault::MisplacedSpecial(*place))))
         }
         Expr::Number(_) | Expr::Unary { .. } | Expr::Binary { .. } => {
-            Ok(Side::refused(targets.alloc, refuse_operator(targets.scope, expr)))
+            Ok(Side::empty(targets.alloc, Some(refuse_operator(targets.scope, expr))))
         }
     }
 }

@@ -1,10 +1,10 @@
-use Rattle.std.proofs.Common.{refl, ap₂, sym, ◌∙◌}
-use Rattle.section_targets.proofs.Common.{earlier, section_order}
-use Rattle.section_targets.proofs.Refused.{refused_next, noted_next, noted_none, aim_refused_as}
+use Rattle.std.proofs.Common.{refl, ap₂, sym, subst, ◌∙◌, append-nil}
+use Rattle.section_targets.proofs.Common.{earlier, section_order, AreFirsts}
+use Rattle.section_targets.proofs.Refused.{refused_next, noted_next, aim_refused_as}
 use Rattle.section_targets.proofs.outputs.check_aims.Goals as goal
 
 pub loop-aim-init : goal.loop-aim-init
-loop-aim-init g c = (λ all h. noted_none all c.args.before.now c.args.way.extension c.args.way.complement c.args.way.clocked c.args.aims.now h, λ d all e h. refl)
+loop-aim-init g c = (λ all h. subst (AreFirsts c.args.before.now) (sym (append-nil all)) h, λ d all e h. refl)
 
 pub loop-aim-preserved : goal.loop-aim-preserved
 loop-aim-preserved g c = (

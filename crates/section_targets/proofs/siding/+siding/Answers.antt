@@ -7,21 +7,21 @@ use Rattle.section_targets.proofs.siding.+siding.Goals as goal
 
 pub member_side-returns-in-Special : goal.member_side-returns-in-Special
 member_side-returns-in-Special t c d k h =
-    subst (λ e. IsSide (length d.names) c.refused-in-Special.result (target_member d e)) (sym (ap view c.in-Special.is ∙ view_special c.in-Special.letter c.in-Special.place)) (c.refused-in-Special.ensures (length d.names))
+    subst (λ e. IsSide (length d.names) c.empty-in-Special.result (target_member d e)) (sym (ap view c.in-Special.is ∙ view_special c.in-Special.letter c.in-Special.place)) (c.empty-in-Special.ensures (length d.names))
 
 pub member_side-returns-in-Some : goal.member_side-returns-in-Some
 member_side-returns-in-Some t c d k h =
-    side_refused d c.refused.result _ _ _ c.refuse_operator.result k c.refuse_operator.ensures
-    (ap view c.in-Name.is ∙ view_name c.in-Name.word c.in-Name.extension ∙ ap (AName c.in-Name.word) c.in-Some.is) refl (c.refused.ensures (length d.names))
+    side_refused d c.empty.result _ _ _ c.refuse_operator.result k c.refuse_operator.ensures
+    (ap view c.in-Name.is ∙ view_name c.in-Name.word c.in-Name.extension ∙ ap (AName c.in-Name.word) c.in-Some.is) refl (c.empty.ensures (length d.names))
 
 pub member_side-returns-in-Some-extension : goal.member_side-returns-in-Some-extension
 member_side-returns-in-Some-extension t c d k h =
-    side_refused d c.refused-in-Some-extension.result _ _ _ c.refuse_operator-in-Some-extension.result k c.refuse_operator-in-Some-extension.ensures
-    (ap view c.in-Set.is ∙ view_set c.in-Set.place c.in-Set.members c.in-Set.extension ∙ ap (ASet c.in-Set.place (members_of (map view_member c.in-Set.members))) c.in-Some-extension.is) refl (c.refused-in-Some-extension.ensures (length d.names))
+    side_refused d c.empty-in-Some-extension.result _ _ _ c.refuse_operator-in-Some-extension.result k c.refuse_operator-in-Some-extension.ensures
+    (ap view c.in-Set.is ∙ view_set c.in-Set.place c.in-Set.members c.in-Set.extension ∙ ap (ASet c.in-Set.place (members_of (map view_member c.in-Set.members))) c.in-Some-extension.is) refl (c.empty-in-Some-extension.ensures (length d.names))
 
 pub member_side-returns-in-Number : goal.member_side-returns-in-Number
 member_side-returns-in-Number t c d k h =
-    let refused = λ (u : Tree) (v : view c.args.expr.now ≡ u) (m : target_member d u ≡ no_target (NotAnOutput (first_place u) (first_name d.names u))). side_refused d c.refused-in-Number.result _ u _ c.refuse_operator-in-Number.result k c.refuse_operator-in-Number.ensures v m (c.refused-in-Number.ensures (length d.names)) in
+    let refused = λ (u : Tree) (v : view c.args.expr.now ≡ u) (m : target_member d u ≡ no_target (NotAnOutput (first_place u) (first_name d.names u))). side_refused d c.empty-in-Number.result _ u _ c.refuse_operator-in-Number.result k c.refuse_operator-in-Number.ensures v m (c.empty-in-Number.ensures (length d.names)) in
     elim c.in-Number.is [
       | inl n ↦ refused _ (ap view n.1 ∙ view_number n.0) refl
       | inr m ↦ elim m [
@@ -75,7 +75,7 @@ with_member-returns-after-loop-index t c d x k h g =
 
 pub set_side-loop-index-init : goal.set_side-loop-index-init
 set_side-loop-index-init t c d k h =
-    subst (λ xs. IsSide (length d.names) c.none-side.result (target_members d (members_of xs))) (sym (back_none view_member c.args.members.now)) (c.none-side.ensures (length d.names))
+    subst (λ xs. IsSide (length d.names) c.empty-side.result (target_members d (members_of xs))) (sym (back_none view_member c.args.members.now)) (c.empty-side.ensures (length d.names))
 
 pub set_side-loop-index-preserved : goal.set_side-loop-index-preserved
 set_side-loop-index-preserved t c d k h =
