@@ -16,9 +16,8 @@ at ns cs = record { exprs = ns; list = cs }
 -- signals that all have positions are each given a bit
 pub each_as_given : (d : Context) (fs : List Formula) (g : Giving) (aims : List Aim) (bs : List Formula) →
     given_each (formulas d) d (view_guard fs g.guard) g.extension g.complement g.clocked (view_gives g.what) (positions_of aims) bs ≡ each_given d fs g aims bs
-each_as_given d fs g [] bs = refl
-each_as_given d fs g (a ∷ aims) [] = refl
 each_as_given d fs g (a ∷ aims) (b ∷ bs) = ap (λ xs. one_given d fs g a b ∷ xs) (each_as_given d fs g aims bs)
+each_as_given d fs g _ _ = refl
 
 pub each_nodes : (fs : List Formula) (g : Giving) (bs : List Formula) → units_nodes (each_part fs g bs) ≡ guard_nodes (guard_bit fs g) bs
 each_nodes fs g [] = refl

@@ -1,6 +1,6 @@
 -- The first refusal of units of statements, part by part.
 use Rattle.std.proofs.Common.{◌≡◌, Bool, Option, Some, List, [], ◌∷◌, ◌++◌, length, refl, sym, ap, ap₂, ◌∙◌, subst, append-nil, rules, option_map}
-use Rattle.equations.proofs.Common.{Place, Table, Names, Stmt, the_lemmas, Extension, Sign, is_clocked, earlier, first_refusal, first_append, AGroup, AWhen, otherwise_of, view, view_stmt, Context, known_of, SectionFault, IsContextOf, SumsUp, Found, section_order, Aim, Manner, aims_refused, TargetFound, value_refused, view_assign, view_list, view_when, assign_refused, assigned_aims, assigned_manners, taken_refused, unless_any, When}
+use Rattle.equations.proofs.Common.{Place, Table, Names, Stmt, the_lemmas, Extension, Sign, is_clocked, earlier, first_refusal, first_append, AGroup, AWhen, otherwise_of, view, view_stmt, Context, known_of, SectionFault, IsContextOf, SumsUp, Found, section_order, Aim, Manner, aims_refused, TargetFound, value_refused, view_assign, view_list, view_when, assign_refused, taken_refused, unless_any, When}
 use Rattle.abel_tree.specs.declared.statements.Assign.{Assign}
 use Rattle.abel_tree.specs.declared.statements.Stmt.TheVariants as stmt
 use Rattle.set_expr.specs.declared.checked.Checked.{Checked}
@@ -30,9 +30,6 @@ pub accepted_refused : (d : Context) (before : List Manner) (e : Option Extensio
 accepted_refused d before e c s q t f aims h a =
     ap (λ xs. first (value_refused q (length xs) f ++ aims_refused d before e c (is_clocked s) xs)) a
     ∙ subst (λ rs. first (value_refused q (length t.aims) f ++ aims_refused d before e c (is_clocked s) t.aims) ≡ first (rs ++ (taken_refused rs q (length t.aims) f ++ aims_refused d before e c (is_clocked s) (unless_any rs t.aims)))) (sym h) refl
-
-pub accepted_manners : (e : Option Extension) (c : Bool) (s : Sign) (t : TargetFound) (aims : List Aim) → t.refusals ≡ [] → aims ≡ t.aims → assigned_manners e c s aims ≡ assigned_manners e c s (assigned_aims t)
-accepted_manners e c s t aims h a = ap (assigned_manners e c s) (a ∙ ap (λ rs. unless_any rs t.aims) (sym h))
 
 -- ---- WHEN
 

@@ -1,6 +1,6 @@
 -- Walks over statements, part by part.
 use Rattle.std.proofs.Common.{◌≡◌, Bool, Option, None, Some, List, [], ◌∷◌, ◌++◌, refl, sym, ap, ap₂, ◌∙◌, subst, append-nil, option_map}
-use Rattle.equations.proofs.Common.{is_some, Table, Names, Stmt, arena, Formula, Statement, AnAssign, AWhen, AGroup, ADontCare, Otherwise, NoElse, AnElse, Statements, NoStatement, MoreStatements, statements_of, otherwise_of, view, view_stmt, guarded, choice_nodes, condition_of, guard_then, guard_else, has_else, Context, formulas, statement_gives, else_gives, statements_give, Guard, view_guard, context_for, SectionFault, Manner, Walked, AreFirsts, units_refused, Walks, refused_append, kept_formula, clear_before, walks_then, walks_alike, walks_none, condition_unit, view_when, WalksStatement, units_of_statement, units_of_else, units_of_statements, statement_manners, else_manners, statements_manners, statement_places, else_places, statements_places, When, AreBothGuards, WalksCondition}
+use Rattle.equations.proofs.Common.{is_some, Table, Names, Stmt, arena, Formula, Statement, AWhen, AGroup, Otherwise, NoElse, AnElse, Statements, NoStatement, MoreStatements, statements_of, otherwise_of, view, view_stmt, guarded, choice_nodes, condition_of, guard_then, guard_else, has_else, Context, formulas, statement_gives, else_gives, statements_give, Guard, view_guard, context_for, SectionFault, Manner, Walked, AreFirsts, units_refused, Walks, refused_append, kept_formula, clear_before, walks_then, walks_alike, walks_none, condition_unit, view_when, WalksStatement, units_of_statement, units_of_else, units_of_statements, statement_manners, else_manners, statements_manners, statement_places, else_places, statements_places, When, AreBothGuards, WalksCondition}
 use Rattle.abel_meaning.specs.Contributions as meant
 use Rattle.equations.specs.declared.choices.BothGuards.{BothGuards}
 use Rattle.equations.proofs.BuiltUnits.{guard_view}
@@ -23,11 +23,10 @@ AllUnder d all g ss old new =
 
 mutual
   pub any_guard : (d : Context) (g h : Formula) (all : List Manner) (s : Statement) → units_refused (units_of_statement d g all s) ≡ units_refused (units_of_statement d h all s)
-  any_guard d g h all (AnAssign place complement target sign q value) = refl
   any_guard d g h all (AWhen place c s other) =
       simp (refused_append, any_guard d (guard_then g (condition_of d c)).what (guard_then h (condition_of d c)).what all s, any_else d (guard_else g (condition_of d c)).what (guard_else h (condition_of d c)).what (all ++ statement_manners d s) other)
   any_guard d g h all (AGroup ss) = any_guards d g h all ss
-  any_guard d g h all (ADontCare directive) = refl
+  any_guard d g h all _ = refl
 
   pub any_else : (d : Context) (g h : Formula) (all : List Manner) (o : Otherwise) → units_refused (units_of_else d g all o) ≡ units_refused (units_of_else d h all o)
   any_else d g h all NoElse = refl
@@ -102,9 +101,6 @@ pub record LeftBehind (d : Context) (all : List Manner) (g : meant.Guard Formula
   pub firsts : AreFirsts mid.before seen
   pub rest : (new : Walked) → AllUnder d seen g left mid new → AllUnder d all g ss old new
 
-pub all_behind : (d : Context) (all : List Manner) (g : meant.Guard Formula) (ss : Statements) (old : Walked) → AreFirsts old.before all → LeftBehind d all g ss ss old old
-all_behind d all g ss old a = record { seen = all; firsts = a; rest = λ new w. w }
-
 -- one statement more
 pub next_behind : (d : Context) (all : List Manner) (g : meant.Guard Formula) (ss : Statements) (left more : List Statement) (s : Statement) (old mid new : Walked) → left ≡ s ∷ more
     → (v : LeftBehind d all g ss (statements_of left) old mid) → Under d v.seen g s mid new → LeftBehind d all g ss (statements_of more) old new
@@ -117,9 +113,3 @@ next_behind d all g ss left more s old mid new e v w =
           (subst (λ zs. AllUnder d v.seen g (statements_of zs) mid last) (sym e)
           (walks_then v.seen (statement_manners d s) (statements_manners d (statements_of more)) (units_of_statement d g.holds v.seen s) (units_of_statements d g.holds (v.seen ++ statement_manners d s) (statements_of more)) (statement_gives (formulas d) d g s) (statements_give (formulas d) d g (statements_of more)) (statement_places d s) (statements_places d (statements_of more)) mid new last w x));
     }
-
--- none is left
-pub none_behind : (d : Context) (all : List Manner) (g : meant.Guard Formula) (ss : Statements) (left : List Statement) (old new : Walked) → left ≡ []
-    → LeftBehind d all g ss (statements_of left) old new → AllUnder d all g ss old new
-none_behind d all g ss left old new e v =
-    v.rest new (subst (λ zs. AllUnder d v.seen g (statements_of zs) new new) (sym e) (walks_none v.seen new v.firsts))

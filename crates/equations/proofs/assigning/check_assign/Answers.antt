@@ -1,9 +1,9 @@
 -- An assignment whose target is refused, and one whose target isn't.
 use Rattle.std.proofs.Common.{◌++◌, List, Some, ap, ap₂, map, refl, sym, ◌∙◌, subst, length}
-use Rattle.equations.proofs.Common.{Names, entries_of, earlier, first_refusal, first_append, view, section_order, expression_found, SumsUp, context_for, Aim, AreNamed, AreFirsts, aims_refused, manner_of, left_side, value_refused, side_whole}
+use Rattle.equations.proofs.Common.{Names, entries_of, earlier, first_refusal, first_append, view, section_order, expression_found, SumsUp, context_for, Aim, AreNamed, AreFirsts, aims_refused, manner_of, left_side, value_refused, side_whole, assigned_manners, unless_any}
 use Rattle.abel_tree.specs.Assigned as assigned
 use Rattle.equations.proofs.BuiltParts.{same_context}
-use Rattle.equations.proofs.CheckedUnits.{behind_refused, accepted_refused, accepted_manners}
+use Rattle.equations.proofs.CheckedUnits.{behind_refused, accepted_refused}
 use Rattle.equations.proofs.assigning.check_assign.Goals as goal
 
 pub returns-in-Some-clause-fault : goal.returns-in-Some-clause-fault
@@ -49,5 +49,5 @@ returns-clause-before g c = λ all a.
     let whole = side_whole d (length d.names) c.in_ok-side.side x.place (view x.target) refl (c.in_ok-side.ensures t) (sym c.in-None.is) in
     subst (λ ms. AreFirsts c.check_aims.new.before (all ++ ms))
     (ap₂ (λ y z. map (manner_of y x.complement z) aims) c.target_extension.ensures c.is_clocked.ensures
-    ∙ accepted_manners (assigned.target_extension (view x.target)) x.complement x.sign (left_side d x.place (view x.target)) aims whole.0 (c.as_slice-aims.ensures ∙ whole.1))
+    ∙ ap (assigned_manners (assigned.target_extension (view x.target)) x.complement x.sign) (c.as_slice-aims.ensures ∙ whole.1 ∙ ap (λ rs. unless_any rs (left_side d x.place (view x.target)).aims) (sym whole.0)))
     (c.in_ok-mixed-in-None.ensures.before all a)

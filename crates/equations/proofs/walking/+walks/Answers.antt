@@ -1,10 +1,10 @@
 -- Statements by their kinds, WHEN, and one statement more.
 use Rattle.std.proofs.Common.{◌+◌, Some, ◌∷◌, map, drop, refl, ap, sym, ◌∙◌, subst, rules, OnOk}
-use Rattle.equations.proofs.Common.{on_ok_weaker, drop_all, arena, Stmt, the_lemmas, Statement, view_stmt, view_guard, context_for, keeps_on, kept_formula, kept_inside, view_list, WalksStatement}
+use Rattle.equations.proofs.Common.{on_ok_weaker, drop_all, arena, Stmt, the_lemmas, Statement, view_stmt, view_guard, context_for, keeps_on, kept_formula, kept_inside, walks_none, view_list, WalksStatement}
 use Rattle.section_targets.proofs.Looks.{next_of}
 use Rattle.equations.proofs.BuiltUnits.{guard_kept}
 use Rattle.equations.proofs.CheckedUnits.{view_assigned, view_whened, view_grouped}
-use Rattle.equations.proofs.WalkedStatements.{under_guard, alone_walked, both_walked, all_behind, next_behind, none_behind}
+use Rattle.equations.proofs.WalkedStatements.{under_guard, AllUnder, alone_walked, both_walked, next_behind}
 use Rattle.equations.proofs.walking.+walks.Goals as goal
 
 pub walk_statement-returns-in-Assign : goal.walk_statement-returns-in-Assign
@@ -26,9 +26,7 @@ walk_statement-returns-in-Group g t c =
 
 pub walk_statements-loop-stmt-init : goal.walk_statements-loop-stmt-init
 walk_statements-loop-stmt-init g t c =
-    let d = context_for g.D.Device.table c.args.scope.now in
-    let old = c.args.out.now in
-    record { walks = λ all a. all_behind d all (view_guard (arena old.exprs) c.args.guard) (view_list c.args.stmts.now) old a; keeps = λ i f e. e; inside = c.requires.guard }
+    record { walks = λ all a. record { seen = all; firsts = a; rest = λ new w. w }; keeps = λ i f e. e; inside = c.requires.guard }
 
 pub walk_statements-loop-stmt-preserved : goal.walk_statements-loop-stmt-preserved
 walk_statements-loop-stmt-preserved g t c =
@@ -55,10 +53,11 @@ walk_statements-loop-stmt-preserved g t c =
 
 pub walk_statements-returns : goal.walk_statements-returns
 walk_statements-returns g t c = λ all a.
-    let list = c.args.stmts.now in
-    let old = c.args.out.now in
-    none_behind (context_for g.D.Device.table c.args.scope.now) all (view_guard (arena old.exprs) c.args.guard) (view_list list) (map view_stmt (drop c.loop-stmt.stmt-index list)) old c.loop-stmt.out
-    (ap (map view_stmt) (drop_all c.loop-stmt.stmt-index list c.loop-stmt-test.false)) (c.loop-stmt.invariant.walks all a)
+    let v = c.loop-stmt.invariant.walks all a in
+    let out = c.loop-stmt.out in
+    v.rest out
+    (subst (λ zs. AllUnder (context_for g.D.Device.table c.args.scope.now) v.seen (view_guard (arena c.args.out.now.exprs) c.args.guard) (view_list zs) out out)
+    (sym (drop_all c.loop-stmt.stmt-index c.args.stmts.now c.loop-stmt-test.false)) (walks_none v.seen out v.firsts))
 
 -- ---- WHEN
 
