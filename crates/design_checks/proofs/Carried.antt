@@ -1,6 +1,6 @@
 -- A use that isn't refused reads a leaf for which the device has columns.
 use Rattle.std.proofs.Common.{◌≡◌, ℕ, ◌<◌, ◌==◌, Bool, true, false, not, ◌&&◌, ◌||◌, List, length, get_or, Option, Some, None, refl, sym, ap, ◌∙◌, subst, inl, inr, position, is_some}
-use Rattle.design_checks.proofs.Common.{list_any, cases_Bool, true≢false, eqb-true, eq-eqb, and_parts, list_any_at, slice_get-get_or, cell_at, no_cell, same_leaf, Extension, Kind, APin, ANode, AConstant, ADeviceName, Entry, is_stored, follows_q, Context, name_at, no_name, holds_leaf, carries_level, carries_q, reads_register, reads_pin, reads_by, has_read_path}
+use Rattle.design_checks.proofs.Common.{list_any, cases_Bool, true≢false, eqb-true, eq-eqb, and_parts, list_any_at, slice_get-get_or, cell_at, no_cell, same_leaf, Extension, Kind, APin, ANode, ADeviceName, Entry, is_stored, follows_q, Context, name_at, no_name, holds_leaf, carries_level, carries_q, reads_register, reads_pin, reads_by, has_read_path}
 use Rattle.std.proofs.lemmas.List.Quantifiers.{position-Some}
 use Rattle.pld_device.specs.declared.carry.Carry.{Carry}
 use Rattle.pld_device.specs.declared.carry.Carry.TheVariants as carry
@@ -41,16 +41,10 @@ module _ (d : Context) (apart : PinsApart d) where
       (at.0, slice_get-get_or d.device.pairs at.0 (carry.Pin 0) is.0 ∙ ap (λ x. Some x) (same_cell (get_or d.device.pairs at.0 (carry.Pin 0)) c is.1))
 
   register_read : (pin : ℕ) (negated buffer : Bool) (cell : Option ℕ) (e : Option Extension) (l : Leaf) → cell_on d.device pin ≡ cell → reads_register d.device pin e ≡ true → holds_leaf (register_source negated buffer cell e) l ≡ true → HasColumns d l
-  register_read pin negated buffer None e l on there is = absurd cc
   register_read pin negated buffer (Some c) None l on there is = held (leaf.Q c) l (q_carried c (sym (ap (carries_q d.device) on) ∙ there)) is
   register_read pin negated buffer (Some c) (Some extension.Fb) l on there is = held (leaf.Q c) l (q_carried c (sym (ap (carries_q d.device) on) ∙ there)) is
   register_read pin negated buffer (Some c) (Some extension.Q) l on there is = held (leaf.Q c) l (q_carried c (sym (ap (carries_q d.device) on) ∙ there)) is
-  register_read pin negated buffer (Some c) (Some extension.Pin) l on there is = absurd cc
-  register_read pin negated buffer (Some c) (Some extension.Clk) l on there is = absurd cc
-  register_read pin negated buffer (Some c) (Some extension.Oe) l on there is = absurd cc
-  register_read pin negated buffer (Some c) (Some extension.Ar) l on there is = absurd cc
-  register_read pin negated buffer (Some c) (Some extension.Sp) l on there is = absurd cc
-  register_read pin negated buffer (Some c) (Some extension.D) l on there is = absurd cc
+  register_read pin negated buffer _ _ l on there is = absurd cc
 
   -- ---- levels
 
@@ -97,13 +91,7 @@ module _ (d : Context) (apart : PinsApart d) where
     pin_read : (e : Option Extension) (l : Leaf) → reads_pin d.device (name_at d s) pin e ≡ true → holds_leaf (pin_source pin negated e) l ≡ true → HasColumns d l
     pin_read None l there is = held (leaf.Pin pin) l (level_carried there) is
     pin_read (Some extension.Pin) l there is = held (leaf.Pin pin) l (level_carried there) is
-    pin_read (Some extension.Clk) l there is = absurd cc
-    pin_read (Some extension.Oe) l there is = absurd cc
-    pin_read (Some extension.Ar) l there is = absurd cc
-    pin_read (Some extension.Sp) l there is = absurd cc
-    pin_read (Some extension.D) l there is = absurd cc
-    pin_read (Some extension.Q) l there is = absurd cc
-    pin_read (Some extension.Fb) l there is = absurd cc
+    pin_read _ l there is = absurd cc
 
   -- ---- by what the name is declared as
 
@@ -118,8 +106,7 @@ module _ (d : Context) (apart : PinsApart d) where
   by_kind : (s : ℕ) (kind : Kind) (e : Option Extension) (l : Leaf) → (name_at d s).kind ≡ kind → reads_by d.device (name_at d s) (is_stored (name_at d s)) kind e ≡ true → holds_leaf (source_by d.device (name_at d s) kind e) l ≡ true → HasColumns d l
   by_kind s (APin pin negated) e l kind there is = by_stored s pin negated (is_stored (name_at d s)) e l kind refl there is
   by_kind s (ANode n) e l kind there is = node_read n e l is
-  by_kind s (AConstant value) e l kind there is = absurd cc
-  by_kind s ADeviceName e l kind there is = absurd cc
+  by_kind s _ e l kind there is = absurd cc
 
   pub carried : (s : ℕ) (e : Option Extension) (l : Leaf) → has_read_path d.device (name_at d s) e ≡ true → holds_leaf (source_by d.device (name_at d s) (name_at d s).kind e) l ≡ true → HasColumns d l
   carried s e l there is = by_kind s (name_at d s).kind e l refl there is

@@ -6,8 +6,7 @@ use Rattle.design_checks.proofs.Carried.{carried}
 -- what isn't missing and isn't unread has a path
 has_path : (has path : Bool) → not has ≡ false → (not (not has) && not path) ≡ false → path ≡ true
 has_path true true known read = refl
-has_path true false known read = absurd cc
-has_path false path known read = absurd cc
+has_path _ _ known read = absurd cc
 
 pub uses_have_columns : UsesHaveColumns
 uses_have_columns d u l apart known read is =

@@ -16,8 +16,7 @@ module _ {V : Type 0} (of : Term → V) where
   here_or : (b c : Bool) (i : ℕ) (vs : List V) (f g : V) (o : Option ℕ) → b ≡ c → get_or vs i (of (Number 0)) ≡ f → value_in vs o ≡ g → value_in vs (cond b (Some i) o) ≡ (if c then f else g)
   here_or true true i vs f g o e h k = h
   here_or false false i vs f g o e h k = k
-  here_or true false i vs f g o e h k = absurd cc
-  here_or false true i vs f g o e h k = absurd cc
+  here_or _ _ i vs f g o e h k = absurd cc
 
   chosen : (c : Bool) (k : Known) (ks : List Known) (w : List ℕ) → c ≡ bytes_eq w k.name → (if c then of k.term else of (term_named ks w)) ≡ of (if c then k.term else term_named ks w)
   chosen true k ks w e = refl

@@ -1,5 +1,5 @@
 -- Equations that are refused, one more.
-use Rattle.std.proofs.Common.{◌≡◌, ℕ, suc, ◌+◌, ◌<◌, ◌≤◌, nat_lt, Bool, true, false, List, [], ◌∷◌, ◌++◌, length, map, refl, rules, sym, ap, ◌∙◌, arith, append_assoc, append-nil, Option, Some, None, not, option_map}
+use Rattle.std.proofs.Common.{◌≡◌, ℕ, suc, ◌+◌, ◌<◌, ◌≤◌, nat_lt, Bool, true, false, List, [], ◌∷◌, ◌++◌, length, map, refl, rules, sym, ap, ◌∙◌, arith, append_assoc, append-nil, Option, Some, not, option_map}
 use Rattle.design_checks.proofs.Common.{and_right, nat_tests, Extension, Entry, first_refusal, AWhen, Statement, AGroup, statements_of, otherwise_of, view, view_stmt, stmt_layer, when_layer, Table, Context, name_at, RefusedUse, told_if, use_order, is_compared_of, list_refused, may_be_compared, Written, else_refused, aim_refused, aims_refused, is_written_at, narrow, statement_refused}
 use Rattle.abel_tree.specs.declared.statements.Stmt.{Stmt, the_lemmas as stmt_lemmas}
 use Rattle.abel_tree.specs.declared.statements.Stmt as stmt
@@ -32,15 +32,9 @@ none_compared d e w i (a ∷ aims) never =
     ∙ none_compared d e w (suc i) aims never
   where
     not_compared : (e : Option Extension) (t : Table) (x : Entry) → may_be_compared e ≡ false → is_compared_of t e x ≡ false
-    not_compared None t x never = refl
-    not_compared (Some extension.D) t x never = refl
-    not_compared (Some extension.Q) t x never = refl
-    not_compared (Some extension.Fb) t x never = refl
-    not_compared (Some extension.Pin) t x never = refl
-    not_compared (Some extension.Ar) t x never = refl
-    not_compared (Some extension.Sp) t x never = refl
     not_compared (Some extension.Clk) t x never = absurd cc
     not_compared (Some extension.Oe) t x never = absurd cc
+    not_compared _ t x never = refl
 
 pub narrow_all : (aims : List Aim) → length aims ≤ 32 → narrow aims ≡ aims
 narrow_all aims low = let e : nat_lt 32 (length aims) ≡ false = grind (arith, nat_tests, low) in rw e refl

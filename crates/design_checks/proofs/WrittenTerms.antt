@@ -1,6 +1,6 @@
 -- How terms are written, one part more.
 use Rattle.std.proofs.Common.{◌≡◌, ℕ, ◌+◌, Bool, true, false, List, [], ◌∷◌, ◌++◌, refl, sym, ap, ap₂, ◌∙◌, add-zero, add_assoc, zero-add, Option, None, Some}
-use Rattle.design_checks.proofs.Common.{Extension, range_names, SetMember, OneMember, SpanMember, members_of, Term, Terms, Number, X, Pulse, Release, Read, Set, UnaryOf, BinaryOf, NoTerm, Before, Known, extended, extended_each, extended_if, member_before, named_before, term_named, term_of, terms_of, Written, joined, none_written, written_of, written_of_all}
+use Rattle.design_checks.proofs.Common.{Extension, range_names, SetMember, OneMember, SpanMember, members_of, Term, Terms, Read, Set, UnaryOf, NoTerm, Before, Known, extended, extended_each, extended_if, member_before, named_before, term_named, term_of, terms_of, Written, joined, none_written, written_of, written_of_all}
 use Rattle.abel_tree.specs.declared.words.Unary.TheVariants as unary
 
 -- ---- joined parts
@@ -74,16 +74,11 @@ range_written ks (x ∷ names) n =
 
 mutual
   extended_written : (e : Extension) (t : Term) → written_of (extended e t) ≡ written_of t
-  extended_written e (Number n) = refl
-  extended_written e X = refl
-  extended_written e Pulse = refl
-  extended_written e Release = refl
-  extended_written e (Read s None) = refl
-  extended_written e (Read s (Some f)) = refl
   extended_written e (Set ts) = each_written e ts
   extended_written e (UnaryOf unary.Not t) = extended_written e t
-  extended_written e (UnaryOf unary.Minus t) = refl
-  extended_written e (BinaryOf sign t u) = refl
+  extended_written e (Read s None) = refl
+  extended_written e (Read s (Some f)) = refl
+  extended_written e _ = refl
 
   each_written : (e : Extension) (ts : Terms) → written_of_all (extended_each e ts) ≡ written_of_all ts
   each_written e NoTerm = refl
