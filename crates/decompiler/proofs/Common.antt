@@ -85,7 +85,7 @@ pub use Rattle.design_checks.specs.Compared.{cell_enables_so, enables_so, is_com
 pub use Rattle.design_checks.specs.Refused.{no_controls, other_levels, refuses, targets_refused}
 pub use Rattle.design_checks.specs.RefusedUses.{carries_level, carries_q, has_by, has_extension, has_read_path, is_missing, is_unread, missing_uses, reads_by}
 pub use Rattle.design_checks.specs.RefusedUses.{unread_uses}
-pub use Rattle.design_checks.specs.SectionUses.{design_uses, expression_uses, is_by_pin, is_cell_by_pin, is_compared, sections_uses, statements_uses}
+pub use Rattle.design_checks.specs.SectionUses.{design_uses, is_by_pin, is_cell_by_pin, is_compared, part_uses}
 pub use Rattle.design_checks.specs.SignalsRefused.{has_wrong_kind, has_wrong_kind_by, has_wrong_kind_on, is_any, is_registered_node, is_wrong_cell}
 pub use Rattle.design_checks.specs.SignalsRefused.{is_wrong_kind, lacks_by, lacks_control, node_refused, pin_lacks, registered_nodes}
 pub use Rattle.design_checks.specs.UsesRefused.{told, told_if}

@@ -1,15 +1,19 @@
 -- Nothing is refused of what the lines of a decompiled source read: each signal has what is asked of it, and a pair of
 -- columns carries it.
 use Rattle.std.proofs.Common.{◌≡◌, ℕ, ◌+◌, ◌<◌, inl, inr, Bool, true, false, not, is_some, if◌then◌else◌, Option, Some, None, List, [], ◌∷◌, ◌++◌, length, filter, map, refl, sym, ap, subst, ◌∙◌, append-nil, eq-eqb, eqb-true, ◌==◌, ◌&&◌, ◌||◌, position}
-use Rattle.decompiler.proofs.Common.{AllByRecursion, list_any, position_from, and_from, and_right, cases_Bool, or_right, true≢false, filter-append, Carry, Cell, Kinds, Combinational, Registered, Either, IsDevice, pair_pins, pin_carried, cell_on, carries_cell, says, stores, stores_by, Table, cell_at, no_cell, registered_at, own_pins, Extension, target_extension, Kind, APin, Entry, is_stored, Tree, Statement, ModuleTree, Equations, statements_of, must_register, Design, design_of, name_at, Term, extended_if, term_named, term_of, carries_level, carries_q, has_by, has_extension, has_read_path, is_missing, is_unread, missing_uses, reads_by, unread_uses, design_uses, expression_uses, is_compared, sections_uses, statements_uses, TargetFound, left_side, is_compared_of, Written, aims_refused, is_written_at, narrow, statement_refused, statements_refused, unwritten, written_if, RefusedUse, PinLiteral, SumLine, name_text, q_if, AreLines, IsLine, IsSourceTree, lines_of, named_by, source_of, signal_of, HasNoCell, cell_name, free_plain, kind_is, name, known_is, IsDeclared, IsDeclaredLiteral, cell_here}
+use Rattle.decompiler.proofs.Common.{AllByRecursion, each_append, list_any, position_from, and_from, and_right, cases_Bool, or_right, true≢false, Carry, Cell, Kinds, Combinational, Registered, Either, IsDevice, pair_pins, pin_carried, cell_on, carries_cell, says, stores, stores_by, Table, cell_at, no_cell, registered_at, own_pins, Extension, target_extension, Kind, APin, Entry, is_stored, Tree, Statement, ModuleTree, Equations, statements_of, must_register, Design, design_of, name_at, Term, extended_if, term_named, term_of, carries_level, carries_q, has_by, has_extension, has_read_path, is_missing, is_unread, missing_uses, reads_by, unread_uses, design_uses, is_compared, part_uses, TargetFound, left_side, is_compared_of, Written, aims_refused, is_written_at, narrow, statement_refused, statements_refused, unwritten, written_if, RefusedUse, PinLiteral, SumLine, name_text, q_if, AreLines, IsLine, IsSourceTree, lines_of, named_by, source_of, signal_of, HasNoCell, cell_name, free_plain, kind_is, name, known_is, IsDeclared, IsDeclaredLiteral, cell_here}
+use Rattle.std.specs.List.{flat_map}
+use Rattle.std.proofs.lemmas.Grind.{flat_map-append}
 use Rattle.pld_device.specs.declared.carry.Carry.TheVariants as carry
 use Rattle.abel_tree.specs.declared.words.Extension.TheVariants as extension
 use Rattle.abel_meaning.specs.Terms.{Read}
-use Rattle.netlist_laws.specs.SignalUses.{term_uses}
+use Rattle.abel_tree.specs.Tree.{SectionTree}
+use Rattle.name_uses.specs.Parts.{PartTree, parts_in_section, parts_in_statement}
+use Rattle.netlist_laws.specs.SignalUses.{SignalUse, term_uses}
 use Rattle.netlist_laws.proofs.CellsFound.{first_place}
-use Rattle.design_checks.specs.LocatedUses.{PlacedUse, all_at, located}
-use Rattle.design_checks.specs.SectionUses.{statement_uses}
+use Rattle.design_checks.specs.LocatedUses.{PlacedUse, located}
 use Rattle.design_checks.specs.Written.{sections_refused}
+use Rattle.design_checks.proofs.UsesRead.{uses_read}
 use Rattle.decompiler.proofs.EachTree.{HoldsBySteps, sum_holds}
 use Rattle.decompiler.proofs.LineManners.{IsGoodLine, aimed}
 use Rattle.decompiler.proofs.PairColumns.{IsAmong, IsColumn, IsDevicePair, line_columns}
@@ -155,52 +159,72 @@ module _ (t : Table) (fuses : List Bool) (laws : IsDevice t) (m : ModuleTree) (i
     pub missing : filter (is_missing d.context) us ≡ []
     pub unread : filter (is_unread d.context) us ≡ []
 
-  none_followed : AreFollowed []
-  none_followed = record { missing = refl; unread = refl }
+  -- a signal that is read has what is asked of it, and a column
+  pub record IsFollowed (u : SignalUse) : Type 0 where
+    pub has : has_extension t (name_at d.context u.signal) u.extension ≡ true
+    pub path : has_read_path t (name_at d.context u.signal) u.extension ≡ true
 
-  both_followed : (us vs : List PlacedUse) → AreFollowed us → AreFollowed vs → AreFollowed (us ++ vs)
-  both_followed us vs a b = record {
-    missing = filter-append (is_missing d.context) us vs ∙ ap (λ (xs : List PlacedUse). xs ++ filter (is_missing d.context) vs) a.missing ∙ b.missing;
-    unread = filter-append (is_unread d.context) us vs ∙ ap (λ (xs : List PlacedUse). xs ++ filter (is_unread d.context) vs) a.unread ∙ b.unread;
-  }
+  abbrev EachFollowed : List PlacedUse → Type 0
+  EachFollowed us = AllByRecursion (λ (u : PlacedUse). IsFollowed u.read) us
 
-  one_followed : (u : PlacedUse) → has_extension t (name_at d.context u.read.signal) u.read.extension ≡ true → has_read_path t (name_at d.context u.read.signal) u.read.extension ≡ true → AreFollowed (u ∷ [])
-  one_followed u has path =
-      let found : is_missing d.context u ≡ false = ap not has in
-      let followed : is_unread d.context u ≡ false = and_right (not (is_missing d.context u)) (not (has_read_path t (name_at d.context u.read.signal) u.read.extension)) (ap not path) in
-      record { missing = rw found refl; unread = rw followed refl }
+  all_followed : (us : List PlacedUse) → EachFollowed us → AreFollowed us
+  all_followed [] each = record { missing = refl; unread = refl }
+  all_followed (u ∷ us) each =
+      let found : is_missing d.context u ≡ false = ap not each.0.has in
+      let followed : is_unread d.context u ≡ false = and_right (not (is_missing d.context u)) (not (has_read_path t (name_at d.context u.read.signal) u.read.extension)) (ap not each.0.path) in
+      let rest = all_followed us each.1 in
+      record { missing = rw found rest.missing; unread = rw followed rest.unread }
+
+  each_read : (us : List PlacedUse) → AllByRecursion IsFollowed (map (λ (u : PlacedUse). u.read) us) → EachFollowed us
+  each_read [] each = tt
+  each_read (u ∷ us) each = (each.0, each_read us each.1)
 
   extended_read : (e : Option Extension) (s : ℕ) → extended_if e (Read s None) ≡ Read s e
   extended_read None s = refl
   extended_read (Some e) s = refl
 
-  use_steps : HoldsBySteps IsReadLiteral (λ (tree : Tree). AreFollowed (located d.context.known None tree))
+  -- what an expression reads
+  abbrev tree_uses : Tree → List SignalUse
+  tree_uses tree = term_uses (term_of d.context.known tree)
+
+  use_steps : HoldsBySteps IsReadLiteral (λ (tree : Tree). AllByRecursion IsFollowed (tree_uses tree))
   use_steps = record {
-    number = λ n p low. none_followed;
+    number = λ n p low. tt;
     name = λ l p of.
-        subst (λ (u : Term). AreFollowed (all_at p (term_uses u))) (sym (ap (extended_if (q_if l.of_q)) of.known ∙ extended_read (q_if l.of_q) (signal_of t fuses l.pin)))
-        (one_followed (record { read = record { signal = signal_of t fuses l.pin; extension = q_if l.of_q }; place = p }) of.readable.has of.readable.path);
+        subst (λ (u : Term). AllByRecursion IsFollowed (term_uses u)) (sym (ap (extended_if (q_if l.of_q)) of.known ∙ extended_read (q_if l.of_q) (signal_of t fuses l.pin)))
+        (record { has = of.readable.has; path = of.readable.path }, tt);
     complement = λ p tree here. here;
-    both = λ p left right here there. both_followed (located d.context.known None left) (located d.context.known None right) here there;
-    either = λ p left right here there. both_followed (located d.context.known None left) (located d.context.known None right) here there;
+    both = λ p left right here there. each_append IsFollowed (tree_uses left) (tree_uses right) here there;
+    either = λ p left right here there. each_append IsFollowed (tree_uses left) (tree_uses right) here there;
   }
 
-  line_followed : (l : SumLine) (s : Statement) → IsGoodLine t fuses laws m is l → IsLine l s → AreFollowed (statement_uses d.context s)
+  abbrev uses_in : List PartTree → List PlacedUse
+  uses_in ps = flat_map (part_uses d.context) ps
+
+  line_followed : (l : SumLine) (s : Statement) → IsGoodLine t fuses laws m is l → IsLine l s → EachFollowed (uses_in (parts_in_statement s))
   line_followed l s good line =
-      subst (λ (x : Statement). AreFollowed (statement_uses d.context x)) (sym line.is)
+      subst (λ (x : Statement). EachFollowed (uses_in (parts_in_statement x))) (sym line.is)
       (unless (is_compared d.context line.target))
     where
-      unless : (b : Bool) → AreFollowed (if b then [] else expression_uses d.context line.value)
-      unless true = none_followed
-      unless false =
-          sum_holds IsReadLiteral (λ (tree : Tree). AreFollowed (located d.context.known None tree)) use_steps l.products line.value
+      each : AllByRecursion IsFollowed (tree_uses line.value)
+      each =
+          sum_holds IsReadLiteral (λ (tree : Tree). AllByRecursion IsFollowed (tree_uses tree)) use_steps l.products line.value
           (literals_read l.products (line_columns t fuses laws l good.0) good.1.literals) line.sum
 
-  lines_followed : (ls : List SumLine) (ss : List Statement) → AreLines ls ss → AllByRecursion (IsGoodLine t fuses laws m is) ls → AreFollowed (statements_uses d.context (statements_of ss))
-  lines_followed [] ss are good = subst (λ (xs : List Statement). AreFollowed (statements_uses d.context (statements_of xs))) (sym are) none_followed
+      unless : (b : Bool) → EachFollowed ((if not b then located d.context.known line.value else []) ++ [])
+      unless true = tt
+      unless false =
+          each_append (λ (u : PlacedUse). IsFollowed u.read) (located d.context.known line.value) []
+          (each_read (located d.context.known line.value) (subst (AllByRecursion IsFollowed) (sym (uses_read d.context line.value)) each)) tt
+
+  lines_followed : (ls : List SumLine) (ss : List Statement) → AreLines ls ss → AllByRecursion (IsGoodLine t fuses laws m is) ls → EachFollowed (uses_in (flat_map parts_in_statement ss))
+  lines_followed [] ss are good = subst (λ (xs : List Statement). EachFollowed (uses_in (flat_map parts_in_statement xs))) (sym are) tt
   lines_followed (l ∷ ls) ss are good =
-      subst (λ (xs : List Statement). AreFollowed (statements_uses d.context (statements_of xs))) (sym are.4)
-      (both_followed (statement_uses d.context are.0) (statements_uses d.context (statements_of are.1)) (line_followed l are.0 good.0 are.2) (lines_followed ls are.1 are.3 good.1))
+      let first = parts_in_statement are.0 in
+      let rest = flat_map parts_in_statement are.1 in
+      subst (λ (xs : List Statement). EachFollowed (uses_in (flat_map parts_in_statement xs))) (sym are.4)
+      (subst EachFollowed (sym (flat_map-append (part_uses d.context) first rest))
+      (each_append (λ (u : PlacedUse). IsFollowed u.read) (uses_in first) (uses_in rest) (line_followed l are.0 good.0 are.2) (lines_followed ls are.1 are.3 good.1)))
 
   -- ---- equations that are compared
 
@@ -227,11 +251,11 @@ module _ (t : Table) (fuses : List Bool) (laws : IsDevice t) (m : ModuleTree) (i
     sections_are : d.sections ≡ Equations is.lines ∷ []
     sections_are = ap (λ (y : ModuleTree). y.sections) is.is
 
-    uses_are : design_uses d ≡ statements_uses d.context (statements_of is.lines)
-    uses_are = ap (sections_uses d.context) sections_are ∙ append-nil (statements_uses d.context (statements_of is.lines))
+    uses_are : design_uses d ≡ uses_in (flat_map parts_in_statement is.lines)
+    uses_are = ap (λ (xs : List SectionTree). uses_in (flat_map parts_in_section xs)) sections_are ∙ ap uses_in (append-nil (flat_map parts_in_statement is.lines))
 
     followed : AreFollowed (design_uses d)
-    followed = subst AreFollowed (sym uses_are) (lines_followed (lines_of t fuses) is.lines is.are_lines good)
+    followed = all_followed (design_uses d) (subst EachFollowed (sym uses_are) (lines_followed (lines_of t fuses) is.lines is.are_lines good))
 
     pub none_missing : missing_uses d ≡ []
     none_missing = followed.missing

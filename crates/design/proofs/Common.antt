@@ -54,9 +54,7 @@ pub use Rattle.declared_names.proofs.AmongNumbers.{among}
 pub use Rattle.design_checks.specs.LocatedUses.{PlacedUse}
 pub use Rattle.design_checks.specs.Refused.{is_lacking, is_wrong_target, lacking_controls, other_levels, target_controls, targets_refused, wrong_kinds}
 pub use Rattle.design_checks.specs.RefusedUses.{is_missing, is_unread, missing_uses, unread_uses}
-pub use Rattle.design_checks.specs.SectionUses.{branch_uses, branches_uses, choices_uses, design_uses, else_uses, expression_uses, is_by_pin, is_cell_by_pin}
-pub use Rattle.design_checks.specs.SectionUses.{is_compared, is_compared_by, is_enabled_by_pin, other_uses, section_uses, sections_uses, statement_uses}
-pub use Rattle.design_checks.specs.SectionUses.{statements_uses, states_uses, with_uses}
+pub use Rattle.design_checks.specs.SectionUses.{design_uses, is_by_pin, is_cell_by_pin, is_compared, is_compared_by, is_enabled_by_pin, part_uses}
 pub use Rattle.design_checks.specs.SignalsRefused.{AreToNames, has_wrong_kind, has_wrong_kind_by, has_wrong_kind_on, is_registered_by, is_registered_node}
 pub use Rattle.design_checks.specs.SignalsRefused.{is_wrong_cell, is_wrong_kind, lacks_by, lacks_control, node_refused, pin_lacks, registered_nodes}
 pub use Rattle.design_checks.specs.Verdict.{HasSoundSignals, IsDesignFor, IsSignalRefused}

@@ -1,7 +1,9 @@
 -- A module is accepted whose declarations and sections are, and so are the names that are declared of it.
 use Rattle.std.proofs.Common.{◌≡◌, ℕ, ◌+◌, ◌==◌, Bool, true, false, ◌||◌, cond, Option, None, Some, List, [], ◌∷◌, ◌++◌, length, refl, sym, subst, ◌∙◌, ◌<◌, take, get_or, ap, inl, inr, IsSome, slice_get}
-use Rattle.design.proofs.Common.{AllByRecursion, list_any, position_from, Cell, Table, arena, Extension, Tree, SectionTree, ADiagram, ModuleTree, cell_on, Context, Design, design_of, sections_parts, term_of, SignalUse, given_uses, design_uses, constants_refused, Manner, is_cell_pin, is_output_kind, units_refused, all_refused, limit_refused, right_empty, section_manners, units_of_section, units_of_sections, AssignedAreOnCells, AssignedHaveData, HasBareHeader, HaveBareHeaders, IsAccepted, AreGiven, HasSoundSections, HasSoundDeclarations, cases_lt, get_or_past, slice_get-get_or, ANode, ADeviceName, Entry, no_name, names_of, NamesAreAccepted}
+use Rattle.design.proofs.Common.{AllByRecursion, list_any, position_from, Cell, Table, arena, Extension, Tree, SectionTree, ADiagram, ModuleTree, cell_on, Context, Design, design_of, sections_parts, term_of, SignalUse, given_uses, constants_refused, Manner, is_cell_pin, is_output_kind, units_refused, all_refused, limit_refused, right_empty, section_manners, units_of_section, units_of_sections, AssignedAreOnCells, AssignedHaveData, HasBareHeader, HaveBareHeaders, IsAccepted, AreGiven, HasSoundSections, HasSoundDeclarations, cases_lt, get_or_past, slice_get-get_or, ANode, ADeviceName, Entry, no_name, names_of, NamesAreAccepted}
 use Rattle.std.proofs.lemmas.Iterator.Adapters.{position_from-zero}
+use Rattle.std.specs.List.{flat_map}
+use Rattle.name_uses.specs.Parts.{parts_in_section}
 use Rattle.source_sections.specs.SectionAnswers.{source_units}
 use Rattle.design.proofs.AssignedNames.{own_names, own_assigned, names_within, by_sections, signal_there}
 use Rattle.design.proofs.BareTargets.{member_bare}
@@ -60,7 +62,7 @@ module _ (t : Table) (m : ModuleTree) where
   named : (x : Tree) → AllByRecursion (AnyOwn None) (signals_in (term_of d.context.known x))
   named x = each_always (AnyOwn None) (λ j. tt) (signals_in (term_of d.context.known x))
 
-  part : (s : ℕ) → IsPart d.context AnyUse AnyOwn (λ e j k. tt) s (own_names t m) named (HaveBareHeaders d.context m.sections) (source_units d) (design_uses d) (sections_parts m.sections) (own_assigned t m) (given_uses d)
+  part : (s : ℕ) → IsPart d.context AnyUse AnyOwn (λ e j k. tt) s (own_names t m) named (HaveBareHeaders d.context m.sections) (source_units d) (flat_map parts_in_section m.sections) (sections_parts m.sections) (own_assigned t m) (given_uses d)
   part s = sections_part d.context AnyUse AnyOwn (λ e j k. tt) s (own_names t m) named d.starts_dontcare 0 [] m.sections
 
   data_there : AssignedHaveData d

@@ -38,15 +38,15 @@ pub use Rattle.set_expr.specs.Answer.{IsContextOf}
 pub use Rattle.set_expr.specs.Contexts.{context_for}
 pub use Rattle.set_expr.specs.declared.contributions.Contribution.{Contribution}
 pub use Rattle.design_checks.specs.{AreOfNames, AreToNames, AreUsesOf, ControlsPass, KindsPass, Knows, PlacedUse, UsesAreRead, UsesHaveColumns, aim_refused}
-pub use Rattle.design_checks.specs.{aims_refused, all_at, all_positions, any_controls, are_by_pin, branch_uses, branches_uses, carries_level, carries_q}
-pub use Rattle.design_checks.specs.{choices_uses, else_refused, else_uses, expression_uses, first_read, first_refused, first_signal, first_use, has_extension}
+pub use Rattle.design_checks.specs.{aims_refused, all_at, all_positions, any_controls, are_by_pin, carries_level, carries_q}
+pub use Rattle.design_checks.specs.{else_refused, first_read, first_refused, first_signal, first_use, has_extension}
 pub use Rattle.design_checks.specs.{has_read_path, is_compared, is_compared_of, is_enabled_by_pin, is_refused, is_written_at, is_wrong_cell, joined, kept_by}
-pub use Rattle.design_checks.specs.{lacking_controls, learning, list_refused, located, may_be_compared, member_located, members_located, missing_uses}
-pub use Rattle.design_checks.specs.{names_read, names_to, narrow, no_controls, node_refused, none_written, not_written, other_levels, other_uses, part_uses}
-pub use Rattle.design_checks.specs.{parted_uses, positions_by, positions_of, range_located, read_of, reads_by, reads_pin, reads_register, reads_used, refuses}
-pub use Rattle.design_checks.specs.{refuses_use, registered_nodes, section_refused, section_uses, sections_refused, sections_uses, statement_refused}
-pub use Rattle.design_checks.specs.{statement_uses, statements_uses, states_uses, target_controls, targets_refused, told, told_if, unwritten, use_at, use_order}
-pub use Rattle.design_checks.specs.{use_under, uses_of, uses_used, values_of, with_uses, written_if, written_of, written_of_all, wrong_kinds}
+pub use Rattle.design_checks.specs.{lacking_controls, learning, list_refused, located, may_be_compared, missing_uses}
+pub use Rattle.design_checks.specs.{names_read, names_to, narrow, no_controls, node_refused, none_written, not_written, other_levels, part_uses}
+pub use Rattle.design_checks.specs.{positions_by, positions_of, read_of, reads_by, reads_pin, reads_register, reads_used, refuses}
+pub use Rattle.design_checks.specs.{refuses_use, registered_nodes, section_refused, sections_refused, statement_refused}
+pub use Rattle.design_checks.specs.{target_controls, targets_refused, told, told_if, unwritten, use_at, use_order}
+pub use Rattle.design_checks.specs.{use_under, uses_of, uses_used, values_of, written_if, written_of, written_of_all, wrong_kinds}
 pub use Rattle.design_checks.specs.Written.{Written}
 pub use Rattle.design_checks.specs.declared.names.NameUses.{NameUses}
 pub use Rattle.design_checks.specs.declared.refused.RefusedUse.{RefusedUse}

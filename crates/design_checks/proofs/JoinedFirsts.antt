@@ -1,7 +1,9 @@
 -- What is refused first of several, one behind another.
 use Rattle.std.proofs.Common.{◌≡◌, ℕ, ◌+◌, ◌<◌, Bool, true, false, cond, if◌then◌else◌, Option, Some, None, List, [], ◌∷◌, ◌++◌, length, map, take, get_or, refl, sym, ap, ◌∙◌, arith, append-nil, filter}
-use Rattle.design_checks.proofs.Common.{option_or, flat_map, nat_tests, flat_map-append, map-append, Place, earlier, first_refusal, sooner, before_by, first_append, Context, name_at, SignalUse, front_more, first_read, first_refused, first_signal, PlacedUse, all_at, is_refused, refuses_use, first_use, told, use_at, use_order, RefusedUse, UseRule}
+use Rattle.design_checks.proofs.Common.{option_or, flat_map, nat_tests, flat_map-append, map-append, Place, earlier, first_refusal, sooner, before_by, first_append, Context, name_at, SignalUse, front_more, first_read, first_refused, first_signal, PlacedUse, all_at, is_refused, part_uses, refuses_use, first_use, told, use_at, use_order, RefusedUse, UseRule}
 use Rattle.std.proofs.lemmas.List.Elements.{filter-append}
+use Rattle.name_uses.specs.Parts.{PartTree}
+use Rattle.name_uses.specs.Viewed.{PartedSection}
 
 -- ---- signals
 
@@ -25,6 +27,14 @@ uses_append r d us vs =
     ap first_use (filter-append test us vs)
     ∙ (ap (first_refusal use_order) (map-append told (filter test us) (filter test vs))
     ∙ first_append use_order (map told (filter test us)) (map told (filter test vs)))
+
+-- the parts of a section that is gone through
+abbrev pub parts_in : PartedSection → List PartTree
+parts_in s = s.parts
+
+pub parts_append : (r : UseRule) (d : Context) (ps qs : List PartTree)
+    → first_refused r d (flat_map (part_uses d) (ps ++ qs)) ≡ earlier use_order (first_refused r d (flat_map (part_uses d) ps)) (first_refused r d (flat_map (part_uses d) qs))
+parts_append r d ps qs = ap (first_refused r d) (flat_map-append (part_uses d) ps qs) ∙ uses_append r d (flat_map (part_uses d) ps) (flat_map (part_uses d) qs)
 
 -- of two at one place the left one stays
 stays : (p : Place) (s : ℕ) (o : Option ℕ) → earlier use_order (Some (record { place = p; name = s })) (use_at p o) ≡ Some (record { place = p; name = s })

@@ -3,7 +3,6 @@ mod ColumnLaw
 pub mod Common
 mod JoinedFirsts
 pub mod LearntName
-mod PartedUses
 mod PlacedNames
 mod PositionTerms
 mod RefusedStatements

@@ -1,113 +1,126 @@
 -- The uses of an expression, each at its place, are what its term reads.
-use Rattle.std.proofs.Common.{◌≡◌, ℕ, Bool, true, false, List, [], ◌∷◌, ◌++◌, map, Option, Some, None, refl, sym, ap, ap₂, ◌∙◌, append_assoc, if◌then◌else◌, bytes_eq, codes}
-use Rattle.design_checks.proofs.Common.{map-append, Place, Extension, innermost, range_names, Tree, ANumber, ASpecial, AName, ASet, AParen, AUnary, ABinary, SetMember, OneMember, SpanMember, Members, NoMember, MoreMembers, Term, Terms, Number, X, Pulse, Release, Read, Set, UnaryOf, BinaryOf, NoTerm, Before, Known, term_named, term_of, terms_of, member_before, named_before, extended, extended_each, extended_if, special_term, SignalUse, term_uses, all_term_uses, UsesAreRead, PlacedUse, all_at, range_located, located, members_located, member_located}
-use Rattle.abel_tree.specs.declared.words.Unary.{Unary}
-use Rattle.abel_tree.specs.declared.words.Binary.{Binary}
-
-abbrev pub plain : List PlacedUse → List SignalUse
-plain us = map (λ (u : PlacedUse). u.read) us
-
-pub plain_at : (p : Place) (us : List SignalUse) → plain (all_at p us) ≡ us
-plain_at p [] = refl
-plain_at p (u ∷ us) = ap (λ vs. u ∷ vs) (plain_at p us)
+use Rattle.std.proofs.Common.{◌≡◌, ℕ, Bool, true, false, List, [], ◌∷◌, ◌++◌, map, Option, Some, None, refl, sym, ap, ap₂, ◌∙◌, append_assoc, append-nil, if◌then◌else◌, bytes_eq, codes}
+use Rattle.design_checks.proofs.Common.{flat_map, flat_map-append, map-append, Place, Extension, innermost, range_names, Tree, ANumber, ASpecial, AName, ASet, AParen, AUnary, ABinary, SetMember, OneMember, SpanMember, Members, NoMember, MoreMembers, Term, Terms, X, Pulse, Release, Read, Set, UnaryOf, BinaryOf, NoTerm, Before, Known, term_named, term_of, terms_of, member_before, named_before, extended, extended_each, extended_if, special_term, SignalUse, term_uses, all_term_uses, UsesAreRead, PlacedUse, all_at, names_read, reads_used, uses_used}
+use Rattle.name_uses.specs.NamesUsed.{UsedName, member_used, members_used, names_used}
 
 -- ---- extensions
 
-abbrev each_if : Option Extension → Terms → Terms
-each_if None ts = ts
-each_if (Some e) ts = extended_each e ts
+-- what is asked of a signal that stands in a set with this extension
+abbrev pub under : Option Extension → SignalUse → SignalUse
+under o u = record { signal = u.signal; extension = innermost u.extension o }
 
--- where each signal has an extension, no outer one counts
+abbrev all_under : Option Extension → List SignalUse → List SignalUse
+all_under o us = map (under o) us
+
+under_none : (us : List SignalUse) → all_under None us ≡ us
+under_none [] = refl
+under_none (u ∷ us) = ap₂ (λ e vs. record { signal = u.signal; extension = e } ∷ vs) (own u.extension) (under_none us)
+  where
+    own : (e : Option Extension) → innermost e None ≡ e
+    own None = refl
+    own (Some e) = refl
+
+-- of two extensions the inner one counts
+inner_first : (e i o : Option Extension) → innermost e (innermost i o) ≡ innermost (innermost e i) o
+inner_first None i o = refl
+inner_first (Some e) i o = refl
+
+under_both : (i o : Option Extension) (us : List SignalUse) → all_under o (all_under i us) ≡ all_under (innermost i o) us
+under_both i o [] = refl
+under_both i o (u ∷ us) = ap₂ (λ e vs. record { signal = u.signal; extension = e } ∷ vs) (sym (inner_first u.extension i o)) (under_both i o us)
+
 mutual
-  pub twice : (e f : Extension) (t : Term) → extended f (extended e t) ≡ extended e t
-  twice e f (Number n) = refl
-  twice e f X = refl
-  twice e f Pulse = refl
-  twice e f Release = refl
-  twice e f (Read s None) = refl
-  twice e f (Read s (Some g)) = refl
-  twice e f (Set ts) = ap (λ us. Set us) (each_twice e f ts)
-  twice e f (UnaryOf sign t) = ap (λ u. UnaryOf sign u) (twice e f t)
-  twice e f (BinaryOf sign t u) = ap₂ (λ v w. BinaryOf sign v w) (twice e f t) (twice e f u)
+  uses_under : (e : Extension) (t : Term) → term_uses (extended e t) ≡ all_under (Some e) (term_uses t)
+  uses_under e (Read s None) = refl
+  uses_under e (Read s (Some f)) = refl
+  uses_under e (Set ts) = each_under e ts
+  uses_under e (UnaryOf sign t) = uses_under e t
+  uses_under e (BinaryOf sign t u) = ap₂ (λ us vs. us ++ vs) (uses_under e t) (uses_under e u) ∙ sym (map-append (under (Some e)) (term_uses t) (term_uses u))
+  uses_under e _ = refl
 
-  each_twice : (e f : Extension) (ts : Terms) → extended_each f (extended_each e ts) ≡ extended_each e ts
-  each_twice e f NoTerm = refl
-  each_twice e f (Before t ts) = ap₂ (λ u us. Before u us) (twice e f t) (each_twice e f ts)
+  each_under : (e : Extension) (ts : Terms) → all_term_uses (extended_each e ts) ≡ all_under (Some e) (all_term_uses ts)
+  each_under e NoTerm = refl
+  each_under e (Before t ts) = ap₂ (λ us vs. us ++ vs) (uses_under e t) (each_under e ts) ∙ sym (map-append (under (Some e)) (term_uses t) (all_term_uses ts))
 
-number_reads : (o : Option Extension) (n : ℕ) → term_uses (extended_if o (Number n)) ≡ []
-number_reads None n = refl
-number_reads (Some e) n = refl
+pub extended_uses : (o : Option Extension) (t : Term) → term_uses (extended_if o t) ≡ all_under o (term_uses t)
+extended_uses None t = sym (under_none (term_uses t))
+extended_uses (Some e) t = uses_under e t
 
-set_reads : (o e : Option Extension) (ts : Terms) → term_uses (extended_if o (extended_if e (Set ts))) ≡ all_term_uses (each_if (innermost e o) ts)
-set_reads None None ts = refl
-set_reads (Some f) None ts = refl
-set_reads None (Some e) ts = refl
-set_reads (Some f) (Some e) ts = ap all_term_uses (each_twice e f ts)
-
-under_reads : (o : Option Extension) (sign : Unary) (t : Term) → term_uses (extended_if o (UnaryOf sign t)) ≡ term_uses (extended_if o t)
-under_reads None sign t = refl
-under_reads (Some e) sign t = refl
-
-both_reads : (o : Option Extension) (sign : Binary) (t u : Term) → term_uses (extended_if o (BinaryOf sign t u)) ≡ term_uses (extended_if o t) ++ term_uses (extended_if o u)
-both_reads None sign t u = refl
-both_reads (Some e) sign t u = refl
-
-before_reads : (o : Option Extension) (t : Term) (ts : Terms) → all_term_uses (each_if o (Before t ts)) ≡ term_uses (extended_if o t) ++ all_term_uses (each_if o ts)
-before_reads None t ts = refl
-before_reads (Some e) t ts = refl
-
-none_read : (o : Option Extension) → all_term_uses (each_if o NoTerm) ≡ []
-none_read None = refl
-none_read (Some e) = refl
+-- in a set with an extension, of which there may be one more around it
+nested_uses : (e i o : Option Extension) (t : Term) → all_under (innermost i o) (term_uses (extended_if e t)) ≡ all_under (innermost (innermost e i) o) (term_uses t)
+nested_uses e i o t =
+    ap (all_under (innermost i o)) (extended_uses e t)
+    ∙ under_both e (innermost i o) (term_uses t)
+    ∙ ap (λ f. all_under f (term_uses t)) (inner_first e i o)
 
 -- ---- expressions
 
 module _ (known : List Known) where
   -- .X., .C. and .Z. read nothing
-  special_reads : (o : Option Extension) (letter : ℕ) → term_uses (extended_if o (special_term letter)) ≡ []
-  special_reads o letter = by o (bytes_eq (letter ∷ []) (codes "X")) (bytes_eq (letter ∷ []) (codes "C"))
+  special_reads : (letter : ℕ) → term_uses (special_term letter) ≡ []
+  special_reads letter = by (bytes_eq (letter ∷ []) (codes "X")) (bytes_eq (letter ∷ []) (codes "C"))
     where
-      by : (o : Option Extension) (x c : Bool) → term_uses (extended_if o (if x then X else if c then Pulse else Release)) ≡ []
-      by None true c = refl
-      by None false true = refl
-      by None false false = refl
-      by (Some e) true c = refl
-      by (Some e) false true = refl
-      by (Some e) false false = refl
+      by : (x c : Bool) → term_uses (if x then X else if c then Pulse else Release) ≡ []
+      by true c = refl
+      by false true = refl
+      by false false = refl
 
-  range_read : (o : Option Extension) (p : Place) (names : List (List ℕ)) (ts : Terms) (rest : List SignalUse) → rest ≡ all_term_uses (each_if o ts)
-      → plain (range_located known o p names) ++ rest ≡ all_term_uses (each_if o (named_before known names ts))
-  range_read o p [] ts rest is = is
-  range_read o p (name ∷ names) ts rest is =
-      ap (λ us. us ++ rest) (map-append (λ (v : PlacedUse). v.read) (all_at p (term_uses (extended_if o (term_named known name)))) (range_located known o p names))
-      ∙ append_assoc (plain (all_at p (term_uses (extended_if o (term_named known name))))) (plain (range_located known o p names)) rest
-      ∙ ap₂ (λ us vs. us ++ vs) (plain_at p (term_uses (extended_if o (term_named known name)))) (range_read o p names ts rest is)
-      ∙ sym (before_reads o (term_named known name) (named_before known names ts))
+  named_read : (o : Option Extension) (names : List (List ℕ)) (ts : Terms) → names_read known o names ++ all_under o (all_term_uses ts) ≡ all_under o (all_term_uses (named_before known names ts))
+  named_read o [] ts = refl
+  named_read o (n ∷ names) ts =
+      let t = term_named known n in
+      append_assoc (term_uses (extended_if o t)) (names_read known o names) (all_under o (all_term_uses ts))
+      ∙ ap₂ (λ us vs. us ++ vs) (extended_uses o t) (named_read o names ts)
+      ∙ sym (map-append (under o) (term_uses t) (all_term_uses (named_before known names ts)))
 
   mutual
-    pub reads : (o : Option Extension) (t : Tree) → plain (located known o t) ≡ term_uses (extended_if o (term_of known t))
-    reads o (ANumber n) = sym (number_reads o n.value)
-    reads o (ASpecial letter p) = sym (special_reads o letter)
-    reads o (AName word e) = plain_at word.place (term_uses (extended_if o (extended_if e (term_named known word.text))))
-    reads o (ASet p ms e) = members_read (innermost e o) ms ∙ sym (set_reads o e (terms_of known ms))
-    reads o (AParen p t) = reads o t
-    reads o (AUnary sign p t) = reads o t ∙ sym (under_reads o sign (term_of known t))
-    reads o (ABinary sign p t u) =
-        map-append (λ (v : PlacedUse). v.read) (located known o t) (located known o u)
-        ∙ ap₂ (λ us vs. us ++ vs) (reads o t) (reads o u)
-        ∙ sym (both_reads o sign (term_of known t) (term_of known u))
+    reads : (i o : Option Extension) (t : Tree) → flat_map (reads_used known o) (names_used i t) ≡ all_under (innermost i o) (term_uses (term_of known t))
+    reads i o (ANumber n) = refl
+    reads i o (ASpecial letter p) = sym (ap (all_under (innermost i o)) (special_reads letter))
+    reads i o (AName word e) =
+        let t = term_named known word.text in
+        let own = innermost (innermost e i) o in
+        append-nil (names_read known own (word.text ∷ []))
+        ∙ append-nil (term_uses (extended_if own t))
+        ∙ extended_uses own t
+        ∙ sym (nested_uses e i o t)
+    reads i o (ASet p ms e) = members_read (innermost e i) o ms ∙ sym (nested_uses e i o (Set (terms_of known ms)))
+    reads i o (AParen p t) = reads i o t
+    reads i o (AUnary sign p t) = reads i o t
+    reads i o (ABinary sign p t u) =
+        flat_map-append (reads_used known o) (names_used i t) (names_used i u)
+        ∙ ap₂ (λ us vs. us ++ vs) (reads i o t) (reads i o u)
+        ∙ sym (map-append (under (innermost i o)) (term_uses (term_of known t)) (term_uses (term_of known u)))
 
-    members_read : (o : Option Extension) (ms : Members) → plain (members_located known o ms) ≡ all_term_uses (each_if o (terms_of known ms))
-    members_read o NoMember = sym (none_read o)
-    members_read o (MoreMembers m ms) =
-        map-append (λ (v : PlacedUse). v.read) (member_located known o m) (members_located known o ms)
-        ∙ member_read o m (terms_of known ms) (plain (members_located known o ms)) (members_read o ms)
+    members_read : (i o : Option Extension) (ms : Members) → flat_map (reads_used known o) (members_used i ms) ≡ all_under (innermost i o) (all_term_uses (terms_of known ms))
+    members_read i o NoMember = refl
+    members_read i o (MoreMembers m ms) =
+        flat_map-append (reads_used known o) (member_used i m) (members_used i ms)
+        ∙ ap (λ us. flat_map (reads_used known o) (member_used i m) ++ us) (members_read i o ms)
+        ∙ member_read i o m (terms_of known ms)
 
-    member_read : (o : Option Extension) (m : SetMember) (ts : Terms) (rest : List SignalUse) → rest ≡ all_term_uses (each_if o ts)
-        → plain (member_located known o m) ++ rest ≡ all_term_uses (each_if o (member_before known m ts))
-    member_read o (OneMember t) ts rest is =
-        ap₂ (λ us vs. us ++ vs) (reads o t) is ∙ sym (before_reads o (term_of known t) ts)
-    member_read o (SpanMember first last) ts rest is = range_read o first.place (range_names first.text last.text) ts rest is
+    member_read : (i o : Option Extension) (m : SetMember) (ts : Terms)
+        → flat_map (reads_used known o) (member_used i m) ++ all_under (innermost i o) (all_term_uses ts) ≡ all_under (innermost i o) (all_term_uses (member_before known m ts))
+    member_read i o (OneMember t) ts =
+        ap (λ us. us ++ all_under (innermost i o) (all_term_uses ts)) (reads i o t)
+        ∙ sym (map-append (under (innermost i o)) (term_uses (term_of known t)) (all_term_uses ts))
+    member_read i o (SpanMember first last) ts =
+        let names = range_names first.text last.text in
+        ap (λ us. us ++ all_under (innermost i o) (all_term_uses ts)) (append-nil (names_read known (innermost i o) names)) ∙ named_read (innermost i o) names ts
+
+  -- what an expression reads with an extension
+  pub names_are_read : (o : Option Extension) (t : Tree) → flat_map (reads_used known o) (names_used None t) ≡ term_uses (extended_if o (term_of known t))
+  names_are_read o t = reads None o t ∙ sym (extended_uses o (term_of known t))
+
+  plain_at : (p : Place) (us : List SignalUse) → map (λ (u : PlacedUse). u.read) (all_at p us) ≡ us
+  plain_at p [] = refl
+  plain_at p (u ∷ us) = ap (λ vs. u ∷ vs) (plain_at p us)
+
+  plain_used : (us : List UsedName) → map (λ (u : PlacedUse). u.read) (flat_map (uses_used known) us) ≡ flat_map (reads_used known None) us
+  plain_used [] = refl
+  plain_used (u ∷ us) =
+      map-append (λ (v : PlacedUse). v.read) (uses_used known u) (flat_map (uses_used known) us)
+      ∙ ap₂ (λ vs ws. vs ++ ws) (plain_at u.first.place (reads_used known None u)) (plain_used us)
 
 pub uses_read : UsesAreRead
-uses_read d t = reads d.known None t
+uses_read d t = plain_used d.known (names_used None t) ∙ names_are_read d.known None t

@@ -3,13 +3,12 @@ use Rattle.std.specs.Prelude.{◌≡◌, true, false, map}
 use Rattle.design_checks.specs.Prelude.{Leaf, Tree, Context, term_of, term_uses, use_reads}
 use Rattle.netlist_laws.specs.Takeable.{PinsApart, HasColumns}
 use Rattle.design_checks.specs.Example.{example_design, example_missing, example_unread}
-use Rattle.design_checks.specs.LocatedUses.{PlacedUse}
+use Rattle.design_checks.specs.LocatedUses.{PlacedUse, located}
 use Rattle.design_checks.specs.RefusedUses.{is_missing, is_unread, missing_uses, unread_uses}
-use Rattle.design_checks.specs.SectionUses.{expression_uses}
 
 -- the uses of an expression are what its term reads
 abbrev pub UsesAreRead : Type 0
-UsesAreRead = (d : Context) (t : Tree) → map (λ (u : PlacedUse). u.read) (expression_uses d t) ≡ term_uses (term_of d.known t)
+UsesAreRead = (d : Context) (t : Tree) → map (λ (u : PlacedUse). u.read) (located d.known t) ≡ term_uses (term_of d.known t)
 
 -- a use that isn't refused reads a leaf for which the device has columns, where no two names are one pin
 abbrev pub UsesHaveColumns : Type 0

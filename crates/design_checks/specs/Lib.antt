@@ -5,7 +5,6 @@ pub mod Fronts
 pub mod Learnt
 pub mod LocatedUses
 pub mod NameValues
-pub mod PartUses
 pub mod Prelude
 pub mod Refused
 pub mod RefusedUses
@@ -21,7 +20,6 @@ unfoldable pub use Fronts.*
 unfoldable pub use Learnt.*
 unfoldable pub use LocatedUses.*
 unfoldable pub use NameValues.*
-unfoldable pub use PartUses.*
 unfoldable pub use Refused.*
 unfoldable pub use RefusedUses.*
 unfoldable pub use SectionUses.*

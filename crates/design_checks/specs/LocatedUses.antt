@@ -1,7 +1,9 @@
 -- Where an expression reads signals: a signal that a constant brings stands at the constant's name, and each name of a
 -- range at its first end (this project's rule).
-use Rattle.std.specs.Prelude.{ℕ, Option, List, [], ◌∷◌, ◌++◌}
-use Rattle.design_checks.specs.Prelude.{Place, Extension, range_names, Tree, ANumber, ASpecial, AName, ASet, AParen, AUnary, ABinary, SetMember, OneMember, SpanMember, Members, NoMember, MoreMembers, Known, term_named, extended_if, innermost, SignalUse, term_uses}
+use Rattle.std.specs.Prelude.{ℕ, Option, None, Some, List, [], ◌∷◌}
+use Rattle.design_checks.specs.Prelude.{flat_map, Place, Extension, range_names, Tree, Known, term_named, extended_if, innermost, SignalUse, term_uses}
+use Rattle.abel_tree.specs.declared.words.Word.{Word}
+use Rattle.name_uses.specs.NamesUsed.{UsedName, names_used}
 
 -- a signal where an expression reads it, with what is asked of it, and its place in the expanded text
 pub record PlacedUse : Type 0 where
@@ -13,27 +15,23 @@ abbrev pub all_at : Place → List SignalUse → List PlacedUse
 all_at p [] = []
 all_at p (u ∷ us) = record { read = u; place = p } ∷ all_at p us
 
--- the names of a range, in a set with this extension
-abbrev pub range_located : List Known → Option Extension → Place → List (List ℕ) → List PlacedUse
-range_located known outer p [] = []
-range_located known outer p (name ∷ names) =
-    all_at p (term_uses (extended_if outer (term_named known name))) ++ range_located known outer p names
+-- the names from one to another, or one name
+abbrev pub names_to : Word → Option Word → List (List ℕ)
+names_to first None = first.text ∷ []
+names_to first (Some last) = range_names first.text last.text
 
--- the reads of an expression that stands in a set with this extension, from the left
-abbrev mutual
-  pub located : List Known → Option Extension → Tree → List PlacedUse
-  located known outer (ANumber n) = []
-  located known outer (ASpecial letter p) = []
-  located known outer (AName word e) = all_at word.place (term_uses (extended_if outer (extended_if e (term_named known word.text))))
-  located known outer (ASet p ms e) = members_located known (innermost e outer) ms
-  located known outer (AParen p t) = located known outer t
-  located known outer (AUnary sign p t) = located known outer t
-  located known outer (ABinary sign p t u) = located known outer t ++ located known outer u
+-- what names read with this extension
+abbrev pub names_read : List Known → Option Extension → List (List ℕ) → List SignalUse
+names_read known e names = flat_map (λ (n : List ℕ). term_uses (extended_if e (term_named known n))) names
 
-  pub members_located : List Known → Option Extension → Members → List PlacedUse
-  members_located known outer NoMember = []
-  members_located known outer (MoreMembers m ms) = member_located known outer m ++ members_located known outer ms
+-- what is read where an expression uses names, in a set with this extension
+abbrev pub reads_used : List Known → (outer : Option Extension) → UsedName → List SignalUse
+reads_used known outer u = names_read known (innermost u.extension outer) (names_to u.first u.last)
 
-  pub member_located : List Known → Option Extension → SetMember → List PlacedUse
-  member_located known outer (OneMember t) = located known outer t
-  member_located known outer (SpanMember first last) = range_located known outer first.place (range_names first.text last.text)
+-- the same at its place, in no further set
+abbrev pub uses_used : List Known → UsedName → List PlacedUse
+uses_used known u = all_at u.first.place (reads_used known None u)
+
+-- the reads of an expression, from the left
+abbrev pub located : List Known → Tree → List PlacedUse
+located known t = flat_map (uses_used known) (names_used None t)

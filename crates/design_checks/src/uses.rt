@@ -1,6 +1,6 @@
 //! The first refused use of a source.
 
-ghost use Rattle.std.specs.Prelude.{◌≡◌, None, IfOk, map};
+ghost use Rattle.std.specs.Prelude.{◌≡◌, IfOk, map};
 ghost use Rattle.design_checks.specs.Prelude.{flat_map, view_section, Context, Design, view_part, view_role, view_use, IsContextOf};
 ghost use Rattle.design_checks.specs.{Knows, first_refused, is_read, part_uses, uses_used, refused_uses, first_use};
 
@@ -24,7 +24,7 @@ fn first_of_uses(
     uses: &[NameUse<'_>],
 ) -> Result<Option<RefusedUse>, OutOfMemory>
     ensures { IfOk result (λ f. (d : Context) → Knows d names.now
-        → f ≡ first_refused names.now.rule d (flat_map (uses_used d.known None) (map view_use uses.now))) }
+        → f ≡ first_refused names.now.rule d (flat_map (uses_used d.known) (map view_use uses.now))) }
 {
     let mut first = None;
     for used in uses {

@@ -66,7 +66,7 @@ pub use Rattle.decls.specs.Refused.{counts_differ, counts_refused, declaration_r
 pub use Rattle.decls.specs.Refused.{is_device, is_signal_pin, items_refused, name_refused, names_refused, node_limit, number_refused, parts_refused}
 pub use Rattle.decls.specs.Refused.{ranges_refused, refused_if, use_refused, uses_refused}
 pub use Rattle.decls.specs.Shown.{view_given}
-pub use Rattle.design_checks.specs.LocatedUses.{PlacedUse, all_at, located, member_located, members_located, range_located}
+pub use Rattle.design_checks.specs.LocatedUses.{PlacedUse, all_at}
 pub use Rattle.design_checks.specs.RefusedUses.{has_read_path, has_read_path_on, reads_by}
 pub use Rattle.design_checks.specs.SignalsRefused.{has_wrong_kind, has_wrong_kind_by, has_wrong_kind_on, is_registered_by, is_registered_node}
 pub use Rattle.name_uses.specs.Parts.{PartTree, Registers, part, parts_in_section}

@@ -11,7 +11,6 @@ pub mod GivenPins
 pub mod Items
 pub mod Joins
 pub mod Known
-pub mod Located
 pub mod MadeModules
 pub mod Mapped
 pub mod Names

@@ -1,105 +1,140 @@
 -- Every use of a design is a read.
-use Rattle.std.proofs.Common.{◌≡◌, ◌⊎◌, ℕ, Bool, true, false, ◌==◌, Option, None, Some, List, [], ◌∷◌, ◌++◌, if◌then◌else◌, ap, sym, ◌∙◌, inl, inr}
-use Rattle.placer.proofs.Common.{list_any, flat_map, true≢false, or_cases, or_left, or_right, list_any-append, Tree, Statement, AnAssign, AWhen, AGroup, ADontCare, Otherwise, NoElse, AnElse, Statements, NoStatement, MoreStatements, statements_of, Branch, AGoal, AnIf, ACase, OtherBranch, NoBranch, ABranch, Choices, NoChoice, MoreChoices, StateTree, SectionTree, Declarations, Equations, ATable, ADiagram, SomeVectors, DontCareSection, Context, Part, ATarget, AValue, statement_parts, else_parts, statements_parts, list_parts, with_parts, branch_parts, other_parts, choices_parts, branches_parts, states_parts, known_of, PlacedUse, located, read_names_of, read_parts, reads}
-use Rattle.design_checks.specs.SectionUses.{is_compared, expression_uses, statement_uses, else_uses, statements_uses, with_uses, branch_uses, other_uses, choices_uses, branches_uses, states_uses, section_uses, sections_uses}
-use Rattle.placer.proofs.Located.{located_same}
+use Rattle.std.proofs.Common.{◌≡◌, ℕ, suc, Bool, true, false, not, ◌||◌, ◌==◌, inl, inr, Option, None, Some, List, [], ◌∷◌, ◌++◌, if◌then◌else◌, map, refl, ap, ap₂, sym, ◌∙◌, append-nil, bytes_eq}
+use Rattle.placer.proofs.Common.{list_any, flat_map, or_cases, or_left, or_right, list_any-append, Place, Extension, Named, signals_of_name, signals_of_names, Kind, APin, ANode, AConstant, ADeviceName, Entry, innermost, range_names, Tree, SectionTree, Context, Known, term_named, extended_if, term_of, term_meant, known_after, known_of, PartTree, parts_in_section, PlacedUse, all_at, signals_at, signals_in, signals_used, parts_of, read_in, read_parts, reads, stands_for, read_after, read_names_of}
+use Rattle.std.proofs.lemmas.List.Folds.{flat_map-map}
+use Rattle.abel_tree.specs.declared.words.Word.{Word}
+use Rattle.decls.specs.PartUses.{use_to}
+use Rattle.name_uses.specs.NamesUsed.{UsedName, names_used}
+use Rattle.name_uses.specs.Parts.{PartRole, Read, Registers, Value}
+use Rattle.name_uses.specs.Viewed.{with_parts}
+use Rattle.netlist_laws.specs.SignalUses.{SignalUse, term_uses}
+use Rattle.design_checks.specs.LocatedUses.{names_read, names_to, reads_used, uses_used}
+use Rattle.design_checks.specs.SectionUses.{is_compared, is_read, part_uses}
+use Rattle.design_checks.proofs.UsesRead.{extended_uses, names_are_read, under}
+use Rattle.placer.specs.PartReads.{reads_as}
+use Rattle.placer.proofs.PartsRead.{sections_read}
+use Rattle.placer.proofs.UsedSignals.{names_signals}
 
-split : {X : Type 0} (p : X → Bool) (xs ys : List X) → list_any p (xs ++ ys) ≡ true → (list_any p xs ≡ true) ⊎ (list_any p ys ≡ true)
-split p xs ys found = or_cases (list_any p xs) (list_any p ys) (sym (list_any-append p xs ys) ∙ found)
+-- where each gives one that passes in both ways, so do all
+alike : {X A B : Type 0} (p : A → Bool) (q : B → Bool) (f : X → List A) (g : X → List B) → ((x : X) → list_any p (f x) ≡ list_any q (g x)) → (xs : List X) → list_any p (flat_map f xs) ≡ list_any q (flat_map g xs)
+alike p q f g same [] = refl
+alike p q f g same (x ∷ xs) = list_any-append p (f x) (flat_map f xs) ∙ (ap₂ (λ a b. a || b) (same x) (alike p q f g same xs) ∙ sym (list_any-append q (g x) (flat_map g xs)))
 
-front : {X : Type 0} (p : X → Bool) (xs ys : List X) → list_any p xs ≡ true → list_any p (xs ++ ys) ≡ true
-front p xs ys found = list_any-append p xs ys ∙ or_left (list_any p xs) (list_any p ys) found
+module _ (s : ℕ) where
+  -- the uses read the signal, wherever they stand, and the numbers have it
+  abbrev read_by : List SignalUse → Bool
+  read_by us = list_any (λ (u : SignalUse). u.signal == s) us
 
-back : {X : Type 0} (p : X → Bool) (xs ys : List X) → list_any p ys ≡ true → list_any p (xs ++ ys) ≡ true
-back p xs ys found = list_any-append p xs ys ∙ or_right (list_any p xs) (list_any p ys) found
+  abbrev pub located_by : List PlacedUse → Bool
+  located_by us = list_any (λ (u : PlacedUse). u.read.signal == s) us
+
+  abbrev pub in_numbers : List ℕ → Bool
+  in_numbers ns = list_any (λ n. n == s) ns
+
+  under_same : (o : Option Extension) (us : List SignalUse) → read_by (map (under o) us) ≡ read_by us
+  under_same o [] = refl
+  under_same o (u ∷ us) = ap (λ b. (u.signal == s) || b) (under_same o us)
+
+  at_same : (p : Place) (us : List SignalUse) → located_by (all_at p us) ≡ read_by us
+  at_same p [] = refl
+  at_same p (u ∷ us) = ap (λ b. (u.signal == s) || b) (at_same p us)
+
+  -- ---- names
+
+  -- each name stands for the same in both lists, as far as the signal is read
+  abbrev pub AreAlike : List Known → List Named → Type 0
+  AreAlike [] [] = Unit {0}
+  AreAlike [] (n ∷ ns) = ⊥
+  AreAlike (k ∷ ks) [] = ⊥
+  AreAlike (k ∷ ks) (n ∷ ns) = (k.name ≡ n.name) × ((read_by (term_uses k.term) ≡ in_numbers n.signals) × AreAlike ks ns)
+
+  name_same : (ks : List Known) (ns : List Named) → AreAlike ks ns → (name : List ℕ) → read_by (term_uses (term_named ks name)) ≡ in_numbers (signals_of_name ns name)
+  name_same [] [] are name = refl
+  name_same [] (n ∷ ns) are name = absurd are
+  name_same (k ∷ ks) [] are name = absurd are
+  name_same (k ∷ ks) (n ∷ ns) are name =
+      pick (bytes_eq name k.name) (name_same ks ns are.1.1 name) ∙ ap (λ b. in_numbers (if b then n.signals else signals_of_name ns name)) (ap (bytes_eq name) are.0)
+    where
+      pick : (b : Bool) → read_by (term_uses (term_named ks name)) ≡ in_numbers (signals_of_name ns name) → read_by (term_uses (if b then k.term else term_named ks name)) ≡ in_numbers (if b then n.signals else signals_of_name ns name)
+      pick true later = are.1.0
+      pick false later = later
+
+  module _ (ks : List Known) (ns : List Named) (are : AreAlike ks ns) where
+    names_same : (o : Option Extension) (names : List (List ℕ)) → read_by (names_read ks o names) ≡ in_numbers (signals_of_names ns names)
+    names_same o [] = refl
+    names_same o (name ∷ names) =
+        let t = term_named ks name in
+        list_any-append (λ (u : SignalUse). u.signal == s) (term_uses (extended_if o t)) (names_read ks o names)
+        ∙ (ap₂ (λ a b. a || b) (ap read_by (extended_uses o t) ∙ (under_same o (term_uses t) ∙ name_same ks ns are name)) (names_same o names)
+        ∙ sym (list_any-append (λ n. n == s) (signals_of_name ns name) (signals_of_names ns names)))
+
+    used_same : (u : UsedName) → read_by (reads_used ks None u) ≡ in_numbers (signals_at ns u)
+    used_same u = by u.last
+      where
+        by : (last : Option Word) → read_by (names_read ks (innermost u.extension None) (names_to u.first last)) ≡ in_numbers (signals_used ns (use_to u.first last))
+        by None = names_same (innermost u.extension None) (u.first.text ∷ []) ∙ ap in_numbers (append-nil (signals_of_name ns u.first.text))
+        by (Some last) = names_same (innermost u.extension None) (range_names u.first.text last.text)
+
+    term_same : (t : Tree) → read_by (term_uses (term_of ks t)) ≡ in_numbers (signals_in ns t)
+    term_same t =
+        ap read_by (sym (names_are_read ks None t))
+        ∙ (alike (λ (u : SignalUse). u.signal == s) (λ n. n == s) (reads_used ks None) (signals_at ns) used_same (names_used None t) ∙ ap in_numbers (names_signals ns None t))
+
+    pub uses_same : (us : List UsedName) → located_by (flat_map (uses_used ks) us) ≡ in_numbers (flat_map (signals_at ns) us)
+    uses_same us = alike (λ (u : PlacedUse). u.read.signal == s) (λ n. n == s) (uses_used ks) (signals_at ns) (λ u. at_same u.first.place (reads_used ks None u) ∙ used_same u) us
+
+  -- ---- all names of a list
+
+  meant_same : (ks : List Known) (ns : List Named) → AreAlike ks ns → (i : ℕ) (k : Kind) → read_by (term_uses (term_meant ks i k)) ≡ in_numbers (stands_for ns i k)
+  meant_same ks ns are i (APin pin negated) = refl
+  meant_same ks ns are i (ANode number) = refl
+  meant_same ks ns are i (AConstant value) = term_same ks ns are value
+  meant_same ks ns are i ADeviceName = refl
+
+  alike_push : (ks : List Known) (ns : List Named) (k : Known) (n : Named) → AreAlike ks ns → k.name ≡ n.name → read_by (term_uses k.term) ≡ in_numbers n.signals → AreAlike (ks ++ k ∷ []) (ns ++ n ∷ [])
+  alike_push [] [] k n are name signals = (name, (signals, tt))
+  alike_push [] (m ∷ ns) k n are name signals = absurd are
+  alike_push (j ∷ ks) [] k n are name signals = absurd are
+  alike_push (j ∷ ks) (m ∷ ns) k n are name signals = (are.0, (are.1.0, alike_push ks ns k n are.1.1 name signals))
+
+  after_same : (ks : List Known) (ns : List Named) → AreAlike ks ns → (i : ℕ) (es : List Entry) → AreAlike (known_after ks i es) (read_after ns i es)
+  after_same ks ns are i [] = are
+  after_same ks ns are i (e ∷ es) =
+      after_same (ks ++ record { name = e.name; term = term_meant ks i e.kind } ∷ []) (ns ++ record { name = e.name; signals = stands_for ns i e.kind } ∷ [])
+      (alike_push ks ns (record { name = e.name; term = term_meant ks i e.kind }) (record { name = e.name; signals = stands_for ns i e.kind }) are refl (meant_same ks ns are i e.kind)) (suc i) es
+
+-- ---- parts
 
 module _ (d : Context) (known : d.known ≡ known_of d.names) (s : ℕ) where
-  abbrev is_of : PlacedUse → Bool
-  is_of u = u.read.signal == s
+  abbrev ns : List Named
+  ns = read_names_of d.names
 
-  -- a use of these is a read of those
-  abbrev Covers : List PlacedUse → List Part → Type 0
-  Covers us ps = list_any is_of us ≡ true → list_any (reads (read_names_of d.names) s) ps ≡ true
+  used : (us : List UsedName) → located_by s (flat_map (uses_used d.known) us) ≡ true → in_numbers s (flat_map (signals_at ns) us) ≡ true
+  used us found = sym (ap (λ ks. located_by s (flat_map (uses_used ks) us)) known ∙ uses_same s (known_of d.names) ns (after_same s [] [] tt 0 d.names) us) ∙ found
 
-  none : (ps : List Part) → Covers [] ps
-  none ps found = absurd (true≢false (sym found))
+  part_read : (p : PartTree) → located_by s (part_uses d p) ≡ true → in_numbers s (read_in ns p) ≡ true
+  part_read p = by p.role
+    where
+      unless : (b : Bool) → located_by s (if b then flat_map (uses_used d.known) p.uses else []) ≡ true → located_by s (flat_map (uses_used d.known) p.uses) ≡ true
+      unless true found = found
+      unless false found = absurd cc
 
-  both : (us vs : List PlacedUse) (ps qs : List Part) → Covers us ps → Covers vs qs → Covers (us ++ vs) (ps ++ qs)
-  both us vs ps qs first second found =
-      elim (split is_of us vs found) [ inl here ↦ front (reads (read_names_of d.names) s) ps qs (first here) | inr later ↦ back (reads (read_names_of d.names) s) ps qs (second later) ]
+      by : (r : PartRole) → located_by s (if is_read d r then flat_map (uses_used d.known) p.uses else []) ≡ true → in_numbers s (if reads_as r then flat_map (signals_at ns) p.uses else []) ≡ true
+      by (Value target) found = used p.uses (unless (not (is_compared d target)) found)
+      by Read found = used p.uses found
+      by Registers found = used p.uses found
+      by _ found = absurd cc
 
-  expression_same : (t : Tree) → list_any is_of (expression_uses d t) ≡ reads (read_names_of d.names) s (AValue t)
-  expression_same t = ap (λ ks. list_any is_of (located ks None t)) known ∙ located_same d.names s t
+  parts_read : (ps : List PartTree) → located_by s (flat_map (part_uses d) ps) ≡ true → in_numbers s (flat_map (read_in ns) ps) ≡ true
+  parts_read [] found = absurd cc
+  parts_read (p ∷ ps) found =
+      let here = in_numbers s (read_in ns p) in
+      let later = in_numbers s (flat_map (read_in ns) ps) in
+      let found = sym (list_any-append (λ (u : PlacedUse). u.read.signal == s) (part_uses d p) (flat_map (part_uses d) ps)) ∙ found in
+      list_any-append (λ n. n == s) (read_in ns p) (flat_map (read_in ns) ps)
+      ∙ elim (or_cases (located_by s (part_uses d p)) (located_by s (flat_map (part_uses d) ps)) found) [ inl one ↦ or_left here later (part_read p one) | inr more ↦ or_right here later (parts_read ps more) ]
 
-  read : (t : Tree) → Covers (expression_uses d t) (AValue t ∷ [])
-  read t found = or_left (reads (read_names_of d.names) s (AValue t)) false (sym (expression_same t) ∙ found)
-
-  choice : (b : Bool) (us : List PlacedUse) (ps : List Part) → Covers us ps → Covers (if b then [] else us) ps
-  choice true us ps covers = none ps
-  choice false us ps covers = covers
-
-  mutual
-    of_statement : (x : Statement) → Covers (statement_uses d x) (statement_parts x)
-    of_statement (AnAssign place complement target sign sign_place value) =
-        choice (is_compared d target) (expression_uses d value) (ATarget target ∷ AValue value ∷ []) (read value)
-    of_statement (AWhen place c x other) =
-        both (expression_uses d c) (statement_uses d x ++ else_uses d other) (AValue c ∷ []) (statement_parts x ++ else_parts other) (read c)
-        (both (statement_uses d x) (else_uses d other) (statement_parts x) (else_parts other) (of_statement x) (of_else other))
-    of_statement (AGroup xs) = of_statements xs
-    of_statement (ADontCare directive) = none []
-
-    of_else : (x : Otherwise) → Covers (else_uses d x) (else_parts x)
-    of_else NoElse = none []
-    of_else (AnElse x) = of_statement x
-
-    of_statements : (xs : Statements) → Covers (statements_uses d xs) (statements_parts xs)
-    of_statements NoStatement = none []
-    of_statements (MoreStatements x xs) = both (statement_uses d x) (statements_uses d xs) (statement_parts x) (statements_parts xs) (of_statement x) (of_statements xs)
-
-  of_list : (xs : List Statement) → Covers (statements_uses d (statements_of xs)) (list_parts xs)
-  of_list [] = none []
-  of_list (x ∷ xs) = both (statement_uses d x) (statements_uses d (statements_of xs)) (statement_parts x) (list_parts xs) (of_statement x) (of_list xs)
-
-  of_with : (xs : Option (List Statement)) → Covers (with_uses d xs) (with_parts xs)
-  of_with None = none []
-  of_with (Some xs) = of_list xs
-
-  mutual
-    of_branch : (x : Branch) → Covers (branch_uses d x) (branch_parts x)
-    of_branch (AGoal place value xs) = both (expression_uses d value) (with_uses d xs) (AValue value ∷ []) (with_parts xs) (read value) (of_with xs)
-    of_branch (AnIf place c x other) =
-        both (expression_uses d c) (branch_uses d x ++ other_uses d other) (AValue c ∷ []) (branch_parts x ++ other_parts other) (read c)
-        (both (branch_uses d x) (other_uses d other) (branch_parts x) (other_parts other) (of_branch x) (of_other other))
-    of_branch (ACase place xs) = of_choices xs
-
-    of_other : (x : OtherBranch) → Covers (other_uses d x) (other_parts x)
-    of_other NoBranch = none []
-    of_other (ABranch x) = of_branch x
-
-    of_choices : (xs : Choices) → Covers (choices_uses d xs) (choices_parts xs)
-    of_choices NoChoice = none []
-    of_choices (MoreChoices c colon x xs) =
-        both (expression_uses d c) (branch_uses d x ++ choices_uses d xs) (AValue c ∷ []) (branch_parts x ++ choices_parts xs) (read c)
-        (both (branch_uses d x) (choices_uses d xs) (branch_parts x) (choices_parts xs) (of_branch x) (of_choices xs))
-
-  of_branches : (xs : List Branch) → Covers (branches_uses d xs) (branches_parts xs)
-  of_branches [] = none []
-  of_branches (x ∷ xs) = both (branch_uses d x) (branches_uses d xs) (branch_parts x) (branches_parts xs) (of_branch x) (of_branches xs)
-
-  of_states : (xs : List StateTree) → Covers (states_uses d xs) (states_parts xs)
-  of_states [] = none []
-  of_states (x ∷ xs) =
-      both (statements_uses d (statements_of x.statements)) (branches_uses d x.transitions ++ states_uses d xs) (list_parts x.statements) (branches_parts x.transitions ++ states_parts xs) (of_list x.statements)
-      (both (branches_uses d x.transitions) (states_uses d xs) (branches_parts x.transitions) (states_parts xs) (of_branches x.transitions) (of_states xs))
-
-  of_section : (x : SectionTree) → Covers (section_uses d x) (read_parts x)
-  of_section (Declarations ds) = none []
-  of_section (Equations xs) = of_list xs
-  of_section (ATable place inputs clocked outputs rows) = read inputs
-  of_section (ADiagram place registers states) = both (expression_uses d registers) (states_uses d states) (AValue registers ∷ []) (states_parts states) (read registers) (of_states states)
-  of_section (SomeVectors text place inputs outputs rows) = none []
-  of_section (DontCareSection directive) = none []
-
-  pub of_sections : (xs : List SectionTree) → Covers (sections_uses d xs) (flat_map read_parts xs)
-  of_sections [] = none []
-  of_sections (x ∷ xs) = both (section_uses d x) (sections_uses d xs) (read_parts x) (flat_map read_parts xs) (of_section x) (of_sections xs)
+  pub of_sections : (xs : List SectionTree) → located_by s (flat_map (part_uses d) (flat_map parts_in_section xs)) ≡ true → list_any (reads ns s) (flat_map read_parts xs) ≡ true
+  of_sections xs found =
+      sym (sections_read ns s xs)
+      ∙ (ap (λ ps. in_numbers s (flat_map (read_in ns) ps)) (flat_map-map parts_of with_parts xs) ∙ parts_read (flat_map parts_in_section xs) found)

@@ -3,7 +3,7 @@ use Rattle.std.proofs.Common.{◌≡◌, Option, None, Some, map, ap, ◌∙◌}
 use Rattle.design_checks.proofs.Common.{flat_map, Extension, view, term_of, view_use, first_read, positions_of, read_of, reads_used}
 use Rattle.abel_tree.specs.declared.words.Extension.TheVariants as extension
 use Rattle.design_checks.proofs.LearntName.{kept_is}
-use Rattle.design_checks.proofs.PartedUses.{names_are_read}
+use Rattle.design_checks.proofs.UsesRead.{names_are_read}
 use Rattle.design_checks.proofs.learning.constant_uses.Goals as goal
 
 pub returns : goal.returns

@@ -11,4 +11,4 @@ loop-used-preserved c d knows =
     let u = view_use c.used-item.result in
     c.earlier-first.ensures
     ∙ ap₂ (earlier use_order) (l.invariant d knows) (c.use_at.ensures ∙ ap (use_at u.first.place) (c.in_ok-signal.ensures d knows) ∙ uses_placed r d u.first.place (reads_used d.known None u))
-    ∙ joined_more (first_refused r d) (earlier use_order) (uses_append r d) view_use (uses_used d.known None) c.args.uses.now l.used-index c.used-item.result c.loop-used-test.true c.used-item.is
+    ∙ joined_more (first_refused r d) (earlier use_order) (uses_append r d) view_use (uses_used d.known) c.args.uses.now l.used-index c.used-item.result c.loop-used-test.true c.used-item.is
