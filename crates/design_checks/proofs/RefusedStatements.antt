@@ -1,10 +1,8 @@
 -- Equations that are refused, one more.
 use Rattle.std.proofs.Common.{◌≡◌, ℕ, suc, ◌+◌, ◌<◌, ◌≤◌, nat_lt, Bool, true, false, List, [], ◌∷◌, ◌++◌, length, map, refl, rules, sym, ap, ◌∙◌, arith, append_assoc, append-nil, Option, Some, not, option_map}
-use Rattle.design_checks.proofs.Common.{and_right, nat_tests, Extension, Entry, first_refusal, AWhen, Statement, AGroup, statements_of, otherwise_of, view, view_stmt, stmt_layer, when_layer, Table, Context, name_at, RefusedUse, told_if, use_order, is_compared_of, list_refused, may_be_compared, Written, else_refused, aim_refused, aims_refused, is_written_at, narrow, statement_refused}
+use Rattle.design_checks.proofs.Common.{and_right, nat_tests, Extension, Entry, first_refusal, AWhen, Statement, AGroup, statements_of, otherwise_of, view, view_stmt, Table, Context, name_at, RefusedUse, told_if, use_order, is_compared_of, list_refused, may_be_compared, Written, else_refused, aim_refused, aims_refused, is_written_at, narrow, statement_refused}
 use Rattle.abel_tree.specs.declared.statements.Stmt.{Stmt, the_lemmas as stmt_lemmas}
 use Rattle.abel_tree.specs.declared.statements.Stmt as stmt
-use Rattle.abel_tree.specs.declared.statements.Stmt.TheFolds.{fold-roll-Stmt}
-use Rattle.abel_tree.specs.declared.statements.Stmt.TheOpen as open_stmt
 use Rattle.abel_tree.specs.declared.statements.When.{When}
 use Rattle.abel_tree.specs.declared.words.Extension.TheVariants as extension
 use Rattle.section_targets.specs.declared.aim.Aim.{Aim}
@@ -63,8 +61,7 @@ refused_of_when d guarded x w o e i =
     ∙ sym (ap (λ y. statement_refused d guarded (view_stmt y)) e ∙ ap (statement_refused d guarded) (when_is w))
 
 view_group : (list : List Stmt) → view_stmt (stmt.Group list) ≡ AGroup (statements_of (map view_stmt list))
-unfolding stmt.roll-Stmt denote.Hole.Carrier.roll
-view_group list = fold-roll-Stmt Statement Statement stmt_layer when_layer (open_stmt.Group list)
+view_group list = search (rules, stmt_lemmas)
 
 -- what is refused of a group
 pub refused_of_group : (d : Context) (guarded : Bool) (x : Stmt) (list : List Stmt) → x ≡ stmt.Group list → list_refused d guarded (map view_stmt list) ≡ statement_refused d guarded (view_stmt x)

@@ -2,7 +2,7 @@
 
 ghost use Rattle.std.specs.Prelude.{◌≡◌, ◌==◌, ◌&&◌};
 ghost use Rattle.design_checks.specs.Prelude.{list_any, Cell, must_register, view_declared};
-ghost use Rattle.design_checks.specs.{carries_level, has_extension, has_read_path_on, refuses_use};
+ghost use Rattle.design_checks.specs.{has_extension, has_read_path_on, refuses_use};
 
 use crate::name_facts::has_wrong_kind_on;
 use abel_tree::{Declared, Extension, Meaning};
@@ -37,14 +37,6 @@ fn has_extension<D: Device>(declared: &Declared, extension: Option<Extension>) -
     }
 }
 
-/// Whether columns carry the level of the pin: not so where nothing is assigned to a cell on it that must be a register, as
-/// a combinational signal can't be on it.
-fn carries_level<D: Device>(declared: &Declared, pin: u8) -> bool
-    ensures { result ≡ carries_level D.table (view_declared declared.now) pin }
-{
-    pair_of_pin::<D>(pin).is_some() && (declared.assigned || !has_wrong_kind_on::<D>(pin, false))
-}
-
 /// Whether columns would carry what the extension names of the signal, if it were on this pin.
 pub fn has_read_path_on<D: Device>(
     declared: &Declared,
@@ -60,7 +52,10 @@ pub fn has_read_path_on<D: Device>(
                 None => false,
             }
     } else {
-        matches!(extension, None | Some(Extension::Pin)) && carries_level::<D>(declared, pin)
+        // a cell that must be a register carries no level where nothing is assigned, as a combinational signal can't be on it
+        matches!(extension, None | Some(Extension::Pin))
+            && pair_of_pin::<D>(pin).is_some()
+            && (declared.assigned || !has_wrong_kind_on::<D>(pin, false))
     }
 }
 
