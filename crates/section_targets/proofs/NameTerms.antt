@@ -13,11 +13,11 @@ position_past test i (x ∷ es) j e = elim (cases_cond (test x) (Some i) (positi
 ]
 
 -- what stands at a place, a number where nothing does
-abbrev term_or : Option Known → Term
+abbrev pub term_or : Option Known → Term
 term_or None = Number 0
 term_or (Some k) = k.term
 
-abbrev term_at : List Known → Option ℕ → Term
+abbrev pub term_at : List Known → Option ℕ → Term
 term_at ks None = Number 0
 term_at ks (Some i) = term_or (slice_get ks i)
 
@@ -49,7 +49,7 @@ placed_from i before (k ∷ ks) (x ∷ es) later w l e =
     (subst (λ ms. term_named ks w ≡ term_at ms (position_from (λ (e : Entry). bytes_eq w e.name) (i + 1) es)) (append_assoc before (k ∷ []) ks)
     (placed_from (i + 1) (before ++ k ∷ []) ks es later w (omega (arith, l, length-append before (k ∷ []))) rest))
 
-placed : (ks : List Known) (es : List Entry) (later : List (List ℕ)) (w : List ℕ) → map (λ (e : Entry). e.name) es ≡ map (λ (k : Known). k.name) ks ++ later → term_named ks w ≡ term_at ks (find es w)
+pub placed : (ks : List Known) (es : List Entry) (later : List (List ℕ)) (w : List ℕ) → map (λ (e : Entry). e.name) es ≡ map (λ (k : Known). k.name) ks ++ later → term_named ks w ≡ term_at ks (find es w)
 placed ks es later w h =
     subst (λ o. term_named ks w ≡ term_at ks o) (sym (position_from-zero (λ (e : Entry). bytes_eq w e.name) es))
     (placed_from 0 [] ks es later w refl h)
