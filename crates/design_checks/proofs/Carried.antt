@@ -1,6 +1,6 @@
 -- A use that isn't refused reads a leaf for which the device has columns.
 use Rattle.std.proofs.Common.{◌≡◌, ℕ, ◌<◌, ◌==◌, Bool, true, false, not, ◌&&◌, ◌||◌, List, length, get_or, Option, Some, None, refl, sym, ap, ◌∙◌, subst, inl, inr, position, is_some}
-use Rattle.design_checks.proofs.Common.{list_any, cases_Bool, true≢false, eqb-true, eq-eqb, and_parts, list_any_at, slice_get-get_or, cell_at, no_cell, same_leaf, Extension, Kind, APin, ANode, ADeviceName, Entry, is_stored, follows_q, Context, name_at, no_name, holds_leaf, carries_level, carries_q, reads_register, reads_pin, reads_by, has_read_path}
+use Rattle.design_checks.proofs.Common.{list_any, cases_Bool, true≢false, eqb-true, eq-eqb, and_parts, list_any_at, slice_get-get_or, cell_at, no_cell, same_leaf, Extension, Kind, APin, ANode, ADeviceName, Entry, is_stored, follows_q, Context, name_at, no_name, holds_leaf, carries_level, carries_q, reads_register, reads_pin, reads_by, has_read_path, has_extension, UsesHaveColumns}
 use Rattle.std.proofs.lemmas.List.Quantifiers.{position-Some}
 use Rattle.pld_device.specs.declared.carry.Carry.{Carry}
 use Rattle.pld_device.specs.declared.carry.Carry.TheVariants as carry
@@ -108,5 +108,18 @@ module _ (d : Context) (apart : PinsApart d) where
   by_kind s (ANode n) e l kind there is = node_read n e l is
   by_kind s _ e l kind there is = absurd cc
 
-  pub carried : (s : ℕ) (e : Option Extension) (l : Leaf) → has_read_path d.device (name_at d s) e ≡ true → holds_leaf (source_by d.device (name_at d s) (name_at d s).kind e) l ≡ true → HasColumns d l
+  carried : (s : ℕ) (e : Option Extension) (l : Leaf) → has_read_path d.device (name_at d s) e ≡ true → holds_leaf (source_by d.device (name_at d s) (name_at d s).kind e) l ≡ true → HasColumns d l
   carried s e l there is = by_kind s (name_at d s).kind e l refl there is
+
+-- ---- the law of columns
+
+-- what isn't missing and isn't unread has a path
+has_path : (has path : Bool) → not has ≡ false → (not (not has) && not path) ≡ false → path ≡ true
+has_path true true known read = refl
+has_path _ _ known read = absurd cc
+
+pub uses_have_columns : UsesHaveColumns
+uses_have_columns d u l apart known read is =
+    carried d apart u.read.signal u.read.extension l
+    (has_path (has_extension d.device (name_at d u.read.signal) u.read.extension) (has_read_path d.device (name_at d u.read.signal) u.read.extension) known read)
+    is

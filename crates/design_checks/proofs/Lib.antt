@@ -1,5 +1,4 @@
 mod Carried
-mod ColumnLaw
 pub mod Common
 mod JoinedFirsts
 pub mod LearntName
@@ -8,4 +7,3 @@ mod PositionTerms
 mod RefusedStatements
 pub mod UsesRead
 mod Verdicts
-mod WrittenTerms

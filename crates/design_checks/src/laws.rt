@@ -9,7 +9,7 @@ pub fn uses_are_read()
 {}
 
 /// A use that isn't refused reads what some pair of columns carries. Does nothing.
-#[tactic(auto, using(crate::proofs::ColumnLaw::uses_have_columns))]
+#[tactic(auto, using(crate::proofs::Carried::uses_have_columns))]
 pub fn uses_have_columns()
     ensures { UsesHaveColumns }
 {}

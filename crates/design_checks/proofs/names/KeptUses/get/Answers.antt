@@ -1,7 +1,7 @@
 -- What isn't one of the names stands for no signal.
 use Rattle.std.proofs.Common.{◌≡◌, subst, ◌∙◌}
 use Rattle.design_checks.proofs.Common.{entries_of, term_named, uses_of}
-use Rattle.design_checks.proofs.PlacedNames.{placed, value_in}
+use Rattle.design_checks.proofs.PlacedNames.{value_in, value_named}
 use Rattle.design_checks.proofs.names.KeptUses.get.Goals as goal
 
 pub returns-in-None : goal.returns-in-None
@@ -10,7 +10,7 @@ returns-in-None c d knows =
     let of = uses_of kept.rule d in
     c.none.ensures
     ∙ subst (λ o. value_in of kept.list.now o ≡ of (term_named d.known c.args.text.now)) c.in-None.ensures.place
-    (placed of (entries_of kept.scope.now) kept.list.now d.known c.args.text.now knows)
+    (value_named of (entries_of kept.scope.now) kept.list.now d.known c.args.text.now knows)
 
 pub returns-in-Some : goal.returns-in-Some
 returns-in-Some c d knows =
@@ -18,4 +18,4 @@ returns-in-Some c d knows =
     let of = uses_of kept.rule d in
     c.at.ensures
     ∙ subst (λ o. value_in of kept.list.now o ≡ of (term_named d.known c.args.text.now)) c.in-Some.ensures.place
-    (placed of (entries_of kept.scope.now) kept.list.now d.known c.args.text.now knows)
+    (value_named of (entries_of kept.scope.now) kept.list.now d.known c.args.text.now knows)
