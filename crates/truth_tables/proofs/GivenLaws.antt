@@ -46,9 +46,8 @@ output_given n m what a id old new list more r h = λ d e.
 -- ---- one position
 
 level_places : (a : Aim) (l : Option Bool) → value_places a l ++ a.place ∷ [] ≡ row_places (Some a ∷ []) (l ∷ [])
-level_places a None = refl
-level_places a (Some true) = refl
 level_places a (Some false) = refl
+level_places a _ = refl
 
 -- a match behind what a level gives
 pub level_given : (d : Context) (g : Guard) (clocked : Bool) (a : Aim) (l : Option Bool) (id : ExprId) (old mid new : Contributions) (r : Result Unit SectionFault) → formula_at (arena mid.exprs) id ≡ formula_at (arena old.exprs) id
@@ -98,18 +97,14 @@ positions_step_at d g k id i xs ls fs old mid new r lt kept b s =
     (subst (λ f. DoesWork (positions_work d (record { holds = f; dontcare = g.dontcare; block = g.block }) k (x ∷ []) (l ∷ [])) mid new r) kept s)
 
 pub positions_left : (d : Context) (h : meant.Guard Formula) (k : Bool) (i : ℕ) (xs : List (Option Aim)) (ls : List (Option Bool)) → min (length xs) (length ls) ≤ i → positions_work d h k (drop i xs) (drop i ls) ≡ nothing
-positions_left d h k zero [] ls e = refl
-positions_left d h k zero (None ∷ xs) [] e = refl
-positions_left d h k zero (Some a ∷ xs) [] e = refl
 positions_left d h k zero (x ∷ xs) (l ∷ ls) e = absurd (omega (arith, e))
-positions_left d h k (suc i) [] ls e = refl
 positions_left d h k (suc i) (x ∷ xs) [] e = no_level (drop i xs)
   where
     no_level : (ys : List (Option Aim)) → positions_work d h k ys [] ≡ nothing
     no_level [] = refl
-    no_level (None ∷ ys) = refl
-    no_level (Some a ∷ ys) = refl
+    no_level _ = refl
 positions_left d h k (suc i) (x ∷ xs) (l ∷ ls) e = positions_left d h k i xs ls (omega (arith, e))
+positions_left d h k _ _ _ e = refl
 
 -- ---- no matches
 

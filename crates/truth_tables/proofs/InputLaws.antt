@@ -59,14 +59,12 @@ stand_reversed d h fs ps i u w =
 
 resized_same : (n : ℕ) (w : Word) → length w ≡ n → resized n w ≡ w
 resized_same zero [] e = refl
-resized_same zero (x ∷ w) e = absurd (omega (arith, e))
-resized_same (suc n) [] e = absurd (omega (arith, e))
 resized_same (suc n) (x ∷ w) e = ap (λ v. x ∷ v) (resized_same n w (omega (arith, e)))
+resized_same _ _ e = absurd (omega (arith, e))
 
 single_same : (n : ℕ) (w : Word) → length w ≡ 1 → met_by 1 Single n w ≡ w
-single_same n [] e = absurd (omega (arith, e))
 single_same n (x ∷ []) e = refl
-single_same n (x ∷ y ∷ w) e = absurd (omega (arith, e))
+single_same n _ e = absurd (omega (arith, e))
 
 bits_many : (fs : List Formula) (ps : List (Option ExprId)) → length (bits_at fs ps) ≡ length ps
 bits_many fs [] = refl
@@ -103,30 +101,24 @@ relation_or_not false sign v u e = ap (λ s. replicate (width_of s) false) e
 
 -- the X positions of a number: none, or those of the 32 bits that an operator makes
 number_unknown : (d : Context) (t : Term) → (constant_of d t).shape ≡ Number → (constant_of d t).unknown ≡ (if is_computed t then replicate 32 false else [])
-number_unknown d (term.Number n) e = refl
 number_unknown d term.X e = absurd cc
-number_unknown d term.Pulse e = refl
-number_unknown d term.Release e = refl
 number_unknown d (term.Read s f) e = absurd cc
 number_unknown d (term.Set NoTerm) e = absurd cc
 number_unknown d (term.Set (Before t ts)) e = absurd cc
 number_unknown d (term.UnaryOf sign t) e = number_unknown d t e
 number_unknown d (term.BinaryOf sign t u) e = relation_or_not (is_relation sign) sign (constant_of d t) (constant_of d u) e
+number_unknown d _ e = refl
 
 pub computed_extended : (e : Option Extension) (t : Term) → is_computed (extended_if e t) ≡ is_computed t
 computed_extended None t = refl
 computed_extended (Some e) t = each t
   where
     each : (t : Term) → is_computed (extended e t) ≡ is_computed t
-    each (term.Number n) = refl
-    each term.X = refl
-    each term.Pulse = refl
-    each term.Release = refl
-    each (term.Read s None) = refl
     each (term.Read s (Some f)) = refl
     each (term.Set ts) = refl
     each (term.UnaryOf sign t) = each t
     each (term.BinaryOf sign t u) = refl
+    each _ = refl
 
 -- a number that no operator makes has no position
 pub stand_none : (d : Context) (fs : List Formula) (h : Term) → (constant_of d h).shape ≡ Number → is_computed h ≡ false → StandForInputs d h fs []

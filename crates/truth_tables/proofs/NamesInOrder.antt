@@ -24,8 +24,6 @@ right_true false b e = absurd cc
 -- ---- names among the first
 
 found_from : (i k : ℕ) (es : List Entry) (w : List ℕ) → names_any is_value (take k es) w ≡ true → up_to (position_from (λ (e : Entry). bytes_eq w e.name) i es) ≤ i + k
-found_from i zero es w h = absurd cc
-found_from i (suc k) [] w h = absurd cc
 found_from i (suc k) (x ∷ es) w h = by_test (bytes_eq w x.name) h (found_from (i + 1) k es w)
   where
     by_test : (b : Bool) → passes is_value (if b then Some x.kind else kind_of (take k es) w) ≡ true
@@ -33,6 +31,7 @@ found_from i (suc k) (x ∷ es) w h = by_test (bytes_eq w x.name) h (found_from 
         → up_to (cond b (Some i) (position_from (λ (e : Entry). bytes_eq w e.name) (i + 1) es)) ≤ i + suc k
     by_test true h f = omega arith
     by_test false h f = omega (arith, f h)
+found_from i _ _ w h = absurd cc
 
 -- a name among the first k stands below place k
 pub found_early : (es : List Entry) (k : ℕ) (w : List ℕ) → names_any is_value (take k es) w ≡ true → up_to (find es w) ≤ k
@@ -59,8 +58,6 @@ module _ (es : List Entry) (k : ℕ) where
 
   mutual
     term_kept : (t : Tree) → are_named (take k es) (uses t) ≡ true → term_of (known_of es) t ≡ term_of (known_of (take k es)) t
-    term_kept (ANumber n) h = refl
-    term_kept (ASpecial letter p) h = refl
     term_kept (AName word e) h =
         ap (extended_if e) (kept word.text (left_true (names_any is_value (take k es) word.text) true (left_true (names_any is_value (take k es) word.text && true) true h)))
     term_kept (ASet p ms e) h = ap (λ ts. extended_if e (Set ts)) (members_kept ms h)
@@ -69,6 +66,7 @@ module _ (es : List Entry) (k : ℕ) where
     term_kept (ABinary sign p t u) h =
         let both = sym (list_all-append (is_named (take k es)) (uses t) (uses u)) ∙ h in
         ap₂ (BinaryOf sign) (term_kept t (left_true (are_named (take k es) (uses t)) (are_named (take k es) (uses u)) both)) (term_kept u (right_true (are_named (take k es) (uses t)) (are_named (take k es) (uses u)) both))
+    term_kept _ h = refl
 
     members_kept : (ms : Members) → are_named (take k es) (member_uses ms) ≡ true → terms_of (known_of es) ms ≡ terms_of (known_of (take k es)) ms
     members_kept NoMember h = refl
@@ -81,10 +79,8 @@ module _ (es : List Entry) (k : ℕ) where
         named_kept names (terms_of (known_of es) ms) (terms_of (known_of (take k es)) ms) one (members_kept ms (right_true (list_all (names_any is_value (take k es)) names) (are_named (take k es) (member_uses ms)) h))
 
   meant_kept : (s : ℕ) (kind : Kind) → NamesEarlier (take k es) kind → term_meant (known_of (take k es)) s kind ≡ term_meant (known_of es) s kind
-  meant_kept s (APin pin negated) h = refl
-  meant_kept s (ANode number) h = refl
   meant_kept s (AConstant value) h = sym (term_kept value h)
-  meant_kept s ADeviceName h = refl
+  meant_kept s _ h = refl
 
 -- what a declared name stands for
 pub named_meant : (es : List Entry) (w : List ℕ) (k : ℕ) (d : Entry) → AreInOrder es → find es w ≡ Some k → term_named (known_of es) w ≡ term_meant (known_of es) k (get_or es k d).kind
@@ -96,23 +92,18 @@ named_meant es w k d o h =
 -- ---- sound names are in order
 
 sound_kind : (es : List Entry) (pins : ℕ) (kind : Kind) → IsSoundKind pins es kind → NamesEarlier es kind
-sound_kind es pins (APin pin negated) h = tt
-sound_kind es pins (ANode number) h = tt
 sound_kind es pins (AConstant value) h = h
-sound_kind es pins ADeviceName h = tt
+sound_kind es pins _ h = tt
 
 pub sound_in_order : (name : DeviceName) (pins : ℕ) (n : Names) → SoundNames name pins n → AreInOrder (entries_of n)
 sound_in_order name pins n h k e s = sound_kind (take k (entries_of n)) pins e.kind (h.kinds k e s)
 
 left_early : (es : List Entry) (k : ℕ) (t : Tree) → are_named (take k es) (uses t) ≡ true → names_left es t ≤ k
-left_early es k (ANumber n) h = omega arith
-left_early es k (ASpecial letter p) h = omega arith
 left_early es k (AName word e) h =
     found_early es k word.text (left_true (names_any is_value (take k es) word.text) true (left_true (names_any is_value (take k es) word.text && true) true h))
-left_early es k (ASet p ms e) h = omega arith
 left_early es k (AParen p t) h = left_early es k t h
 left_early es k (AUnary sign p t) h = left_early es k t h
-left_early es k (ABinary sign p t u) h = omega arith
+left_early es k _ h = omega arith
 
 signs_among : (es : List Entry) (k : ℕ) (d : Entry) → k < length es → kind_signs (get_or es k d).kind ≤ all_signs es
 signs_among [] k d h = absurd (omega arith)

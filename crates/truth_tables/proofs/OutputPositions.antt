@@ -47,15 +47,11 @@ special_signals d letter p e = by_letter (bytes_eq (letter ∷ []) (codes "X")) 
 
 mutual
   pub header_signals : (d : Context) (t : Tree) → (output_header d t).refusals ≡ [] → targets_of (term_of d.known t) ≡ signals_of (output_header d t).outputs
-  header_signals d (ANumber n) e = absurd cc
   header_signals d (ASpecial letter p) e = special_signals d letter p e
   header_signals d (AName word None) e = name_signals d word.place word.text e
-  header_signals d (AName word (Some x)) e = absurd cc
   header_signals d (ASet p ms None) e = members_signals d ms (left_empty (output_members d ms).refusals (too_wide p (length (output_members d ms).outputs)) e)
-  header_signals d (ASet p ms (Some x)) e = absurd cc
   header_signals d (AParen p t) e = header_signals d t e
-  header_signals d (AUnary sign p t) e = absurd cc
-  header_signals d (ABinary sign p t u) e = absurd cc
+  header_signals d _ e = absurd cc
 
   members_signals : (d : Context) (ms : Members) → (output_members d ms).refusals ≡ [] → all_targets (terms_of d.known ms) ≡ signals_of (output_members d ms).outputs
   members_signals d NoMember e = refl

@@ -40,20 +40,7 @@ AsWhole d h e = (meets d h e ≡ meets_whole d e) × (marks_of d h e ≡ part_ma
 
 as_whole : (d : Context) (h e : Term) → both_sets h e ≡ false → AsWhole d h e
 as_whole d (term.Set hs) (term.Set es) k = absurd cc
-as_whole d (term.Set hs) (term.Number n) k = (refl, refl)
-as_whole d (term.Set hs) term.X k = (refl, refl)
-as_whole d (term.Set hs) term.Pulse k = (refl, refl)
-as_whole d (term.Set hs) term.Release k = (refl, refl)
-as_whole d (term.Set hs) (term.Read s x) k = (refl, refl)
-as_whole d (term.Set hs) (term.UnaryOf sign t) k = (refl, refl)
-as_whole d (term.Set hs) (term.BinaryOf sign t u) k = (refl, refl)
-as_whole d (term.Number n) e k = (refl, refl)
-as_whole d term.X e k = (refl, refl)
-as_whole d term.Pulse e k = (refl, refl)
-as_whole d term.Release e k = (refl, refl)
-as_whole d (term.Read s x) e k = (refl, refl)
-as_whole d (term.UnaryOf sign t) e k = (refl, refl)
-as_whole d (term.BinaryOf sign t u) e k = (refl, refl)
+as_whole d _ _ k = (refl, refl)
 
 operand_whole : (d : Context) (e : Term) → is_operand e ≡ true → meets_whole d e ≡ is_number (constant_of d e).shape
 operand_whole d e k = operand_case (λ t. meets_whole d t ≡ is_number (constant_of d t).shape) (λ n. refl) (λ sign t. refl) (λ sign t u. refl) e k
@@ -84,41 +71,35 @@ bits_unmet d h x e o k n = (as_whole d h e k).0 ∙ operand_whole d e (operator_
 
 pub shape_unmet : (d : Context) (h : Term) (x : Expr) (e : Term) (s : Shape) → IsOperator d x e → both_sets h e ≡ false → ((n : ℕ) → s ≡ shape.Number n → ⊥) → HasShape s (constant_of d (term_of d.known (view x))) → meets d h e ≡ false
 shape_unmet d h x e (shape.Number n) o k other s = absurd (other n refl)
-shape_unmet d h x e shape.Single o k other s = bits_unmet d h x e o k (ap is_number s)
-shape_unmet d h x e (shape.Set w) o k other s = bits_unmet d h x e o k (ap is_number s)
+shape_unmet d h x e _ o k other s = bits_unmet d h x e o k (ap is_number s)
 
 -- ---- a set beside a set
 
 paired_stand : (d : Context) (hs es : List Part) (ts us : List Term) → AreParts d hs ts → AreParts d es us → AllZip (IsPair d) (paired hs es) (zip ts us)
-paired_stand d [] es [] us h k = tt
 paired_stand d [] es (t ∷ ts) us h k = absurd h
 paired_stand d (x ∷ hs) es [] us h k = absurd h
-paired_stand d (x ∷ hs) [] (t ∷ ts) [] h k = tt
 paired_stand d (x ∷ hs) [] (t ∷ ts) (u ∷ us) h k = absurd k
 paired_stand d (x ∷ hs) (y ∷ es) (t ∷ ts) [] h k = absurd k
 paired_stand d (x ∷ hs) (y ∷ es) (t ∷ ts) (u ∷ us) h k = ((h.0, k.0), paired_stand d hs es ts us h.1 k.1)
+paired_stand d _ _ _ _ h k = tt
 
 sets_meet : (d : Context) (us vs : Terms) → length (list_of us) ≡ length (list_of vs) → all_meet d us vs ≡ list_all (meeting d).passes (zip (list_of us) (list_of vs))
 sets_meet d term.NoTerm term.NoTerm e = refl
-sets_meet d term.NoTerm (term.Before v vs) e = absurd cc
-sets_meet d (term.Before u us) term.NoTerm e = absurd cc
 sets_meet d (term.Before u us) (term.Before v vs) e = ap (λ b. meets d u v && b) (sets_meet d us vs (omega (arith, e)))
+sets_meet d _ _ e = absurd cc
 
 sets_differ : (d : Context) (us vs : Terms) → (length (list_of us) ≡ length (list_of vs) → ⊥) → all_meet d us vs ≡ false
 sets_differ d term.NoTerm term.NoTerm e = absurd (e refl)
-sets_differ d term.NoTerm (term.Before v vs) e = refl
-sets_differ d (term.Before u us) term.NoTerm e = refl
 sets_differ d (term.Before u us) (term.Before v vs) e = ap (λ b. meets d u v && b) (sets_differ d us vs (λ h. e (ap suc h))) ∙ and-false (meets d u v)
+sets_differ d _ _ e = refl
 
 sets_marks : (d : Context) (us vs : Terms) → all_marks d us vs ≡ flat_map (meeting d).gives (zip (list_of us) (list_of vs))
-sets_marks d term.NoTerm vs = refl
-sets_marks d (term.Before u us) term.NoTerm = refl
 sets_marks d (term.Before u us) (term.Before v vs) = ap (λ xs. marks_of d u v ++ xs) (sets_marks d us vs)
+sets_marks d _ _ = refl
 
 zipped_parts : (d : Context) (ts us : List Term) → sum_by (meeting d).size (zip ts us) ≤ sum_by term_parts ts
-zipped_parts d [] us = omega arith
-zipped_parts d (t ∷ ts) [] = omega arith
 zipped_parts d (t ∷ ts) (u ∷ us) = omega (arith, zipped_parts d ts us, sum_by-cons (meeting d).size (t, u) (zip ts us), sum_by-cons term_parts t ts)
+zipped_parts d _ _ = omega arith
 
 module _ (d : Context) (h e : Term) (o i : Option Extension) (ts us : Terms) (hs es : List Part) (stack later : List Pair) (ms : List Mark) (ih : h ≡ extended_if o (term.Set ts)) (ie : e ≡ extended_if i (term.Set us))
     (sh : AreParts d hs (each_extended o (list_of ts))) (se : AreParts d es (each_extended i (list_of us))) where

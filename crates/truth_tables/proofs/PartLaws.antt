@@ -15,11 +15,7 @@ pub operand_case : (P : Term → Type 0) → ((n : ℕ) → P (term.Number n)) �
 operand_case P n u b (term.Number m) h = n m
 operand_case P n u b (term.UnaryOf sign t) h = u sign t
 operand_case P n u b (term.BinaryOf sign t v) h = b sign t v
-operand_case P n u b term.X h = absurd cc
-operand_case P n u b term.Pulse h = absurd cc
-operand_case P n u b term.Release h = absurd cc
-operand_case P n u b (term.Read s f) h = absurd cc
-operand_case P n u b (term.Set ts) h = absurd cc
+operand_case P n u b _ h = absurd cc
 
 -- what holds of .X., .C. and .Z. holds of specials
 pub special_case : (P : Term → Type 0) → P term.X → P term.Pulse → P term.Release → (letter : ℕ) → P (special_term letter)
@@ -106,15 +102,11 @@ entry_at ds k x e = get_or-map view_declared ds k x ∙ ap view_declared (sym e)
 -- an extension changes none
 mutual
   extended_parts : (e : Extension) (t : Term) → term_parts (extended e t) ≡ term_parts t
-  extended_parts e (term.Number n) = refl
-  extended_parts e term.X = refl
-  extended_parts e term.Pulse = refl
-  extended_parts e term.Release = refl
-  extended_parts e (term.Read s None) = refl
   extended_parts e (term.Read s (Some f)) = refl
   extended_parts e (term.Set ts) = ap suc (each_parts e ts)
   extended_parts e (term.UnaryOf sign t) = refl
   extended_parts e (term.BinaryOf sign t u) = refl
+  extended_parts e _ = refl
 
   each_parts : (e : Extension) (ts : Terms) → terms_parts (extended_each e ts) ≡ terms_parts ts
   each_parts e term.NoTerm = refl
@@ -126,13 +118,7 @@ parts_if (Some e) t = extended_parts e t
 
 pub some_parts : (t : Term) → 0 < term_parts t
 some_parts (term.Number n) = omega arith
-some_parts term.X = omega arith
-some_parts term.Pulse = omega arith
-some_parts term.Release = omega arith
-some_parts (term.Read s e) = omega arith
-some_parts (term.Set ts) = omega arith
-some_parts (term.UnaryOf sign t) = omega arith
-some_parts (term.BinaryOf sign t u) = omega arith
+some_parts _ = omega arith
 
 operand_parts : (t : Term) → is_operand t ≡ true → term_parts t ≡ 1
 operand_parts t k = operand_case (λ u. term_parts u ≡ 1) (λ n. refl) (λ sign u. refl) (λ sign u v. refl) t k

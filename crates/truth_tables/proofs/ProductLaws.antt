@@ -22,20 +22,17 @@ in_first count (Some id) ps h = (h.0, tt)
 -- ---- one position
 
 literal_what : (fs : List Formula) (f : Formula) (p : Option ExprId) (ps : List (Option ExprId)) (l : Option Bool) (ls : List (Option Bool)) → (literals fs f (p ∷ ps) (l ∷ ls)).what ≡ (literals fs (position_literal fs f p l).what ps ls).what
-literal_what fs f None ps l ls = refl
-literal_what fs f (Some id) ps None ls = refl
 literal_what fs f (Some id) ps (Some level) ls = refl
+literal_what fs f _ ps _ ls = refl
 
 literal_nodes : (fs : List Formula) (f : Formula) (p : Option ExprId) (ps : List (Option ExprId)) (l : Option Bool) (ls : List (Option Bool)) → (literals fs f (p ∷ ps) (l ∷ ls)).nodes ≡ (position_literal fs f p l).nodes + (literals fs (position_literal fs f p l).what ps ls).nodes
-literal_nodes fs f None ps l ls = omega arith
-literal_nodes fs f (Some id) ps None ls = omega arith
 literal_nodes fs f (Some id) ps (Some level) ls = refl
+literal_nodes fs f _ ps _ ls = omega arith
 
 -- in a longer arena it is the same
 pub literal_kept : (old new : List Formula) (f g : Formula) (p : Option ExprId) (l : Option Bool) → Keeps old new → AreIn (length old) (p ∷ []) → f ≡ g → position_literal new f p l ≡ position_literal old g p l
-literal_kept old new f g None l k h e = rw e refl
-literal_kept old new f g (Some id) None k h e = rw e refl
 literal_kept old new f g (Some id) (Some level) k h e = ap₂ (λ x y. make_literal x level y) e (kept_formula old new id k h.0)
+literal_kept old new f g _ _ k h e = rw e refl
 
 -- ---- joining
 
@@ -103,16 +100,14 @@ joined_step old mid new unit found all p ps l ls r j h b i = by_result r b i
 left_what : (fs : List Formula) (f : Formula) (ps : List (Option ExprId)) (ls : List (Option Bool)) (i : ℕ) → min (length ps) (length ls) ≤ i → ((literals fs f (drop i ps) (drop i ls)).what ≡ f) × ((literals fs f (drop i ps) (drop i ls)).nodes ≡ 0)
 left_what fs f [] ls zero h = (refl, refl)
 left_what fs f (None ∷ ps) [] zero h = (refl, refl)
-left_what fs f (Some id ∷ ps) [] zero h = (refl, refl)
 left_what fs f (p ∷ ps) (l ∷ ls) zero h = absurd (omega (arith, h))
-left_what fs f [] ls (suc i) h = (refl, refl)
 left_what fs f (p ∷ ps) [] (suc i) h = no_level (drop i ps)
   where
     no_level : (qs : List (Option ExprId)) → ((literals fs f qs []).what ≡ f) × ((literals fs f qs []).nodes ≡ 0)
-    no_level [] = (refl, refl)
-    no_level (None ∷ qs) = (refl, refl)
     no_level (Some id ∷ qs) = (refl, refl)
+    no_level _ = (refl, refl)
 left_what fs f (p ∷ ps) (l ∷ ls) (suc i) h = left_what fs f ps ls i (omega (arith, h))
+left_what fs f _ _ _ h = (refl, refl)
 
 pub joined_done : (old new : List Node) (unit : Place) (found : ExprId) (all : Made Formula) (ps : List (Option ExprId)) (ls : List (Option Bool)) (i : ℕ) → min (length ps) (length ls) ≤ i
     → IsJoined old new unit found all (drop i ps) (drop i ls) → BuildsNodes (part unit all.nodes ∷ []) old new (Ok found) × IsBit (arena new) found all.what

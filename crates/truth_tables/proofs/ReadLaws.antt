@@ -8,14 +8,12 @@ inside_first [] r f b e = absurd cc
 inside_first (x ∷ xs) r f b e = sym e
 
 pub none_unmet : (rs : List SectionFault) (r : SectionFault) (b : Bool) → rs ≡ [] → b ≡ false → unless_met rs r b ≡ r ∷ []
-none_unmet [] r true e h = absurd cc
 none_unmet [] r false e h = refl
-none_unmet (x ∷ xs) r b e h = absurd cc
+none_unmet _ r _ e h = absurd cc
 
 pub none_met : (rs : List SectionFault) (r : SectionFault) (b : Bool) → rs ≡ [] → b ≡ true → unless_met rs r b ≡ []
 none_met [] r true e h = refl
-none_met [] r false e h = absurd cc
-none_met (x ∷ xs) r b e h = absurd cc
+none_met _ r _ e h = absurd cc
 
 pub read_refused : (n : Names) (d : Context) → IsOver n d → (r f : SectionFault) (h : Term) (t : Tree) (o : Option SectionFault) → o ≡ first_refusal section_order (refused_inside (names_found (entries_of n)) r t) → o ≡ Some f → first_refusal section_order (entry_refused d r h t) ≡ Some f
 read_refused n d is r f h t o e s =

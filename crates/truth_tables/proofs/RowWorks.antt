@@ -12,13 +12,11 @@ use Rattle.truth_tables.proofs.OutputPositions.{header_signals}
 
 -- what agrees is the product of the literals
 pub agrees_literals : (d : Context) (f : Formula) (xs : List Bool) (ws : List Formula) (ls : List (Option Bool)) → agrees (formulas d) f xs ws ls ≡ (row_literals f xs ws ls).what
-agrees_literals d f [] ws ls = refl
-agrees_literals d f (x ∷ xs) [] ls = refl
-agrees_literals d f (x ∷ xs) (w ∷ ws) [] = refl
 agrees_literals d f (true ∷ xs) (w ∷ ws) (l ∷ ls) = agrees_literals d f xs ws ls
 agrees_literals d f (false ∷ xs) (w ∷ ws) (None ∷ ls) = agrees_literals d f xs ws ls
 agrees_literals d f (false ∷ xs) (w ∷ ws) (Some true ∷ ls) = agrees_literals d (make_and f w).what xs ws ls
 agrees_literals d f (false ∷ xs) (w ∷ ws) (Some false ∷ ls) = agrees_literals d (make_and f (make_not w).what).what xs ws ls
+agrees_literals d f _ _ _ = refl
 
 -- the bits of a header stay where nodes are kept
 bits_kept : (old new : List Formula) (ps : List (Option ExprId)) → Keeps old new → AreIn (length old) ps → bits_at new ps ≡ bits_at old ps

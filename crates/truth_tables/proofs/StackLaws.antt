@@ -8,15 +8,13 @@ use Rattle.truth_tables.proofs.NamesInOrder.{right_true}
 module _ {A T : Type 0} (S : A → T → Type 0) where
   pub each_append : (xs ys : List A) (ts us : List T) → AllZip S xs ts → AllZip S ys us → AllZip S (xs ++ ys) (ts ++ us)
   each_append [] ys [] us h k = k
-  each_append [] ys (t ∷ ts) us h k = absurd h
-  each_append (x ∷ xs) ys [] us h k = absurd h
   each_append (x ∷ xs) ys (t ∷ ts) us h k = (h.0, each_append xs ys ts us h.1 k)
+  each_append _ ys _ us h k = absurd h
 
   pub each_sum : (m : A → ℕ) (n : T → ℕ) → ((x : A) (t : T) → S x t → m x ≡ n t) → (xs : List A) (ts : List T) → AllZip S xs ts → sum_by m xs ≡ sum_by n ts
   each_sum m n same [] [] h = refl
-  each_sum m n same [] (t ∷ ts) h = absurd h
-  each_sum m n same (x ∷ xs) [] h = absurd h
   each_sum m n same (x ∷ xs) (t ∷ ts) h = omega (arith, sum_by-append m (x ∷ []) xs, sum_by-append n (t ∷ []) ts, same x t h.0, each_sum m n same xs ts h.1)
+  each_sum m n same _ _ h = absurd h
 
   record Last (xs : List A) (x : A) (ts : List T) : Type 0 where
     pub front : List T

@@ -5,10 +5,9 @@ use Rattle.truth_tables.proofs.HeaderLaws.{first}
 use Rattle.truth_tables.proofs.checked_rows.read_row.Goals as goal
 
 arrow_first : (a b : Bool) (r : SectionFault) → then_some (not (beq b a)) r ≡ first (arrow_refused r a b)
-arrow_first true true r = refl
 arrow_first true false r = refl
 arrow_first false true r = refl
-arrow_first false false r = refl
+arrow_first _ _ r = refl
 
 pub returns : goal.returns
 returns c d is =
