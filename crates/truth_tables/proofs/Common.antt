@@ -81,19 +81,19 @@ pub use Rattle.set_expr.specs.declared.fault.SectionFault.{SectionFault}
 pub use Rattle.set_expr.specs.declared.fault.SectionFault.TheVariants.{BadRow, BadWidth, MisplacedSpecial, MixedAssignment, NotAnOutput, NotConstant}
 pub use Rattle.set_expr.specs.declared.fault.SectionFault.TheVariants.{ZeroDivisor}
 pub use Rattle.set_expr.specs.declared.shaped.Shape.{Shape}
-pub use Rattle.truth_tables.specs.{AreParts, AreSignals, GivesOutput, GivesPosition, GivesPositions, HasInputs, HeaderFound, IsAdded, IsDone, IsJoined}
+pub use Rattle.truth_tables.specs.{AreParts, AreSignals, GivesMatched, GivesOutput, GivesPosition, GivesPositions, HasInputs, HeaderFound, IsAdded, IsDone}
 pub use Rattle.truth_tables.specs.{IsListed, IsMet, IsNumeral, IsOfKind, IsOperator, IsOver, IsPair, IsPart, IsPut, IsRead, IsRow, IsSet, IsShapedTerm, IsStand}
 pub use Rattle.truth_tables.specs.{IsStep, LeadsBack, NamesOutputs, Opened, StandForInputs, Taken, Walked, Walking, WalksTable, WalksWork, Work, all_meet}
 pub use Rattle.truth_tables.specs.{all_name_positions, all_refused_inside, all_signs, any_holds_pulse, arrow_refused, assigned_by, before, behind, both_headers}
-pub use Rattle.truth_tables.specs.{both_sets, design_of, entry_refused, found_work, given_by, given_freely, headed_work, header_literals, header_name}
+pub use Rattle.truth_tables.specs.{both_sets, design_of, entry_refused, found_work, given_by, given_freely, given_output, headed_work, header_literals, header_name}
 pub use Rattle.truth_tables.specs.{header_of, header_range, header_refused, header_set, header_special, holds_pulse, if_none, inputs_nodes, inputs_term}
 pub use Rattle.truth_tables.specs.{is_computed, is_number, is_operand, is_pulse_named, is_set, kind_signs, level_refused, levels_of, listing, literals}
 pub use Rattle.truth_tables.specs.{matched_guard, meeting, meets, meets_whole, member_holds_pulse, member_refused_inside, named_outputs, names_left}
-pub use Rattle.truth_tables.specs.{names_positions, names_refused, no_matches_work, nodes_behind, nodes_left, nothing, output_header, output_member}
+pub use Rattle.truth_tables.specs.{names_positions, names_refused, no_matches_work, nodes_at, nodes_left, nothing, output_header, output_member}
 pub use Rattle.truth_tables.specs.{output_members, outputs_at, outputs_refused, paired, part_parts, places_by, places_for, places_of, position_literal}
 pub use Rattle.truth_tables.specs.{refused_header, refused_inside, row_places, row_refused, row_units, row_work, rows_places, rows_work, seen, signals_of}
 pub use Rattle.truth_tables.specs.{signs_left, some_aims, steps_left, steps_up_to, term_parts, terms_parts, units_behind, units_of, units_of_table, unless_met}
-pub use Rattle.truth_tables.specs.{unless_refused, up_to, value_places, view_mark}
+pub use Rattle.truth_tables.specs.{unless_refused, up_to, view_mark}
 pub use Rattle.truth_tables.specs.declared.giving.Assigning.{Assigning}
 pub use Rattle.truth_tables.specs.declared.mark.Mark.{Mark}
 pub use Rattle.truth_tables.specs.declared.part.Pair.{Pair}

@@ -1,19 +1,25 @@
 -- What is found of a header, part by part.
-use Rattle.std.proofs.Common.{◌≡◌, ℕ, Bool, true, false, Option, Some, List, [], ◌∷◌, ◌++◌, ◌-◌, if◌then◌else◌, length, nat_lt, refl, sym, ap, ap₂, ◌∙◌, subst, append_assoc, append-nil, arith}
-use Rattle.truth_tables.proofs.Common.{then_some, is_some, length-append, Place, earlier, first_refusal, first_append, none_refused, Tree, SetMember, members_of, Context, targets_of, Term, SectionFault, BadWidth, NotAnOutput, too_wide, section_order, Aim, names_positions, HeaderFound, header_of, refused_header, outputs_at, named_outputs, header_name, both_headers, header_set, header_range, output_header, output_member, output_members, if_none, unless_refused, IsAdded}
-use Rattle.truth_tables.proofs.RowsWalked.{no_fault}
+use Rattle.std.proofs.Common.{◌≡◌, ℕ, Bool, true, false, Option, None, Some, List, [], ◌∷◌, ◌++◌, ◌-◌, if◌then◌else◌, length, drop, ◌≤◌, nat_lt, refl, sym, ap, ap₂, ◌∙◌, subst, append_assoc, append-nil, arith}
+use Rattle.std.proofs.lemmas.List.{at_drop_all}
+use Rattle.abel_tree.proofs.FirstRefusals.{earlier_assoc, earlier_none}
+use Rattle.truth_tables.proofs.Common.{then_some, is_some, length-append, Place, earlier, first_refusal, first_append, none_refused, Tree, Context, targets_of, Term, SectionFault, BadWidth, NotAnOutput, too_wide, section_order, Aim, names_positions, HeaderFound, header_of, refused_header, outputs_at, named_outputs, both_headers, header_set, output_header, if_none, unless_refused, IsAdded, Manner, aims_refused, outputs_refused, some_aims}
 
 abbrev pub first : List SectionFault → Option SectionFault
 first rs = first_refusal section_order rs
 
 -- ---- parts
 
-pub added_more : (x y : HeaderFound) (f g h : Option SectionFault) (old mid new : List (Option Aim)) → IsAdded x f old mid → IsAdded y g mid new → h ≡ earlier section_order f g → IsAdded (both_headers x y) h old new
-added_more x y f g h old mid new a b e =
-    record {
-      fault = e ∙ ap₂ (earlier section_order) a.fault b.fault ∙ sym (first_append section_order x.refusals y.refusals);
-      outputs = b.outputs ∙ ap (λ zs. zs ++ y.outputs) a.outputs ∙ append_assoc old x.outputs y.outputs;
-    }
+-- one part more, before those that are left
+pub added_on : (whole x rest : HeaderFound) {both : HeaderFound} (f g h more : Option SectionFault) (old mid new later : List (Option Aim)) → both ≡ both_headers x rest → IsAdded x g mid new → IsAdded rest more new later → h ≡ earlier section_order f g
+    → ((k : Option SectionFault) (end : List (Option Aim)) → IsAdded both k mid end → IsAdded whole (earlier section_order f k) old end) → IsAdded whole (earlier section_order h more) old later
+added_on whole x rest f g h more old mid new later q a b e k =
+    subst (λ z. IsAdded whole z old later) (sym (ap (λ z. earlier section_order z more) e ∙ earlier_assoc section_order f g more))
+    (k (earlier section_order g more) later
+    (subst (λ y. IsAdded y (earlier section_order g more) mid later) (sym q)
+    (record {
+      fault = ap₂ (earlier section_order) a.fault b.fault ∙ sym (first_append section_order x.refusals rest.refusals);
+      outputs = b.outputs ∙ ap (λ zs. zs ++ rest.outputs) a.outputs ∙ append_assoc mid x.outputs rest.outputs;
+    })))
 
 wide_first : (b : Bool) (p : Place) → then_some b (BadWidth p) ≡ first (if b then BadWidth p ∷ [] else [])
 wide_first true p = refl
@@ -42,38 +48,37 @@ added_refused d e u r f xs v h k = subst (λ x. IsAdded x (Some f) xs xs) (sym (
 pub added_outputs : {x : HeaderFound} {f : Option SectionFault} {old new : List (Option Aim)} → IsAdded x f old new → old ≡ [] → new ≡ x.outputs
 added_outputs {x} a o = a.outputs ∙ ap (λ xs. xs ++ x.outputs) o
 
-pub added_clear : {x : HeaderFound} {f : Option SectionFault} {old new : List (Option Aim)} → IsAdded x f old new → is_some f ≡ false → x.refusals ≡ []
-added_clear {x} {f} a e = none_refused section_order x.refusals (sym (no_fault f e) ∙ a.fault)
+-- a header that is refused assigns nothing
+named_aims : (rs : List SectionFault) (f : Option SectionFault) (ys : List Aim) → f ≡ first rs → (if is_some f then [] else ys) ≡ unless_refused rs ys
+named_aims rs None ys e = ap (λ xs. unless_refused xs ys) (sym (none_refused section_order rs e))
+named_aims [] (Some x) ys e = absurd cc
+named_aims (r ∷ rs) (Some x) ys e = refl
 
--- of outputs that are refused nothing more is refused, and they assign nothing
-pub refused_alone : (rs more : List SectionFault) (f : Option SectionFault) → is_some f ≡ true → f ≡ first rs → f ≡ first (if_none rs more)
-refused_alone [] more f s e = let none : is_some f ≡ false = ap is_some e in absurd cc
-refused_alone (r ∷ rs) more f s e = e
+pub header_aims : {x : HeaderFound} {f : Option SectionFault} {old new : List (Option Aim)} → IsAdded x f old new → old ≡ [] → (ys : List Aim) → ys ≡ (if is_some f then [] else some_aims new) → ys ≡ unless_refused x.refusals (some_aims x.outputs)
+header_aims {x} {f} a o ys e =
+    e ∙ ap (λ xs. if is_some f then [] else some_aims xs) (added_outputs a o) ∙ named_aims x.refusals f (some_aims x.outputs) a.fault
 
-pub refused_nothing : (rs : List SectionFault) (aims : List Aim) (f : Option SectionFault) → is_some f ≡ true → f ≡ first rs → unless_refused rs aims ≡ []
-refused_nothing [] aims f s e = let none : is_some f ≡ false = ap is_some e in absurd cc
-refused_nothing (r ∷ rs) aims f s e = refl
+-- of outputs that are refused nothing more is refused
+pub refused_first : (d : Context) (all : List Manner) (clocked : Bool) (x : HeaderFound) → earlier section_order (first x.refusals) (first (aims_refused d all None false clocked (unless_refused x.refusals (some_aims x.outputs)))) ≡ first (outputs_refused d all clocked x)
+refused_first d all clocked x =
+    sym (first_append section_order x.refusals (aims_refused d all None false clocked (unless_refused x.refusals (some_aims x.outputs)))) ∙ ap first (whole x.refusals)
+  where
+    whole : (rs : List SectionFault) → rs ++ aims_refused d all None false clocked (unless_refused rs (some_aims x.outputs)) ≡ if_none rs (aims_refused d all None false clocked (some_aims x.outputs))
+    whole [] = refl
+    whole (r ∷ rs) = append-nil (r ∷ rs)
 
-both_assoc : (x y z : HeaderFound) → both_headers (both_headers x y) z ≡ both_headers x (both_headers y z)
-both_assoc x y z = rw (append_assoc x.refusals y.refusals z.refusals, append_assoc x.outputs y.outputs z.outputs) refl
-
-pub both_none : (x : HeaderFound) → both_headers x (header_of []) ≡ x
-both_none x = rw (append-nil x.refusals, append-nil x.outputs) refl
-
-pub members_more : (d : Context) (ms : List SetMember) (m : SetMember) → output_members d (members_of (ms ++ m ∷ [])) ≡ both_headers (output_members d (members_of ms)) (output_member d m)
-members_more d [] m = both_none (output_member d m)
-members_more d (x ∷ ms) m =
-    ap (both_headers (output_member d x)) (members_more d ms m) ∙ sym (both_assoc (output_member d x) (output_members d (members_of ms)) (output_member d m))
-
-pub range_more : (d : Context) (p : Place) (names : List (List ℕ)) (n : List ℕ) → both_headers (header_range d p names) (header_name d p n) ≡ header_range d p (names ++ n ∷ [])
-range_more d p [] n = sym (both_none (header_name d p n))
-range_more d p (y ∷ names) n = both_assoc (header_name d p y) (header_range d p names) (header_name d p n) ∙ ap (both_headers (header_name d p y)) (range_more d p names n)
+-- no part is left
+pub added_all : {A : Type 0} (parts : List A → HeaderFound) (xs : List A) (i : ℕ) (f : Option SectionFault) (whole : HeaderFound) (old now : List (Option Aim)) → parts [] ≡ header_of [] → length xs ≤ i
+    → (IsAdded (parts (drop i xs)) None now now → IsAdded whole (earlier section_order f None) old now) → IsAdded whole f old now
+added_all parts xs i f whole old now e le k =
+    subst (λ z. IsAdded whole z old now) (earlier_none section_order f)
+    (k (subst (λ y. IsAdded y None now now) (sym (at_drop_all parts xs i le ∙ e)) (added_none (header_of []) None now refl refl)))
 
 -- ---- names
 
-pub named_refused : (rs : List SectionFault) (p : Place) (name : Option ℕ) (t : Term) (f : SectionFault) → Some f ≡ first rs → (first (named_outputs rs p name t).refusals ≡ Some f) × ((named_outputs rs p name t).outputs ≡ [])
-named_refused [] p name t f e = absurd cc
-named_refused (r ∷ rs) p name t f e = (sym e, refl)
+pub named_refused : (rs : List SectionFault) (p : Place) (name : Option ℕ) (t : Term) (f : Option SectionFault) (xs : List (Option Aim)) → is_some f ≡ true → f ≡ first rs → IsAdded (named_outputs rs p name t) f xs xs
+named_refused [] p name t f xs s e = let none : is_some f ≡ false = ap is_some e in absurd cc
+named_refused (r ∷ rs) p name t f xs s e = record { fault = e; outputs = sym (append-nil xs) }
 
 pub named_other : (p : Place) (name : Option ℕ) (t : Term) → names_positions t ≡ false → named_outputs [] p name t ≡ refused_header (NotAnOutput p name)
 named_other p name t e = rw e refl

@@ -1,6 +1,6 @@
 -- The outputs of a header that isn't refused are the signals of its term, position by position, and names of the design.
 use Rattle.std.proofs.Common.{◌≡◌, ℕ, Bool, true, false, Option, None, Some, List, [], ◌∷◌, ◌++◌, if◌then◌else◌, length, bytes_eq, append_assoc, refl, sym, ap, ap₂, ◌∙◌, zero, suc, ◌<◌, nat_lt, subst, arith, codes}
-use Rattle.truth_tables.proofs.Common.{option_map, map-append, get_or_past, Place, find, Entry, is_signal, range_names, Tree, ANumber, ASpecial, AName, ASet, AParen, AUnary, ABinary, OneMember, SpanMember, Members, NoMember, MoreMembers, Context, no_name, targets_of, all_targets, Term, Terms, X, Pulse, Release, term_named, term_of, terms_of, named_before, special_term, known_of, SectionFault, MisplacedSpecial, NotAnOutput, found_use, name_found, names_found, too_wide, Aim, left_empty, right_empty, names_positions, header_of, refused_header, outputs_at, named_outputs, header_name, header_range, header_special, output_header, output_members, signals_of, AreNamed, some_aims}
+use Rattle.truth_tables.proofs.Common.{option_map, map-append, get_or_past, Place, find, Entry, is_signal, range_names, Tree, ANumber, ASpecial, AName, ASet, AParen, AUnary, ABinary, OneMember, SpanMember, Members, NoMember, MoreMembers, Context, no_name, targets_of, all_targets, Term, Terms, X, Pulse, Release, term_named, term_of, terms_of, named_before, special_term, known_of, SectionFault, MisplacedSpecial, NotAnOutput, found_use, name_found, names_found, too_wide, Aim, left_empty, right_empty, names_positions, header_of, refused_header, outputs_at, named_outputs, header_name, header_range, header_special, output_header, output_members, signals_of, AreNamed, some_aims, unless_refused}
 use Rattle.std.proofs.lemmas.Bool.{ltb-true, ltb-false}
 use Rattle.section_targets.proofs.KnownTargets.{EachTarget, IsSignalOf, signal_targets}
 
@@ -89,3 +89,11 @@ signals_inside d (Some x ∷ xs) h = more (signal_within d x.signal h.0) (signal
 -- outputs that are the signals of a term
 pub outputs_inside : (d : Context) → d.known ≡ known_of d.names → (t : Tree) (xs : List (Option Aim)) → targets_of (term_of d.known t) ≡ signals_of xs → AreNamed (length d.names) (some_aims xs)
 outputs_inside d k t xs e = signals_inside d xs (subst (EachTarget (IsSignalOf d)) e (signal_targets d k t))
+
+-- the outputs that a header assigns are names of the design
+pub header_named : (d : Context) → d.known ≡ known_of d.names → (t : Tree) → AreNamed (length d.names) (unless_refused (output_header d t).refusals (some_aims (output_header d t).outputs))
+header_named d k t = by_refusals (output_header d t).refusals refl
+  where
+    by_refusals : (rs : List SectionFault) → (output_header d t).refusals ≡ rs → AreNamed (length d.names) (unless_refused rs (some_aims (output_header d t).outputs))
+    by_refusals [] e = outputs_inside d k t (output_header d t).outputs (header_signals d t e)
+    by_refusals (r ∷ rs) e = λ i a lt. absurd (omega (arith, lt))

@@ -1,6 +1,8 @@
 -- The literals of a row, position by position.
-use Rattle.std.proofs.Common.{◌≡◌, ℕ, zero, suc, ◌+◌, ◌<◌, ◌≤◌, min, Bool, true, Option, None, Some, List, [], ◌∷◌, Result, Ok, Err, length, drop, get_or, refl, sym, ap, ap₂, ◌∙◌, subst, subst₂, arith, add-one, IfOk}
-use Rattle.truth_tables.proofs.Common.{drop-cons, Place, ExprId, Node, arena, formula_at, Made, Formula, Const, make_literal, SectionFault, AreIn, Keeps, StopsWith, IsBuilt, Builds, BuildsNodes, IsBit, part, builds_none, kept_formula, two_parts, high_bit, stops_longer, position_literal, literals, IsJoined}
+use Rattle.std.proofs.Common.{◌≡◌, ℕ, zero, suc, ◌+◌, ◌<◌, ◌≤◌, min, Bool, false, Option, None, Some, List, [], ◌∷◌, Result, Ok, Err, length, drop, get_or, refl, sym, ap, ap₂, ◌∙◌, subst, subst₂, arith, IfOk}
+use Rattle.truth_tables.proofs.Common.{at, bits_at, drop-cons, free, row_literals, unknown_at, Place, ExprId, Node, arena, formula_at, Made, Formula, Const, SectionFault, AreIn, Keeps, StopsWith, Builds, BuildsNodes, IsBit, part, builds_none, kept_formula, two_parts, stops_longer, position_literal, literals}
+use Rattle.std.proofs.lemmas.List.{length-drop}
+use Rattle.section_targets.proofs.Looks.{next_of}
 
 -- ---- positions in an arena
 
@@ -29,12 +31,21 @@ literal_nodes : (fs : List Formula) (f : Formula) (p : Option ExprId) (ps : List
 literal_nodes fs f (Some id) ps (Some level) ls = refl
 literal_nodes fs f _ ps _ ls = omega arith
 
--- in a longer arena it is the same
-pub literal_kept : (old new : List Formula) (f g : Formula) (p : Option ExprId) (l : Option Bool) → Keeps old new → AreIn (length old) (p ∷ []) → f ≡ g → position_literal new f p l ≡ position_literal old g p l
-literal_kept old new f g (Some id) (Some level) k h e = ap₂ (λ x y. make_literal x level y) e (kept_formula old new id k h.0)
-literal_kept old new f g _ _ k h e = rw e refl
+-- in a longer arena they are the same
+pub bits_kept : (old new : List Formula) (ps : List (Option ExprId)) → Keeps old new → AreIn (length old) ps → bits_at new ps ≡ bits_at old ps
+bits_kept old new [] k h = refl
+bits_kept old new (None ∷ ps) k h = ap (λ fs. Const false ∷ fs) (bits_kept old new ps k h)
+bits_kept old new (Some id ∷ ps) k h = ap₂ (λ f fs. f ∷ fs) (kept_formula old new id k h.0) (bits_kept old new ps k h.1)
 
--- ---- joining
+literals_kept : (old new : List Formula) (f : Formula) (ps : List (Option ExprId)) (ls : List (Option Bool)) → Keeps old new → AreIn (length old) ps → literals new f ps ls ≡ literals old f ps ls
+literals_kept old new f ps ls k h = ap (λ fs. row_literals f (unknown_at ps) fs ls) (bits_kept old new ps k h)
+
+no_literals : (fs : List Formula) (f : Formula) (ps : List (Option ExprId)) (ls : List (Option Bool)) → min (length ps) (length ls) ≡ 0 → literals fs f ps ls ≡ free f
+no_literals fs f (p ∷ ps) (l ∷ ls) e = absurd (omega (arith, e))
+no_literals fs f (Some id ∷ ps) [] e = refl
+no_literals fs f _ _ e = refl
+
+-- ---- what is left
 
 -- no nodes are made
 pub free_nodes : {R : Type 0} (p : Place) (r : R) (ns : List Node) → BuildsNodes (part p 0 ∷ []) ns ns (Ok r)
@@ -42,95 +53,57 @@ free_nodes p r ns = λ list.
     let b = builds_none (record { exprs = ns; list = list }) in
     record { accepted = refl; within = refl; made = record { grew = record { keeps = b.made.grew.keeps; count = omega (arith, b.made.grew.count) }; more = b.made.more; whole = b.made.whole } }
 
-pub joined_start : (ns : List Node) (unit : Place) (found : ExprId) (ps : List (Option ExprId)) (ls : List (Option Bool)) → found.0 ≡ 1 → IsJoined ns ns unit found (literals (arena ns) (Const true) ps ls) ps ls
-joined_start ns unit found ps ls e =
-    record {
-      made = Const true;
-      nodes = 0;
-      bit = high_bit ns found e;
-      built = free_nodes unit found ns;
-      what = refl;
-      total = omega arith;
-    }
+-- what is left by the literals from here on is left by all
+abbrev pub LiteralsLeft : (old now : List Node) → Place → (all rest : Made Formula) → Type 0
+LiteralsLeft old now unit all rest =
+    (later : List Node) (r : Result ExprId SectionFault) → BuildsNodes (part unit rest.nodes ∷ []) now later r → IfOk r (λ id. IsBit (arena later) id rest.what)
+    → BuildsNodes (part unit all.nodes ∷ []) old later r × IfOk r (λ id. IsBit (arena later) id all.what)
 
 -- what is left by one position more
 abbrev pub AfterLiteral : (old new : List Node) → Place → (all : Made Formula) → List (Option ExprId) → List (Option Bool) → Result ExprId SectionFault → Type 0
-AfterLiteral old new unit all ps ls (Ok id) = IsJoined old new unit id all ps ls
+AfterLiteral old new unit all ps ls (Ok id) = LiteralsLeft old new unit all (literals (arena new) (formula_at (arena new) id) ps ls)
 AfterLiteral old new unit all ps ls (Err f) = BuildsNodes {R = ExprId} (part unit all.nodes ∷ []) old new (Err f)
 
 -- its literal is a part of the unit
-joined_step : (old mid new : List Node) (unit : Place) (found : ExprId) (all : Made Formula) (p : Option ExprId) (ps : List (Option ExprId)) (l : Option Bool) (ls : List (Option Bool)) (r : Result ExprId SectionFault)
-    → IsJoined old mid unit found all (p ∷ ps) (l ∷ ls) → AreIn (length (arena old)) (p ∷ ps)
-    → BuildsNodes (part unit (position_literal (arena mid) (formula_at (arena mid) found) p l).nodes ∷ []) mid new r
-    → IfOk r (λ id. IsBit (arena new) id (position_literal (arena mid) (formula_at (arena mid) found) p l).what)
+after_literal : (old mid new : List Node) (unit : Place) (all : Made Formula) (f : Formula) (p : Option ExprId) (ps : List (Option ExprId)) (l : Option Bool) (ls : List (Option Bool)) (r : Result ExprId SectionFault)
+    → AreIn (length (arena mid)) ps → LiteralsLeft old mid unit all (literals (arena mid) f (p ∷ ps) (l ∷ ls))
+    → BuildsNodes (part unit (position_literal (arena mid) f p l).nodes ∷ []) mid new r
+    → IfOk r (λ id. IsBit (arena new) id (position_literal (arena mid) f p l).what)
     → AfterLiteral old new unit all ps ls r
-joined_step old mid new unit found all p ps l ls r j h b i = by_result r b i
-  where
-    one : Made Formula
-    one = position_literal (arena mid) (formula_at (arena mid) found) p l
-
-    m : Made Formula
-    m = position_literal (arena old) j.made p l
-
-    same : one ≡ m
-    same = literal_kept (arena old) (arena mid) (formula_at (arena mid) found) j.made p l (j.built []).made.grew.keeps (in_first (length (arena old)) p ps h) j.bit.1
-
-    built : (r : Result ExprId SectionFault) → BuildsNodes (part unit one.nodes ∷ []) mid new r → BuildsNodes (part unit (j.nodes + m.nodes) ∷ []) old new r
-    built r b = λ list.
-        two_parts unit j.nodes m.nodes (record { exprs = old; list = list }) (record { exprs = mid; list = list }) (record { exprs = new; list = list }) r (j.built list)
-        (subst (λ (x : Made Formula). Builds (part unit x.nodes ∷ []) [] [] (record { exprs = mid; list = list }) (record { exprs = new; list = list }) r) same (b list))
-
-    by_result : (r : Result ExprId SectionFault) → BuildsNodes (part unit one.nodes ∷ []) mid new r → IfOk r (λ id. IsBit (arena new) id one.what) → AfterLiteral old new unit all ps ls r
-    by_result (Ok id) b i =
-        record {
-          made = m.what;
-          nodes = j.nodes + m.nodes;
-          bit = (i.0, i.1 ∙ ap (λ (x : Made Formula). x.what) same);
-          built = built (Ok id) b;
-          what = j.what ∙ literal_what (arena old) j.made p ps l ls;
-          total = omega (arith, j.total, literal_nodes (arena old) j.made p ps l ls);
-        }
-    by_result (Err f) b i = λ list.
-        let rest = literals (arena old) m.what ps ls in
-        let total : all.nodes ≡ (j.nodes + m.nodes) + rest.nodes = omega (arith, j.total, literal_nodes (arena old) j.made p ps l ls) in
-        subst (λ n. StopsWith (part unit n ∷ []) [] [] (record { exprs = old; list = list }) (record { exprs = new; list = list }) f) (sym total)
-        (stops_longer unit [] (j.nodes + m.nodes) rest.nodes (record { exprs = old; list = list }) (record { exprs = new; list = list }) f (built (Err f) b list))
-
--- no position is left
-left_what : (fs : List Formula) (f : Formula) (ps : List (Option ExprId)) (ls : List (Option Bool)) (i : ℕ) → min (length ps) (length ls) ≤ i → ((literals fs f (drop i ps) (drop i ls)).what ≡ f) × ((literals fs f (drop i ps) (drop i ls)).nodes ≡ 0)
-left_what fs f [] ls zero h = (refl, refl)
-left_what fs f (None ∷ ps) [] zero h = (refl, refl)
-left_what fs f (p ∷ ps) (l ∷ ls) zero h = absurd (omega (arith, h))
-left_what fs f (p ∷ ps) [] (suc i) h = no_level (drop i ps)
-  where
-    no_level : (qs : List (Option ExprId)) → ((literals fs f qs []).what ≡ f) × ((literals fs f qs []).nodes ≡ 0)
-    no_level (Some id ∷ qs) = (refl, refl)
-    no_level _ = (refl, refl)
-left_what fs f (p ∷ ps) (l ∷ ls) (suc i) h = left_what fs f ps ls i (omega (arith, h))
-left_what fs f _ _ _ h = (refl, refl)
-
-pub joined_done : (old new : List Node) (unit : Place) (found : ExprId) (all : Made Formula) (ps : List (Option ExprId)) (ls : List (Option Bool)) (i : ℕ) → min (length ps) (length ls) ≤ i
-    → IsJoined old new unit found all (drop i ps) (drop i ls) → BuildsNodes (part unit all.nodes ∷ []) old new (Ok found) × IsBit (arena new) found all.what
-joined_done old new unit found all ps ls i h j =
-    let left = left_what (arena old) j.made ps ls i h in
-    let total : j.nodes ≡ all.nodes = omega (arith, j.total, left.1) in (
-      λ list. subst (λ n. IsBuilt (part unit n ∷ []) [] [] (record { exprs = old; list = list }) (record { exprs = new; list = list })) total (j.built list),
-      (j.bit.0, j.bit.1 ∙ sym (j.what ∙ left.0)),
-    )
+after_literal old mid new unit all f p ps l ls (Ok id) h left b e = λ later r c w.
+    let one = position_literal (arena mid) f p l in
+    let rest = literals (arena mid) one.what ps ls in
+    let same : literals (arena new) (formula_at (arena new) id) ps ls ≡ rest =
+    ap (λ g. literals (arena new) g ps ls) e.1 ∙ literals_kept (arena mid) (arena new) one.what ps ls (b []).made.grew.keeps h in
+    left later r
+    (λ list. subst (λ n. Builds (part unit n ∷ []) [] [] (at mid list) (at later list) r) (sym (literal_nodes (arena mid) f p ps l ls))
+    (two_parts unit one.nodes rest.nodes (at mid list) (at new list) (at later list) r (b list)
+    (subst (λ (m : Made Formula). Builds (part unit m.nodes ∷ []) [] [] (at new list) (at later list) r) same (c list))))
+    (subst (λ g. IfOk r (λ x. IsBit (arena later) x g)) (ap (λ (m : Made Formula). m.what) same ∙ sym (literal_what (arena mid) f p ps l ls)) w)
+after_literal old mid new unit all f p ps l ls (Err x) h left b e =
+    let one = position_literal (arena mid) f p l in
+    let rest = literals (arena mid) one.what ps ls in
+    (left new (Err x)
+    (λ list. subst (λ n. StopsWith (part unit n ∷ []) [] [] (at mid list) (at new list) x) (sym (literal_nodes (arena mid) f p ps l ls))
+    (stops_longer unit [] one.nodes rest.nodes (at mid list) (at new list) x (b list))) tt).0
 
 -- ---- at an index
 
 pub in_at : (count : ℕ) (ps : List (Option ExprId)) (i : ℕ) → i < length ps → AreIn count ps → AreIn count (get_or ps i None ∷ [])
 in_at count ps i lt h = in_first count (get_or ps i None) (drop (suc i) ps) (subst (AreIn count) (drop-cons ps i None lt) (in_drop count i ps h))
 
-pub joined_at : (old mid new : List Node) (unit : Place) (found : ExprId) (all : Made Formula) (ps : List (Option ExprId)) (ls : List (Option Bool)) (i : ℕ) (r : Result ExprId SectionFault)
-    → i < min (length ps) (length ls) → AreIn (length (arena old)) ps → IsJoined old mid unit found all (drop i ps) (drop i ls)
-    → BuildsNodes (part unit (position_literal (arena mid) (formula_at (arena mid) found) (get_or ps i None) (get_or ls i None)).nodes ∷ []) mid new r
-    → IfOk r (λ id. IsBit (arena new) id (position_literal (arena mid) (formula_at (arena mid) found) (get_or ps i None) (get_or ls i None)).what)
+pub after_at : (old mid new : List Node) (unit : Place) (all : Made Formula) (f : Formula) (ps : List (Option ExprId)) (ls : List (Option Bool)) (i : ℕ) (r : Result ExprId SectionFault)
+    → i < min (length ps) (length ls) → AreIn (length (arena mid)) ps → LiteralsLeft old mid unit all (literals (arena mid) f (drop i ps) (drop i ls))
+    → BuildsNodes (part unit (position_literal (arena mid) f (get_or ps i None) (get_or ls i None)).nodes ∷ []) mid new r
+    → IfOk r (λ id. IsBit (arena new) id (position_literal (arena mid) f (get_or ps i None) (get_or ls i None)).what)
     → AfterLiteral old new unit all (drop (i + 1) ps) (drop (i + 1) ls) r
-joined_at old mid new unit found all ps ls i r lt h j b e =
-    let here = drop-cons ps i None (omega (arith, lt)) in
-    subst (λ n. AfterLiteral old new unit all (drop n ps) (drop n ls) r) (sym (add-one i))
-    (joined_step old mid new unit found all (get_or ps i None) (drop (suc i) ps) (get_or ls i None) (drop (suc i) ls) r
-    (subst₂ (λ qs ms. IsJoined old mid unit found all qs ms) here (drop-cons ls i None (omega (arith, lt))) j)
-    (subst (AreIn (length (arena old))) here (in_drop (length (arena old)) i ps h)) b e)
+after_at old mid new unit all f ps ls i r lt h left b e =
+    after_literal old mid new unit all f (get_or ps i None) (drop (i + 1) ps) (get_or ls i None) (drop (i + 1) ls) r (in_drop (length (arena mid)) (i + 1) ps h)
+    (subst₂ (λ qs ms. LiteralsLeft old mid unit all (literals (arena mid) f qs ms)) (next_of ps i None (omega (arith, lt))) (next_of ls i None (omega (arith, lt))) left) b e
+
+-- no position is left
+pub literals_done : (old new : List Node) (unit : Place) (found : ExprId) (all : Made Formula) (ps : List (Option ExprId)) (ls : List (Option Bool)) (i : ℕ) → min (length ps) (length ls) ≤ i → found.0 < length (arena new)
+    → LiteralsLeft old new unit all (literals (arena new) (formula_at (arena new) found) (drop i ps) (drop i ls)) → BuildsNodes (part unit all.nodes ∷ []) old new (Ok found) × IsBit (arena new) found all.what
+literals_done old new unit found all ps ls i h inside left =
+    let none = no_literals (arena new) (formula_at (arena new) found) (drop i ps) (drop i ls) (omega (arith, length-drop i ps, length-drop i ls, h)) in
+    (subst (LiteralsLeft old new unit all) none left) new (Ok found) (free_nodes unit found new) (inside, refl)

@@ -1,10 +1,10 @@
 -- Walks over the rows of a table, part by part.
 use Rattle.std.proofs.Common.{◌≡◌, ℕ, ◌+◌, Bool, true, false, Option, None, Some, List, [], ◌∷◌, ◌++◌, if◌then◌else◌, Result, Ok, Err, refl, sym, ap, ◌∙◌, subst, append-nil}
-use Rattle.truth_tables.proofs.Common.{is_some, OnOk, Vec, Place, ExprId, Formula, Names, Table, earlier, first_refusal, is_before, none_refused, RowTree, view, row_nodes, Context, term_of, SectionFault, section_order, Aim, Manner, context_for, AreFirsts, CountedUnit, units_refused, AfterMaking, Walks, standing, both_clear, walks_alike, walks_made, walks_none, walks_refused, walks_then, whole, IsOver, WalksWork, nodes_left, row_work, row_refused, units_behind, Work, before, given_freely}
+use Rattle.truth_tables.proofs.Common.{is_some, OnOk, Vec, Place, ExprId, Formula, Names, Table, earlier, first_refusal, is_before, SectionFault, section_order, Aim, Manner, context_for, AreFirsts, CountedUnit, units_refused, AfterMaking, Walks, standing, walks_alike, walks_made, walks_none, walks_then, whole, IsOver, WalksWork, nodes_left, units_behind, Work, before, given_freely}
 use Rattle.pld_device.specs.Table as device
 use Rattle.abel_meaning.specs.Contributions as meant
 use Rattle.section_targets.specs.declared.walked.Walked.{Walked}
-use Rattle.equations.proofs.WalkedUnits.{limit_kept, unit_refused}
+use Rattle.equations.proofs.WalkedUnits.{limit_kept, noted_refused}
 use Rattle.truth_tables.specs.declared.rows.Headed.{Headed}
 use Rattle.truth_tables.proofs.WorkLaws.{DoesWork}
 
@@ -69,48 +69,14 @@ pub none_left : {D : Type 0} (v : device.Table) (h : Headed D) (made : Option (V
 none_left v h None e = absurd cc
 none_left v h (Some ps) e = refl
 
--- ---- rows
-
--- what is left behind the check of a row
-abbrev pub Refused : Walked → Option SectionFault → Walked → Type 0
-Refused old fault now = now ≡ record old { fault = earlier section_order old.fault fault }
-
-abbrev pub IsFound : Context → Table → RowTree → Option SectionFault → Type 0
-IsFound d t row fault =
-    fault ≡ first_refusal section_order (row_refused d t.clocked (term_of d.known (view t.inputs)) (term_of d.known (view t.outputs)) row)
-
--- a row that is refused, or stands behind what is
-pub row_stands : (d : Context) (g : meant.Guard Formula) (t : Table) (xs : List (Option Aim)) (n : ℕ) (row : RowTree) (fault : Option SectionFault) (old new : Walked)
-    → IsFound d t row fault → Refused old fault new → is_some new.fault ≡ true → WalksWork (row_work d g t xs n row) old new
-row_stands d g t xs n row fault old new e kept s = λ all a.
-    let i = term_of d.known (view t.inputs) in
-    let w = row_work d g t xs n row in
-    unit_refused all (whole row.place (row_refused d t.clocked i (term_of d.known (view t.outputs)) row) (n + row_nodes d i row)) w.gives w.places fault old new e kept s a
-
--- a row of which nothing is refused, nor of what stands before it
-pub row_accepted : (fault : Option SectionFault) (old now : Walked) → Refused old fault now → is_some now.fault ≡ false → (old.fault ≡ None) × (fault ≡ None)
-row_accepted fault old now kept e = both_clear old.fault fault (sym (ap (λ (x : Walked). is_some x.fault) kept) ∙ e)
-
-pub row_made : (d : Context) (g : meant.Guard Formula) (t : Table) (xs : List (Option Aim)) (n : ℕ) (row : RowTree) (fault : Option SectionFault) (old now made new : Walked) (r : Result Unit SectionFault)
-    → IsFound d t row fault → Refused old fault now → is_some now.fault ≡ false → made.fault ≡ now.fault → made.before ≡ now.before
-    → DoesWork (row_work d g t xs n row) (standing now) (standing made) r → AfterMaking r made new → WalksWork (row_work d g t xs n row) old new
-row_made d g t xs n row fault old now made new r e kept s f b h k =
-    let rs = row_refused d t.clocked (term_of d.known (view t.inputs)) (term_of d.known (view t.outputs)) row in
-    let clear = row_accepted fault old now kept s in
-    work_made (row_work d g t xs n row) old made new r clear.0 (f ∙ no_fault now.fault s)
-    (append-nil rs ∙ none_refused section_order rs (sym clear.1 ∙ e))
-    (b ∙ ap (λ (x : Walked). x.before) kept)
-    (subst (λ c. DoesWork (row_work d g t xs n row) c (standing made) r) (ap standing kept) h) k
-
 -- ---- a header
 
 -- a header that is refused is the one unit
-pub header_stands : (all ms : List Manner) (rs : List SectionFault) (p : Place) (us : List CountedUnit) (gs : List (meant.Contribution Formula)) (ps : List Place) (fault : SectionFault) (old new : Walked)
-    → Some fault ≡ first_refusal section_order rs → new.fault ≡ earlier section_order old.fault (Some fault) → is_some new.fault ≡ true → new.exprs ≡ old.exprs → AreFirsts new.before (all ++ ms)
+pub header_stands : (all ms before : List Manner) (rs : List SectionFault) (p : Place) (us : List CountedUnit) (gs : List (meant.Contribution Formula)) (ps : List Place) (fault : SectionFault) (old new : Walked)
+    → Some fault ≡ first_refusal section_order rs → new ≡ record old { before = before; fault = earlier section_order old.fault (Some fault) } → is_some new.fault ≡ true → AreFirsts before (all ++ ms)
     → Walks all (units_behind rs p us) gs ps ms old new
-header_stands all ms [] p us gs ps fault old new e f s x a = absurd cc
-header_stands all ms (r ∷ rs) p us gs ps fault old new e f s x a =
-    walks_refused all ms (whole p (r ∷ rs) 0) gs ps (Some fault) old new (e ∙ ap (first_refusal section_order) (sym (append-nil (r ∷ rs)))) f s x a
+header_stands all ms before [] p us gs ps fault old new e k s a = absurd cc
+header_stands all ms before (r ∷ rs) p us gs ps fault old new e k s a = noted_refused all ms (whole p (r ∷ rs) 0) gs ps (Some fault) before old new e k s a
 
 -- its manners were noted before the rows
 pub header_noted : (all ms firsts : List Manner) (us : List CountedUnit) (gs : List (meant.Contribution Formula)) (ps : List Place) (old new : Walked) → Walks (all ++ ms) us gs ps [] (record old { before = firsts }) new → Walks all us gs ps ms old new

@@ -35,14 +35,6 @@ module _ {A T : Type 0} (S : A → T → Type 0) where
 -- ---- walks
 
 module _ {A T M : Type 0} (S : A → T → Type 0) (w : Walking T M) where
-  taken : (t : T) (b : Bool) (stack later : List A) (old new : List M) → b ≡ true → IsStep S w t b stack later old new → Taken S w t stack later old new
-  taken t true stack later old new e s = s
-  taken t false stack later old new e s = absurd cc
-
-  refused : (t : T) (b : Bool) (stack later : List A) (old new : List M) → b ≡ false → IsStep S w t b stack later old new → w.passes t ≡ false
-  refused t false stack later old new e s = s
-  refused t true stack later old new e s = absurd cc
-
   -- the terms of a step in place of the last
   opened_behind : (h : T) (front more : List T) (t : T) (old new : List M) → Opened w h (front ++ t ∷ []) [] old → Opened w t more old new → Opened w h (front ++ more) [] new
   opened_behind h front more t old new o n =
@@ -69,7 +61,7 @@ module _ {A T M : Type 0} (S : A → T → Type 0) (w : Walking T M) where
     pub walk_on : b ≡ true → Walked S w t later new
     walk_on e =
         let l = here in
-        let s = taken l.last b rest later old new e (step l.last l.one) in
+        let s = subst (λ c. IsStep S w l.last c rest later old new) e (step l.last l.one) in
         record {
           terms = l.front ++ s.terms;
           stand = subst (λ xs. AllZip S xs (l.front ++ s.terms)) (sym s.pushed) (each_append S rest s.more l.front s.terms l.stand s.stand);
@@ -82,14 +74,14 @@ module _ {A T M : Type 0} (S : A → T → Type 0) (w : Walking T M) where
         walked.opened.passes
         ∙ ap (list_all w.passes) l.is
         ∙ list_all-append w.passes l.front (l.last ∷ [])
-        ∙ ap (λ q. list_all w.passes l.front && q) (and-true (w.passes l.last) ∙ refused l.last b rest later old new e (step l.last l.one))
+        ∙ ap (λ q. list_all w.passes l.front && q) (and-true (w.passes l.last) ∙ subst (λ c. IsStep S w l.last c rest later old new) e (step l.last l.one))
         ∙ and-false (list_all w.passes l.front)
 
     -- a step leaves fewer steps
     pub walk_fewer : (m : A → ℕ) → ((y : A) (u : T) → S y u → m y ≡ w.size u) → b ≡ true → sum_by m later < sum_by m stack
     walk_fewer m same e =
         let l = here in
-        let s = taken l.last b rest later old new e (step l.last l.one) in
+        let s = subst (λ c. IsStep S w l.last c rest later old new) e (step l.last l.one) in
         let after = ap (sum_by m) s.pushed ∙ each_sum S m w.size same (rest ++ s.more) (l.front ++ s.terms) (each_append S rest s.more l.front s.terms l.stand s.stand) ∙ sum_by-append w.size l.front s.terms in
         let before = each_sum S m w.size same stack walked.terms walked.stand ∙ ap (sum_by w.size) l.is ∙ sum_by-append w.size l.front (l.last ∷ []) in
         omega (arith, after, before, s.fewer)

@@ -1,13 +1,7 @@
 -- Works that are built one after another.
-use Rattle.std.proofs.Common.{◌≡◌, List, [], ◌∷◌, Result, Ok, Err, length, refl, sym, subst, arith, append_assoc, append-nil}
+use Rattle.std.proofs.Common.{◌≡◌, List, [], ◌∷◌, Result, Ok, Err, length, refl, sym, subst, arith}
 use Rattle.truth_tables.proofs.Common.{Place, arena, Formula, Contributions, SectionFault, StopsWith, Builds, part, builds_none, builds_then, builds_stop, stops_on, Work, before, nothing, IsDone}
 use Rattle.abel_meaning.specs.Contributions as meant
-
-pub before_none : (w : Work) → before w nothing ≡ w
-before_none w = rw (append-nil w.units, append-nil w.gives, append-nil w.places) refl
-
-pub before_assoc : (u v w : Work) → before (before u v) w ≡ before u (before v w)
-before_assoc u v w = rw (append_assoc u.units v.units w.units, append_assoc u.gives v.gives w.gives, append_assoc u.places v.places w.places) refl
 
 -- what is left by building a work
 abbrev pub DoesWork : {R : Type 0} → Work → (old new : Contributions) → Result R SectionFault → Type 0

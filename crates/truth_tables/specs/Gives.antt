@@ -4,6 +4,7 @@ use Rattle.truth_tables.specs.Prelude.{option_map, Place, ExprId, Node, arena, f
 use Rattle.abel_meaning.specs.Contributions.{contribution}
 use Rattle.abel_meaning.specs.Contributions as meant
 use Rattle.set_expr.specs.declared.contributions.Gives.{Gives}
+use Rattle.set_expr.specs.declared.contributions.Gives.TheVariants as gives
 use Rattle.truth_tables.specs.TableUnits.{some_aims, places_of, row_places}
 use Rattle.truth_tables.specs.declared.giving.Assigning.{Assigning}
 
@@ -15,12 +16,6 @@ signals_of xs = map (λ (x : Option Aim). option_map (λ (a : Aim). a.signal) x)
 abbrev pub matched_guard : List Formula → Guard → ExprId → meant.Guard Formula
 matched_guard fs g id = record { holds = formula_at fs id; dontcare = g.dontcare; block = g.block }
 
--- where what a level gives stands
-abbrev pub value_places : Aim → Option Bool → List Place
-value_places a None = a.place ∷ []
-value_places a (Some true) = a.place ∷ []
-value_places a (Some false) = []
-
 -- what is left by building no nodes, over every design of these names
 abbrev pub GivesFreely : Names → (Context → List (meant.Contribution Formula)) → List Place → (old new : List Node)
     → (list more : List Contribution) → Result Unit SectionFault → Type 0
@@ -28,12 +23,22 @@ GivesFreely n gs ps old new list more r =
     (d : Context) → d.names ≡ entries_of n
     → Builds [] (gs d) ps (record { exprs = old; list = list }) (record { exprs = new; list = more }) r
 
+-- what an output is given by the bit of a match
+abbrev pub given_output : Context → List Formula → Assigning → Gives → Aim → ExprId → meant.Contribution Formula
+given_output d fs m what a id =
+    contribution d (matched_guard fs m.guard id) None false m.clocked (view_gives what) a.signal (formula_at fs id)
+
 abbrev pub GivesOutput : Names → Assigning → Gives → Aim → ExprId → (old new : List Node)
     → (list more : List Contribution) → Result Unit SectionFault → Type 0
 GivesOutput n m what a id old new list more r =
-    GivesFreely n
-    (λ d. contribution d (matched_guard (arena old) m.guard id) None false m.clocked (view_gives what) a.signal (formula_at (arena old) id) ∷ [])
-    (a.place ∷ []) old new list more r
+    GivesFreely n (λ d. given_output d (arena old) m what a id ∷ []) (a.place ∷ []) old new list more r
+
+-- and then a match
+abbrev pub GivesMatched : Names → Assigning → Gives → Aim → ExprId → (old new : List Node)
+    → (list more : List Contribution) → Result Unit SectionFault → Type 0
+GivesMatched n m what a id old new list more r =
+    GivesFreely n (λ d. given_output d (arena old) m what a id ∷ given_output d (arena old) m gives.Match a id ∷ [])
+    (a.place ∷ a.place ∷ []) old new list more r
 
 abbrev pub GivesPositions : Names → Assigning → List (Option Aim) → List (Option Bool) → ExprId → (old new : List Node)
     → (list more : List Contribution) → Result Unit SectionFault → Type 0

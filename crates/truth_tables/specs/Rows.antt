@@ -1,14 +1,16 @@
 -- Private: the product of a row, position by position; the rows of a table with what they give, and what making them and
 -- walks over them leave (ABEL-HDL Reference Manual, truth tables).
-use Rattle.std.specs.Prelude.{◌≡◌, ◌+◌, ℕ, Bool, true, length, Option, None, Some, List, [], ◌∷◌, reverse, Result, false, map}
+use Rattle.std.specs.Prelude.{◌≡◌, ◌+◌, ℕ, zero, suc, Bool, true, length, Option, None, Some, List, [], ◌∷◌, reverse, Result, false, map}
 use Rattle.truth_tables.specs.Prelude.{Place, ExprId, Node, arena, formula_at, Formula, Const, make_literal, row_literals, Context, bits_of, formulas, width_of, Term, constant_of, Contribution, AreIn, IsShaped, bits_at, unknown_at, IsBit, IsBuilt, part, Table, RowTree, view, row_nodes, entry_levels, outputs_given, row_matches, targets_of, term_of, SectionFault, Aim, Builds, Vec, entries_of, view_row, term_nodes, no_matches, refusal_of, context_for, view_guard, Manner, Walked, AreNamed, AreFirsts, Walks}
 use Rattle.bit_expr.specs.Folding.{Made, free}
 use Rattle.set_expr.specs.declared.shaped.Shaped.{Shaped}
 use Rattle.abel_meaning.specs.Contributions as meant
-use Rattle.truth_tables.specs.TableUnits.{row_places, row_refused, places_of, some_aims}
+use Rattle.abel_meaning.specs.CountedBlocks.{rows_units}
+use Rattle.abel_meaning.specs.Tables.{rows_give}
+use Rattle.truth_tables.specs.TableUnits.{row_places, row_refused, row_units, rows_places, places_of, some_aims}
 use Rattle.truth_tables.specs.declared.checked_rows.RowFound.{RowFound}
 use Rattle.truth_tables.specs.Gives.{signals_of}
-use Rattle.truth_tables.specs.Works.{Work, before, nothing, given_freely}
+use Rattle.truth_tables.specs.Works.{Work, before, given_freely}
 use Rattle.pld_device.specs.Table as device
 use Rattle.abel_tree.specs.declared.tables.Row.{Row}
 use Rattle.truth_tables.specs.declared.rows.Headed.{Headed}
@@ -24,17 +26,6 @@ position_literal fs found (Some id) (Some level) = make_literal found level (for
 -- the literals of positions, behind what was found
 abbrev pub literals : List Formula → (found : Formula) → List (Option ExprId) → List (Option Bool) → Made Formula
 literals fs found ps ls = row_literals found (unknown_at ps) (bits_at fs ps) ls
-
--- all literals but those of these positions and levels are joined
-pub record IsJoined (old now : List Node) (unit : Place) (found : ExprId) (all : Made Formula)
-    (ps : List (Option ExprId)) (ls : List (Option Bool)) : Type 0 where
-  pub made : Formula
-  pub nodes : ℕ
-  pub bit : IsBit (arena now) found made
-  pub built : (list : List Contribution)
-      → IsBuilt (part unit nodes ∷ []) [] [] (record { exprs = old; list = list }) (record { exprs = now; list = list })
-  pub what : all.what ≡ (literals (arena old) made ps ls).what
-  pub total : all.nodes ≡ nodes + (literals (arena old) made ps ls).nodes
 
 -- the literals of a header's positions
 abbrev pub header_literals : Context → (header : Term) → List (Option Bool) → Made Formula
@@ -82,13 +73,18 @@ row_work d g t xs n row =
 
 -- rows, the first of which has so many nodes of the input header
 abbrev pub rows_work : Context → meant.Guard Formula → Table → List (Option Aim) → (nodes : ℕ) → List RowTree → Work
-rows_work d g t xs n [] = nothing
-rows_work d g t xs n (row ∷ rows) = before (row_work d g t xs n row) (rows_work d g t xs 0 rows)
+rows_work d g t xs n rows =
+    record {
+      units = row_units d t.clocked (term_of d.known (view t.inputs)) (term_of d.known (view t.outputs)) rows
+          (rows_units d (term_of d.known (view t.inputs)) n rows);
+      gives = rows_give (formulas d) d g t.clocked (term_of d.known (view t.inputs)) (term_of d.known (view t.outputs)) rows;
+      places = rows_places d xs (term_of d.known (view t.outputs)) rows;
+    }
 
--- how many of these nodes a row has behind such rows: the first one has them
-abbrev pub nodes_behind : (nodes : ℕ) → List RowTree → ℕ
-nodes_behind n [] = n
-nodes_behind n (row ∷ rows) = 0
+-- how many of these nodes are left to the row at a place: the first one has them
+abbrev pub nodes_at : (nodes place : ℕ) → ℕ
+nodes_at n zero = n
+nodes_at n (suc i) = 0
 
 -- a product with so many nodes before its own
 abbrev pub behind : (nodes : ℕ) → Made Formula → Made Formula
@@ -160,11 +156,12 @@ abbrev pub WalksRow : {D : Type 0} → device.Table → Headed D → (nodes : �
 WalksRow v h n row old new =
     WalksWork (row_work (design_of v h) (view_guard (arena old.exprs) h.guard) h.table.now h.outputs.now n (view_row row)) old new
 
--- a table behind its header, as far as these rows
-abbrev pub headed_work : {D : Type 0} → device.Table → Headed D → Walked → List RowTree → Work
-headed_work v h out rows =
+-- a table behind its header
+abbrev pub headed_work : {D : Type 0} → device.Table → Headed D → Walked → Work
+headed_work v h out =
     before (no_matches_work v h out)
-    (rows_work (design_of v h) (view_guard (arena out.exprs) h.guard) h.table.now h.outputs.now (inputs_nodes v h) rows)
+    (rows_work (design_of v h) (view_guard (arena out.exprs) h.guard) h.table.now h.outputs.now (inputs_nodes v h)
+    (map view_row h.table.now.rows))
 
 abbrev pub WalksHeaded : {D : Type 0} → device.Table → Headed D → (old new : Walked) → Type 0
-WalksHeaded v h old new = WalksWork (headed_work v h old (map view_row h.table.now.rows)) old new
+WalksHeaded v h old new = WalksWork (headed_work v h old) old new

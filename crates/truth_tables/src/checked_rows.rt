@@ -40,16 +40,6 @@ fn list_levels(alloc: Global, marks: &[Mark]) -> Result<Vec<Option<bool>>, Alloc
     marks.iter().map(|mark| level_of(*mark)).collect(alloc)
 }
 
-/// A refused entry.
-fn refused(alloc: Global, fault: SectionFault) -> Levels
-    ensures { result.fault ≡ Some fault }
-{
-    Levels {
-        levels: ListOf::from_vec(Vec::new(alloc)),
-        fault: Some(fault),
-    }
-}
-
 /// An entry under its header, in a row of a table that is refused so: `.C.` and `.Z.` stand in none.
 fn read_levels(
     alloc: Global,
@@ -61,10 +51,16 @@ fn read_levels(
     ensures { IfOk result (λ r. (d : Context) → IsOver scope.now d → IsLevels d row (term_of d.known (view header.now)) (view entry.now) r) }
 {
     if holds_pulse(alloc, scope, entry)? {
-        return Ok(refused(alloc, row));
+        return Ok(Levels {
+            levels: ListOf::from_vec(Vec::new(alloc)),
+            fault: Some(row),
+        });
     }
     match read_entry(alloc, scope, row, header, entry)? {
-        Entry::Refused(fault) => Ok(refused(alloc, fault)),
+        Entry::Refused(fault) => Ok(Levels {
+            levels: ListOf::from_vec(Vec::new(alloc)),
+            fault: Some(fault),
+        }),
         Entry::Marks(marks) => {
             let levels = list_levels(alloc, marks.as_slice())?;
             Ok(Levels {

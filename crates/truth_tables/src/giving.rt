@@ -2,7 +2,7 @@
 
 ghost use Rattle.std.specs.Prelude.{◌<◌, [], ◌∷◌, length};
 ghost use Rattle.truth_tables.specs.Prelude.{arena, entries_of, Keeps, AreNamed};
-ghost use Rattle.truth_tables.specs.{some_aims, GivesOutput, GivesPosition, GivesPositions, GivesNoMatches};
+ghost use Rattle.truth_tables.specs.{some_aims, GivesOutput, GivesMatched, GivesPosition, GivesPositions, GivesNoMatches};
 
 use bit_expr::{ExprId, Exprs};
 use pld_base::Place;
@@ -42,9 +42,8 @@ pub fn give_output(
     let giving = Giving {
         unit: assigning.unit,
         guard: Guard {
-            when: ExprId(1),
-            dontcare: assigning.guard.dontcare,
-            block: assigning.guard.block,
+            when: matching.bit,
+            ..assigning.guard
         },
         extension: None,
         complement: false,
@@ -55,7 +54,24 @@ pub fn give_output(
         scope: matching.scope,
         giving,
     };
-    give(&giver, aim, matching.bit, exprs, list)
+    give(&giver, aim, ExprId(1), exprs, list)
+}
+
+/// Appends one or any, and then a match.
+fn give_matched(
+    matching: &Matching<'_>,
+    what: Gives,
+    aim: Aim,
+    exprs: &mut Exprs,
+    list: &mut Vec<Contribution>,
+) -> Result<(), SectionFault>
+    requires signal { aim.signal < length (entries_of matching.now.scope.now) }
+    requires bit { matching.now.bit.0 < length (arena exprs.old) }
+    ensures keeps { Keeps (arena exprs.old) (arena exprs.new) }
+    ensures gives { GivesMatched matching.now.scope.now matching.now.assigning what aim matching.now.bit exprs.old exprs.new list.old.items list.new.items result }
+{
+    give_output(matching, what, aim, exprs, list)?;
+    give_output(matching, Gives::Match, aim, exprs, list)
 }
 
 /// A position of a row: one for 1, any for X and nothing for 0, and then a match; an output that is X is given nothing.
@@ -73,14 +89,11 @@ fn give_position(
 {
     match output {
         None => Ok(()),
-        Some(aim) => {
-            match level {
-                None => give_output(matching, Gives::Any, aim, exprs, list)?,
-                Some(true) => give_output(matching, Gives::One, aim, exprs, list)?,
-                Some(false) => {}
-            }
-            give_output(matching, Gives::Match, aim, exprs, list)
-        }
+        Some(aim) => match level {
+            None => give_matched(matching, Gives::Any, aim, exprs, list),
+            Some(true) => give_matched(matching, Gives::One, aim, exprs, list),
+            Some(false) => give_output(matching, Gives::Match, aim, exprs, list),
+        },
     }
 }
 

@@ -38,21 +38,19 @@ pub(crate) fn push_name(
     ensures { IfOk result (λ f. (d : Context) → IsOver scope.now d → IsAdded (header_name d place text.now) f outputs.old.items outputs.new.items) }
 {
     let found = scope.check_name(text, place);
-    match found.fault {
-        Some(fault) => Ok(Some(fault)),
+    if found.fault.is_some() {
+        return Ok(found.fault);
+    }
+    let signals = part_signals(alloc, scope, named_part(scope, text, None))?;
+    match signals {
         None => {
-            let signals = part_signals(alloc, scope, named_part(scope, text, None))?;
-            match signals {
-                None => {
-                    let number = number_of(scope, text);
-                    Ok(Some(SectionFault::NotAnOutput(place, number)))
-                }
-                Some(signals) => {
-                    let more = list_outputs(alloc, signals.as_slice(), place)?;
-                    outputs.extend_from_slice(&more)?;
-                    Ok(None)
-                }
-            }
+            let number = number_of(scope, text);
+            Ok(Some(SectionFault::NotAnOutput(place, number)))
+        }
+        Some(signals) => {
+            let more = list_outputs(alloc, signals.as_slice(), place)?;
+            outputs.extend_from_slice(&more)?;
+            Ok(None)
         }
     }
 }

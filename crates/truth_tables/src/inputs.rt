@@ -1,8 +1,8 @@
 //! The bits of an input header, and the product of a row: the literals of its inputs.
 
-ghost use Rattle.std.specs.Prelude.{◌≡◌, ◌<◌, true, None, Some, List, [], ◌∷◌, length, map, IfOk};
-ghost use Rattle.truth_tables.specs.Prelude.{Node, arena, formula_at, Const, row_literals, view, term_nodes, Context, term_of, Keeps, AreIn, bits_at, unknown_at, refusal_of, context_for, BuildsNodes, IsBit, part};
-ghost use Rattle.truth_tables.specs.{IsOver, is_computed, position_literal, StandForInputs, IsShapedTerm};
+ghost use Rattle.std.specs.Prelude.{◌≡◌, ◌<◌, true, None, Some, [], ◌∷◌, length, map, IfOk};
+ghost use Rattle.truth_tables.specs.Prelude.{arena, formula_at, Const, row_literals, view, term_nodes, Context, term_of, Keeps, AreIn, bits_at, unknown_at, refusal_of, context_for, BuildsNodes, IsBit, part};
+ghost use Rattle.truth_tables.specs.{IsOver, is_computed, position_literal, StandForInputs};
 
 use crate::part::{Stand, stand_of};
 use abel_tree::Expr;
@@ -11,7 +11,7 @@ use equations::unit_bits;
 use pld_base::{OutOfMemory, Place};
 use pld_device::Device;
 use section_targets::{SectionScope, add_node, guard_else, meet};
-use set_expr::{Scope, SectionFault, Shape, Shaped};
+use set_expr::{Scope, SectionFault, Shape};
 use std::alloc::{AllocError, Global};
 
 /// Whether an expression is an operator of two operands, behind signs, parentheses and constants' names.
@@ -44,35 +44,8 @@ fn list_positions(alloc: Global, bits: &[ExprId]) -> Result<Vec<Option<ExprId>>,
     bits.iter().map(|bit| Some(*bit)).collect(alloc)
 }
 
-/// The positions of a header from the left; those of a number are the 32 bits of what an operator makes, and none
-/// otherwise.
-fn shaped_positions(
-    alloc: Global,
-    scope: &Scope<'_>,
-    header: &Expr,
-    shaped: Shaped,
-) -> Result<Vec<Option<ExprId>>, OutOfMemory>
-    ensures { IfOk result (λ ps. (d : Context) (ns : List Node) → IsOver scope.now d → IsShapedTerm d (arena ns) (term_of d.known (view header.now)) shaped → StandForInputs d (term_of d.known (view header.now)) (arena ns) ps.items) }
-{
-    match shaped.shape {
-        Shape::Number(_) => {
-            if !has_operator(scope, header) {
-                return Ok(Vec::new(alloc));
-            }
-            let bits = meet(alloc, &shaped, 32)?;
-            let mut positions = list_positions(alloc, &bits)?;
-            positions.reverse();
-            Ok(positions)
-        }
-        _ => {
-            let mut positions = shaped.places.into_vec();
-            positions.reverse();
-            Ok(positions)
-        }
-    }
-}
-
-/// The positions of an input header from the left, None at X, as nodes of the unit at this place.
+/// The positions of an input header from the left, None at X, as nodes of the unit at this place. Those of a number are the
+/// 32 bits of what an operator makes, and none otherwise.
 pub(crate) fn header_bits<D: Device>(
     alloc: Global,
     scope: &SectionScope<'_, D>,
@@ -86,8 +59,22 @@ pub(crate) fn header_bits<D: Device>(
     ensures inputs { IfOk result (λ ps. StandForInputs (context_for D.table scope.now) (term_of (context_for D.table scope.now).known (view header.now)) (arena exprs.new) ps.items) }
 {
     let shaped = unit_bits::<D>(alloc, scope, header, unit, exprs)?;
-    let positions = shaped_positions(alloc, scope.scope(), header, shaped)?;
-    Ok(positions)
+    match shaped.shape {
+        Shape::Number(_) => {
+            if !has_operator(scope.scope(), header) {
+                return Ok(Vec::new(alloc));
+            }
+            let bits = meet(alloc, &shaped, 32)?;
+            let mut positions = list_positions(alloc, &bits)?;
+            positions.reverse();
+            Ok(positions)
+        }
+        _ => {
+            let mut positions = shaped.places.into_vec();
+            positions.reverse();
+            Ok(positions)
+        }
+    }
 }
 
 /// What was found before, and a position of the header at a level; one that is X counts for nothing, and X matches both

@@ -1,7 +1,7 @@
 //! The walk over truth tables, and what is refused of their headers.
 
-ghost use Rattle.std.specs.Prelude.{◌≡◌, List, ◌++◌, IfOk, OnOk};
-ghost use Rattle.truth_tables.specs.Prelude.{view, Context, IsContextOf, Manner, AreFirsts};
+ghost use Rattle.std.specs.Prelude.{◌≡◌, List, [], ◌++◌, if◌then◌else◌, IfOk, OnOk};
+ghost use Rattle.truth_tables.specs.Prelude.{is_some, view, Context, IsContextOf, Manner, AreFirsts};
 ghost use Rattle.truth_tables.specs.{output_header, assigned_by, some_aims, IsAccepted, IsWholeHeader, WalksHeaded, WalksTable};
 
 use crate::giving::{Assigning, give_no_matches};
@@ -28,6 +28,20 @@ fn list_aims(alloc: Global, outputs: &[Option<Aim>]) -> Result<Vec<Aim>, AllocEr
     outputs.iter().filter_map(|output| *output).collect(alloc)
 }
 
+/// The outputs that a header assigns: none where it is refused.
+fn assigned_aims(
+    alloc: Global,
+    refused: Option<SectionFault>,
+    outputs: &[Option<Aim>],
+) -> Result<Vec<Aim>, AllocError>
+    ensures { IfOk result (λ aims. aims.items ≡ (if is_some refused then [] else some_aims outputs.now)) }
+{
+    if refused.is_some() {
+        return Ok(Vec::new(alloc));
+    }
+    list_aims(alloc, outputs)
+}
+
 /// Both sides of a table's header, whose outputs are assigned behind what was assigned before: the first refusal, and
 /// the outputs. How they are assigned is noted. Calls go as deep as the nestings of sets and parentheses.
 pub(crate) fn read_header<D: Device>(
@@ -42,22 +56,17 @@ pub(crate) fn read_header<D: Device>(
     let inputs = scope.check(alloc, &table.inputs)?;
     let mut outputs = Vec::new(alloc);
     let refused = push_outputs(alloc, scope, &table.outputs, &mut outputs)?;
-    if refused.is_some() {
-        return Ok(Header {
-            outputs: ListOf::from_vec(outputs),
-            fault: earlier(inputs.fault, refused),
-        });
-    }
-    let aims = list_aims(alloc, outputs.as_slice())?;
+    let aims = assigned_aims(alloc, refused, outputs.as_slice())?;
     let way = Way {
         extension: None,
         complement: false,
         clocked: table.clocked,
     };
     let mixed = check_aims::<D>(scope, way, aims.as_slice(), before)?;
+    let fault = earlier(refused, mixed);
     Ok(Header {
         outputs: ListOf::from_vec(outputs),
-        fault: earlier(inputs.fault, mixed),
+        fault: earlier(inputs.fault, fault),
     })
 }
 

@@ -22,8 +22,8 @@ returns-in-Refused c d is =
     let r = subst (IsRead d c.args.row h t) c.in-Refused.is (c.in_ok-fault.ensures d is) in
     let plain = subst (λ es. holds_pulse (names_found es) t ≡ false) (sym is.names) (sym c.in_ok-holds_pulse.ensures ∙ c.if-branch.false) in
     record {
-      fault = c.refused-in-Refused.ensures ∙ sym (ap first (level_plain d c.args.row h t plain) ∙ r);
-      given = λ n. absurd (none-some c.in-Refused.fault (sym n ∙ c.refused-in-Refused.ensures));
+      fault = sym (ap first (level_plain d c.args.row h t plain) ∙ r);
+      given = λ n. absurd (none-some c.in-Refused.fault (sym n));
     }
 
 pub returns-in_ok-levels-in-Marks : goal.returns-in_ok-levels-in-Marks
@@ -34,5 +34,5 @@ returns-in_ok-levels-in-Marks c d is =
     let plain = subst (λ es. holds_pulse (names_found es) t ≡ false) (sym is.names) (sym c.in_ok-holds_pulse.ensures ∙ c.if-branch.false) in
     record {
       fault = sym (ap first (level_plain d c.args.row h t plain ∙ r.0));
-      given = λ n. c.from_vec.ensures ∙ c.in_ok-levels-in-Marks.ensures ∙ ap levels_of c.as_slice.ensures.value ∙ levels_given d h (term_of d.known t) c.in-Marks.marks.items r.1;
+      given = λ n. c.from_vec-in-Marks.ensures ∙ c.in_ok-levels-in-Marks.ensures ∙ ap levels_of c.as_slice.ensures.value ∙ levels_given d h (term_of d.known t) c.in-Marks.marks.items r.1;
     }

@@ -1,8 +1,8 @@
 -- Refused inside, no pair left, a pair that doesn't meet, and one that does.
 use Rattle.std.proofs.Common.{◌≡◌, Option, None, Some, [], ◌∷◌, ◌++◌, map, refl, sym, ap, ◌∙◌, subst₂, arith}
-use Rattle.truth_tables.proofs.Common.{common_steps, sample, view, Term, term_of, map_reverse, SectionFault, context_for, Pair, view_mark, IsPair, meeting, seen, part_parts, Walked}
+use Rattle.truth_tables.proofs.Common.{common_steps, names_found, refused_inside, first_refusal, meets, none_refused, section_order, sample, view, Term, term_of, map_reverse, SectionFault, context_for, Pair, view_mark, IsPair, meeting, seen, part_parts, Walked}
 use Rattle.truth_tables.proofs.PartLaws.{part_counted}
-use Rattle.truth_tables.proofs.ReadLaws.{read_met, read_refused, read_unmet}
+use Rattle.truth_tables.proofs.ReadLaws.{inside_first, inside_over, none_met, none_unmet}
 use Rattle.truth_tables.proofs.RowsWalked.{is_over}
 use Rattle.truth_tables.proofs.StackLaws.{walk_begun, walk_done, walk_fewer, walk_on, walk_stops}
 use Rattle.truth_tables.proofs.entries.read_entry.Goals as goal
@@ -14,7 +14,9 @@ clear (Some x) h = absurd (h x refl)
 
 pub returns-in-Some : goal.returns-in-Some
 returns-in-Some c d is =
-    read_refused c.args.scope.now d is c.args.row c.in-Some.fault (term_of d.known (view c.args.header.now)) (view c.args.entry.now) c.in_ok-inside.inside c.in_ok-inside.ensures c.in-Some.is
+    let t = view c.args.entry.now in
+    inside_first (refused_inside (names_found d.names) c.args.row t) c.args.row c.in-Some.fault (meets d (term_of d.known (view c.args.header.now)) (term_of d.known t))
+    (sym c.in-Some.is ∙ inside_over c.args.scope.now d is c.args.row t c.in_ok-inside.inside c.in_ok-inside.ensures)
 
 pub loop-pair-init : goal.loop-pair-init
 loop-pair-init c d is =
@@ -29,16 +31,18 @@ returns c d is =
     let out = c.loop-pair.marks.items in
     let empty : c.loop-pair.stack.items ≡ [] = grind (arith, common_steps) in
     let w = walk_done (IsPair d) (meeting d) t c.loop-pair.stack.items (seen out) empty (c.loop-pair.invariant d is) in
-    let none = clear c.in_ok-inside.inside c.in_default.not-Some in (
-      read_met c.args.scope.now d is c.args.row t.0 (view c.args.entry.now) c.in_ok-inside.inside c.in_ok-inside.ensures none w.0,
+    let rs = refused_inside (names_found d.names) c.args.row (view c.args.entry.now) in
+    let none = none_refused section_order rs (sym (clear c.in_ok-inside.inside c.in_default.not-Some) ∙ inside_over c.args.scope.now d is c.args.row (view c.args.entry.now) c.in_ok-inside.inside c.in_ok-inside.ensures) in (
+      none_met rs c.args.row _ none w.0,
       ap (map view_mark) c.reverse.ensures.items ∙ map_reverse view_mark out ∙ sym w.1,
     )
 
 pub returns-then-not-branch : goal.returns-then-not-branch
 returns-then-not-branch c d is =
-    let h = term_of d.known (view c.args.header.now) in
-    read_unmet c.args.scope.now d is c.args.row h (view c.args.entry.now) c.in_ok-inside.inside c.in_ok-inside.ensures (clear c.in_ok-inside.inside c.in_default.not-Some)
-    (walk_stops (IsPair d) (meeting d) _ _ _ _ _ _ _ _ c.in-Some-pop.ensures.items (c.loop-pair.invariant d is) (λ u q. c.in_ok-step.ensures d u.0 u.1 is q.0 q.1) c.if-not-branch.true)
+    let rs = refused_inside (names_found d.names) c.args.row (view c.args.entry.now) in
+    let none = none_refused section_order rs (sym (clear c.in_ok-inside.inside c.in_default.not-Some) ∙ inside_over c.args.scope.now d is c.args.row (view c.args.entry.now) c.in_ok-inside.inside c.in_ok-inside.ensures) in
+    ap (first_refusal section_order) (none_unmet rs c.args.row _ none
+    (walk_stops (IsPair d) (meeting d) _ _ _ _ _ _ _ _ c.in-Some-pop.ensures.items (c.loop-pair.invariant d is) (λ u q. c.in_ok-step.ensures d u.0 u.1 is q.0 q.1) c.if-not-branch.true))
 
 pub loop-pair-preserved : goal.loop-pair-preserved
 loop-pair-preserved c d is =

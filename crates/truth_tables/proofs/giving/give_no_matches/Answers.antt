@@ -1,7 +1,8 @@
 -- One output more, and all outputs.
-use Rattle.std.proofs.Common.{Ok, Err, refl, arith}
+use Rattle.std.proofs.Common.{Ok, Err, refl, ap, arith}
 use Rattle.truth_tables.proofs.Common.{err_from_is_err_and, arena, keeps_on, low_bit, at, view_guard}
-use Rattle.truth_tables.proofs.GivenLaws.{named_at, no_left, no_step_at}
+use Rattle.truth_tables.proofs.GivenLaws.{named_at, no_step_at, no_work}
+use Rattle.std.proofs.lemmas.List.{drop_all}
 use Rattle.truth_tables.proofs.WorkLaws.{left_done}
 use Rattle.truth_tables.proofs.giving.give_no_matches.Goals as goal
 
@@ -34,4 +35,4 @@ returns-in_err-give_position-clause-gives c = λ d e.
 pub returns-clause-gives : goal.returns-clause-gives
 returns-clause-gives c = λ d e.
     left_done _ _ (at c.args.exprs.now c.args.list.now.items) (at c.loop-index.exprs c.loop-index.list.items)
-    (no_left d (view_guard (arena c.args.exprs.now) c.args.assigning.guard) c.args.assigning.clocked c.loop-index.index c.args.outputs.now (omega (arith, c.loop-index-test.false))) (c.loop-index.invariant.1 d e)
+    (ap (no_work d (view_guard (arena c.args.exprs.now) c.args.assigning.guard) c.args.assigning.clocked) (drop_all c.loop-index.index c.args.outputs.now (omega (arith, c.loop-index-test.false)))) (c.loop-index.invariant.1 d e)

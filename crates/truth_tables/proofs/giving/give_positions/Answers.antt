@@ -1,7 +1,8 @@
 -- One position more, and all positions.
-use Rattle.std.proofs.Common.{◌<◌, ◌≤◌, Ok, Err, min, length, arith}
+use Rattle.std.proofs.Common.{◌<◌, Ok, Err, min, length, drop, arith}
 use Rattle.truth_tables.proofs.Common.{err_from_is_err_and, arena, kept_formula, kept_inside, keeps_on, at, matched_guard}
-use Rattle.truth_tables.proofs.GivenLaws.{named_at, positions_left, positions_step_at}
+use Rattle.truth_tables.proofs.GivenLaws.{named_at, positions_none, positions_step_at}
+use Rattle.std.proofs.lemmas.List.{length-drop}
 use Rattle.truth_tables.proofs.WorkLaws.{left_done}
 use Rattle.truth_tables.proofs.giving.give_positions.Goals as goal
 
@@ -41,5 +42,8 @@ pub returns-clause-gives : goal.returns-clause-gives
 returns-clause-gives c = λ d e.
     let m = c.args.matching.now in
     let h = matched_guard (arena c.args.exprs.now) m.assigning.guard m.bit in
-    let le : min (length c.args.outputs.now) (length c.args.levels.now) ≤ c.loop-index.index = omega (arith, c.loop-index-test.false, c.min-count.ensures) in
-    left_done _ _ (at c.args.exprs.now c.args.list.now.items) (at c.loop-index.exprs c.loop-index.list.items) (positions_left d h m.assigning.clocked c.loop-index.index c.args.outputs.now c.args.levels.now le) (c.loop-index.invariant.1 d e)
+    let i = c.loop-index.index in
+    let xs = c.args.outputs.now in
+    let ls = c.args.levels.now in
+    left_done _ _ (at c.args.exprs.now c.args.list.now.items) (at c.loop-index.exprs c.loop-index.list.items)
+    (positions_none d h m.assigning.clocked (drop i xs) (drop i ls) (omega (arith, length-drop i xs, length-drop i ls, c.loop-index-test.false, c.min-count.ensures))) (c.loop-index.invariant.1 d e)

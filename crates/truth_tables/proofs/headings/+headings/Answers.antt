@@ -1,8 +1,9 @@
 -- What each variant is refused as, and one member or name more.
-use Rattle.std.proofs.Common.{◌≡◌, ◌+◌, ◌-◌, ◌++◌, Some, [], ◌∷◌, length, refl, ap, ap₂, sym, ◌∙◌, subst, take, map, arith}
-use Rattle.truth_tables.proofs.Common.{length-append, IfOk-weaker, sample, AName, ASet, members_of, view, view_member, NotAnOutput, first_place, context_for, front_more, whole_front, find, range_names, name_items, found_in, view_name, view_set, view_span, view_binary, header_name, header_range, header_set, output_header, output_member, output_members, IsAdded}
+use Rattle.std.proofs.Common.{◌≡◌, ◌+◌, ◌-◌, None, Some, length, refl, ap, ap₂, sym, ◌∙◌, subst, map, arith}
+use Rattle.truth_tables.proofs.Common.{length-append, IfOk-weaker, sample, AName, ASet, members_of, view, view_member, NotAnOutput, first_place, context_for, find, range_names, name_items, found_in, view_name, view_set, view_span, view_binary, header_name, header_range, header_set, output_header, output_member, output_members, IsAdded}
 use Rattle.section_targets.specs.TargetSignals.{first_name}
-use Rattle.truth_tables.proofs.HeaderLaws.{added_more, added_refused, added_whole, members_more, range_more}
+use Rattle.truth_tables.proofs.HeaderLaws.{added_all, added_on, added_refused, added_whole}
+use Rattle.truth_tables.proofs.ReadLaws.{rest_more}
 use Rattle.truth_tables.proofs.RowsWalked.{is_over}
 use Rattle.truth_tables.proofs.headings.+headings.Goals as goal
 
@@ -47,56 +48,51 @@ push_outputs-returns-in-Binary t c d is =
     added_refused d _ _ _ _ c.args.outputs.now.items v refl
     (c.refuse_operator.ensures ∙ ap (λ es. NotAnOutput (first_place (view c.args.expr.now)) (first_name es (view c.args.expr.now))) (sym is.names) ∙ ap (λ e. NotAnOutput (first_place e) (first_name d.names e)) v)
 
+pub push_member-loop-text-init : goal.push_member-loop-text-init
+push_member-loop-text-init t c d is f later rest = rest
+
 pub push_member-loop-text-preserved : goal.push_member-loop-text-preserved
-push_member-loop-text-preserved t c d is =
+push_member-loop-text-preserved t c d is f later rest =
     let p = c.in-Span.first.place in
-    let items = c.deref-text-items.result.now in
-    let before = map name_items (take c.loop-text.text-index items) in
-    let n = name_items c.text-item.result in
-    let here : map name_items (take (c.loop-text.text-index + 1) items) ≡ before ++ n ∷ [] = front_more name_items items c.loop-text.text-index c.text-item.result c.loop-text-test.true c.text-item.is in
-    let old = c.args.outputs.now.items in
-    let now = c.push_name.new.outputs.items in
-    subst (λ x. IsAdded x c.earlier-fault.result old now) (range_more d p before n ∙ ap (header_range d p) (sym here))
-    (added_more (header_range d p before) (header_name d p n) c.loop-text.fault c.in_ok-found-in-Span.found c.earlier-fault.result old c.loop-text.outputs.items now (c.loop-text.invariant d is)
-    (subst (λ w. IsAdded (header_name d p w) c.in_ok-found-in-Span.found c.loop-text.outputs.items now) c.as_slice.ensures.value (c.in_ok-found-in-Span.ensures d is)) c.earlier-fault.ensures)
+    let here = rest_more name_items c.deref-text-items.result.now c.loop-text.text-index c.text-item.result c.loop-text-test.true c.text-item.is in
+    let one = subst (λ w. IsAdded (header_name d p w) c.in_ok-found-in-Span.found c.loop-text.outputs.items c.push_name.new.outputs.items) c.as_slice.ensures.value (c.in_ok-found-in-Span.ensures d is) in
+    added_on _ _ _ c.loop-text.fault c.in_ok-found-in-Span.found c.earlier-fault.result f c.args.outputs.now.items c.loop-text.outputs.items c.push_name.new.outputs.items later (ap (header_range d p) here) one rest c.earlier-fault.ensures (c.loop-text.invariant d is)
 
 pub push_member-returns-after-loop-text : goal.push_member-returns-after-loop-text
 push_member-returns-after-loop-text t c d is =
+    let p = c.in-Span.first.place in
     let old = c.args.outputs.now.items in
     let now = c.loop-text.outputs.items in
-    let all : map name_items (take c.loop-text.text-index c.deref-text-items.result.now) ≡ range_names c.in-Span.first.text c.in-Span.last.text =
-    whole_front name_items c.deref-text-items.result.now c.loop-text.text-index c.loop-text-test.false
-    ∙ (ap (map name_items) c.deref-text-items.ensures.value ∙ (c.in_ok-texts-in-Span.ensures ∙ ap₂ range_names c.bytes.ensures c.bytes-in-Span.ensures)) in
+    let all = ap (map name_items) c.deref-text-items.ensures.value ∙ (c.in_ok-texts-in-Span.ensures ∙ ap₂ range_names c.bytes.ensures c.bytes-in-Span.ensures) in
     subst (λ m. IsAdded (output_member d m) c.loop-text.fault old now) (sym (ap view_member c.in-Span.is ∙ view_span c.in-Span.first c.in-Span.last))
-    (subst (λ names. IsAdded (header_range d c.in-Span.first.place names) c.loop-text.fault old now) all (c.loop-text.invariant d is))
+    (subst (λ names. IsAdded (header_range d p names) c.loop-text.fault old now) all
+    (added_all (λ xs. header_range d p (map name_items xs)) c.deref-text-items.result.now c.loop-text.text-index c.loop-text.fault _ old now refl c.loop-text-test.false (c.loop-text.invariant d is None now)))
+
+pub push_set-loop-member-init : goal.push_set-loop-member-init
+push_set-loop-member-init t c d is f later rest = rest
 
 pub push_set-loop-member-preserved : goal.push_set-loop-member-preserved
-push_set-loop-member-preserved t c d is =
-    let ms = c.args.members.now in
-    let i = c.loop-member.member-index in
-    let m = view_member c.member-item.result in
-    let here : map view_member (take (i + 1) ms) ≡ map view_member (take i ms) ++ m ∷ [] = front_more view_member ms i c.member-item.result c.loop-member-test.true c.member-item.is in
-    let old = c.args.outputs.now.items in
-    let now = c.push_member.new.outputs.items in
-    subst (λ x. IsAdded x c.earlier-fault.result old now)
-    (sym (members_more d (map view_member (take i ms)) m) ∙ ap (λ xs. output_members d (members_of xs)) (sym here))
-    (added_more (output_members d (members_of (map view_member (take i ms)))) (output_member d m) c.loop-member.fault c.in_ok-found.found c.earlier-fault.result old c.loop-member.outputs.items now (c.loop-member.invariant d is) (c.in_ok-found.ensures d is) c.earlier-fault.ensures)
+push_set-loop-member-preserved t c d is f later rest =
+    let here = rest_more view_member c.args.members.now c.loop-member.member-index c.member-item.result c.loop-member-test.true c.member-item.is in
+    added_on _ _ _ c.loop-member.fault c.in_ok-found.found c.earlier-fault.result f c.args.outputs.now.items c.loop-member.outputs.items c.push_member.new.outputs.items later (ap (λ xs. output_members d (members_of xs)) here) (c.in_ok-found.ensures d is) rest c.earlier-fault.ensures (c.loop-member.invariant d is)
 
 -- the positions before the set stay
 pub push_set-overflow_sub-width : goal.push_set-overflow_sub-width
 push_set-overflow_sub-width t c =
     let n = c.args.scope.now in
-    let x = output_members (context_for sample n) (members_of (map view_member (take c.loop-member.member-index c.args.members.now))) in
+    let d = context_for sample n in
+    let x = output_members d (members_of (map view_member c.args.members.now)) in
+    let all = added_all (λ xs. output_members d (members_of (map view_member xs))) c.args.members.now c.loop-member.member-index c.loop-member.fault x c.args.outputs.now.items c.loop-member.outputs.items refl c.loop-member-test.false (c.loop-member.invariant d (is_over sample n) None c.loop-member.outputs.items) in
     let old : c.len-before.result ≡ length c.args.outputs.now.items = c.len-before.ensures ∙ c.args.outputs.now.ok.0 in
     let now : c.len.result ≡ length c.loop-member.outputs.items = c.len.ensures ∙ c.loop-member.outputs.ok.0 in
-    let more : length c.loop-member.outputs.items ≡ length c.args.outputs.now.items + length x.outputs = ap length (c.loop-member.invariant (context_for sample n) (is_over sample n)).outputs ∙ length-append c.args.outputs.now.items x.outputs in
+    let more : length c.loop-member.outputs.items ≡ length c.args.outputs.now.items + length x.outputs = ap length all.outputs ∙ length-append c.args.outputs.now.items x.outputs in
     omega (arith, old, now, more)
 
 pub push_set-returns : goal.push_set-returns
 push_set-returns t c d is =
-    let ms = c.args.members.now in
-    let all = whole_front view_member ms c.loop-member.member-index c.loop-member-test.false in
     let old = c.args.outputs.now.items in
     let now = c.loop-member.outputs.items in
-    added_whole c.args.place (output_members d (members_of (map view_member ms))) c.loop-member.fault c.then_some-wide.result c.earlier.result old now _
-    (subst (λ xs. IsAdded (output_members d (members_of xs)) c.loop-member.fault old now) all (c.loop-member.invariant d is)) (ap₂ (λ m n. m - n) (c.len.ensures ∙ c.loop-member.outputs.ok.0) (c.len-before.ensures ∙ c.args.outputs.now.ok.0)) c.then_some-wide.ensures c.earlier.ensures
+    let x = output_members d (members_of (map view_member c.args.members.now)) in
+    added_whole c.args.place x c.loop-member.fault c.then_some-wide.result c.earlier.result old now _
+    (added_all (λ xs. output_members d (members_of (map view_member xs))) c.args.members.now c.loop-member.member-index c.loop-member.fault x old now refl c.loop-member-test.false (c.loop-member.invariant d is None now))
+    (ap₂ (λ m n. m - n) (c.len.ensures ∙ c.loop-member.outputs.ok.0) (c.len-before.ensures ∙ c.args.outputs.now.ok.0)) c.then_some-wide.ensures c.earlier.ensures

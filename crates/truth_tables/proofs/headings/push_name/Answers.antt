@@ -3,6 +3,7 @@ use Rattle.std.proofs.Common.{◌≡◌, ℕ, ◌++◌, Option, None, Some, List
 use Rattle.truth_tables.proofs.Common.{find, none_refused, Context, term_named, Place, SectionFault, NotAnOutput, found_use, name_found, names_found, SumsUp, section_order, Names, entries_of, Aim, IsOver, AreSignals, header_name, named_outputs, outputs_at, refused_header, IsAdded, found_in}
 use Rattle.set_expr.specs.declared.checked.Checked.{Checked}
 use Rattle.truth_tables.proofs.HeaderLaws.{added_none, named_listed, named_other, named_refused}
+use Rattle.truth_tables.proofs.RowsWalked.{no_fault}
 use Rattle.truth_tables.proofs.headings.push_name.Goals as goal
 
 over : (n : Names) (d : Context) (k : Checked) (p : Place) (w : List ℕ) → IsOver n d → SumsUp k (found_use p (name_found (names_found (entries_of n)) w)) → SumsUp k (found_use p (name_found (names_found d.names) w))
@@ -17,34 +18,33 @@ clear d k p w f old new s e a =
 pub part_signals-requires : goal.part_signals-requires
 part_signals-requires c = λ d is. record { term = term_named d.known c.args.text.now; is = c.named_part.ensures d is }
 
-pub returns-in-Some : goal.returns-in-Some
-returns-in-Some c d is =
+pub returns-then-is_some : goal.returns-then-is_some
+returns-then-is_some c d is =
     let w = c.args.text.now in
     let p = c.args.place in
-    let found = over c.args.scope.now d c.check_name-found.result p w is c.check_name-found.ensures in
-    let r = named_refused (found_use p (name_found (names_found d.names) w)).refusals p (find d.names w) (term_named d.known w) c.in-Some.fault (sym c.in-Some.is ∙ found.fault) in
-    added_none (header_name d p w) (Some c.in-Some.fault) c.args.outputs.now.items (sym r.0) r.1
+    named_refused _ p (find d.names w) (term_named d.known w) c.check_name-found.result.fault c.args.outputs.now.items (sym c.is_some.ensures ∙ c.if-is_some.true)
+    (over c.args.scope.now d c.check_name-found.result p w is c.check_name-found.ensures).fault
 
-pub returns-in-None-signals : goal.returns-in-None-signals
-returns-in-None-signals c d is =
+pub returns-in-None : goal.returns-in-None
+returns-in-None c d is =
     let w = c.args.text.now in
     let p = c.args.place in
     let t = term_named d.known w in
     let xs = c.args.outputs.now.items in
-    let s = subst (AreSignals t) c.in-None-signals.is (c.in_ok-signals-in-None.ensures d t is (c.named_part.ensures d is)) in
-    clear d c.check_name-found.result p w _ xs xs (over c.args.scope.now d c.check_name-found.result p w is c.check_name-found.ensures) c.in-None.is
+    let s = subst (AreSignals t) c.in-None.is (c.in_ok-signals.ensures d t is (c.named_part.ensures d is)) in
+    clear d c.check_name-found.result p w _ xs xs (over c.args.scope.now d c.check_name-found.result p w is c.check_name-found.ensures) (no_fault c.check_name-found.result.fault (sym c.is_some.ensures ∙ c.if-is_some.false))
     (subst (λ x. IsAdded x (Some (NotAnOutput p c.number_of-number.result)) xs xs) (sym (named_other p (find d.names w) t s))
     (added_none (refused_header (NotAnOutput p (find d.names w))) _ xs (ap (λ n. Some (NotAnOutput p n)) (found_in w is.names c.number_of-number.ensures)) refl))
 
-pub returns-in_ok-extend_from_slice-in-Some-signals : goal.returns-in_ok-extend_from_slice-in-Some-signals
-returns-in_ok-extend_from_slice-in-Some-signals c d is =
+pub returns-in_ok-extend_from_slice-in-Some : goal.returns-in_ok-extend_from_slice-in-Some
+returns-in_ok-extend_from_slice-in-Some c d is =
     let w = c.args.text.now in
     let p = c.args.place in
     let t = term_named d.known w in
     let old = c.args.outputs.now.items in
     let now = c.extend_from_slice.new.self.items in
-    let ss = c.in-Some-signals.signals.items in
-    let s = subst (AreSignals t) c.in-Some-signals.is (c.in_ok-signals-in-None.ensures d t is (c.named_part.ensures d is)) in
-    clear d c.check_name-found.result p w None old now (over c.args.scope.now d c.check_name-found.result p w is c.check_name-found.ensures) c.in-None.is
+    let ss = c.in-Some.signals.items in
+    let s = subst (AreSignals t) c.in-Some.is (c.in_ok-signals.ensures d t is (c.named_part.ensures d is)) in
+    clear d c.check_name-found.result p w None old now (over c.args.scope.now d c.check_name-found.result p w is c.check_name-found.ensures) (no_fault c.check_name-found.result.fault (sym c.is_some.ensures ∙ c.if-is_some.false))
     (subst (λ x. IsAdded x None old now) (sym (named_listed p (find d.names w) t ss s.0 s.1))
-    (record { fault = refl; outputs = c.in_ok-extend_from_slice-in-Some-signals.ensures.items ∙ ap (λ zs. old ++ zs) (c.deref.ensures.value ∙ c.in_ok-more-in-Some-signals.ensures ∙ ap (outputs_at p) c.as_slice.ensures.value) }))
+    (record { fault = refl; outputs = c.in_ok-extend_from_slice-in-Some.ensures.items ∙ ap (λ zs. old ++ zs) (c.deref.ensures.value ∙ c.in_ok-more-in-Some.ensures ∙ ap (outputs_at p) c.as_slice.ensures.value) }))

@@ -1,7 +1,8 @@
 -- The names of a range, one member more, and all members.
-use Rattle.std.proofs.Common.{◌≡◌, ◌+◌, ◌||◌, [], ◌∷◌, ◌++◌, map, take, sym, ap, ap₂, ◌∙◌}
-use Rattle.truth_tables.proofs.Common.{list_any, entries_of, range_names, members_of, view, view_member, name_items, names_found, view_span, front_more, whole_front, is_pulse_named, holds_pulse, any_holds_pulse, member_holds_pulse}
-use Rattle.truth_tables.proofs.ReadLaws.{any_named, holds_more, holds_set}
+use Rattle.std.proofs.Common.{List, ◌+◌, ◌||◌, map, drop, refl, sym, ap, ap₂, ◌∙◌}
+use Rattle.std.proofs.lemmas.List.{at_drop_all}
+use Rattle.truth_tables.proofs.Common.{Member, list_any, entries_of, range_names, members_of, view, view_member, name_items, names_found, view_span, or-false, or_assoc, is_pulse_named, holds_pulse, any_holds_pulse, member_holds_pulse}
+use Rattle.truth_tables.proofs.ReadLaws.{any_named, holds_set, rest_more}
 use Rattle.truth_tables.proofs.inside.+pulses.Goals as goal
 
 pub member_holds-returns-in_ok-names-in-Span : goal.member_holds-returns-in_ok-names-in-Span
@@ -14,21 +15,25 @@ member_holds-returns-in_ok-names-in-Span t c =
     ∙ ap (list_any test) (c.in_ok-names-in-Span.ensures ∙ ap₂ range_names c.bytes.ensures c.bytes-in-Span.ensures)
     ∙ ap (member_holds_pulse ns) (sym (ap view_member c.in-Span.is ∙ view_span c.in-Span.first c.in-Span.last))
 
+pub level_holds-loop-member-init : goal.level_holds-loop-member-init
+level_holds-loop-member-init t c = refl
+
 pub level_holds-loop-member-preserved : goal.level_holds-loop-member-preserved
 level_holds-loop-member-preserved t c =
     let ns = names_found (entries_of c.args.scope.now) in
     let ms = c.as_slice-member-items.result.now in
     let i = c.loop-member.member-index in
-    let m = view_member c.member-item.result in
-    let here : map view_member (take (i + 1) ms) ≡ map view_member (take i ms) ++ m ∷ [] = front_more view_member ms i c.member-item.result c.loop-member-test.true c.member-item.is in
-    ap₂ (λ a b. a || b) (c.loop-member.invariant) (c.in_ok-holds-in-Set.ensures)
-    ∙ sym (ap (λ xs. any_holds_pulse ns (members_of xs)) here ∙ holds_more ns (map view_member (take i ms)) m)
+    let rest = any_holds_pulse ns (members_of (map view_member (drop (i + 1) ms))) in
+    or_assoc c.loop-member.found c.in_ok-holds-in-Set.holds rest
+    ∙ ap (λ b. c.loop-member.found || (b || rest)) c.in_ok-holds-in-Set.ensures
+    ∙ ap (λ xs. c.loop-member.found || any_holds_pulse ns (members_of xs)) (sym (rest_more view_member ms i c.member-item.result c.loop-member-test.true c.member-item.is))
+    ∙ c.loop-member.invariant
 
 pub level_holds-returns-after-loop-member : goal.level_holds-returns-after-loop-member
 level_holds-returns-after-loop-member t c =
     let ns = names_found (entries_of c.args.scope.now) in
-    let ms = c.as_slice-member-items.result.now in
-    let all : map view_member (take c.loop-member.member-index ms) ≡ map view_member c.in-Set.members = whole_front view_member ms c.loop-member.member-index c.loop-member-test.false ∙ ap (map view_member) c.as_slice-member-items.ensures in
-    c.loop-member.invariant
-    ∙ ap (λ xs. any_holds_pulse ns (members_of xs)) all
+    let holds = λ (ms : List Member). any_holds_pulse ns (members_of (map view_member ms)) in
+    sym (at_drop_all (λ (ms : List Member). c.loop-member.found || holds ms) c.as_slice-member-items.result.now c.loop-member.member-index c.loop-member-test.false ∙ or-false c.loop-member.found)
+    ∙ c.loop-member.invariant
+    ∙ ap holds c.as_slice-member-items.ensures
     ∙ sym (ap (λ e. holds_pulse ns (view e)) c.in-Set.is ∙ holds_set c.in-Set.place c.in-Set.members c.in-Set.extension ns)

@@ -1,5 +1,5 @@
 -- What holds one of them on the way down, and among a set's members.
-use Rattle.std.proofs.Common.{◌≡◌, ◌||◌, ◌+◌, ◌*◌, ◌≤◌, map, take}
+use Rattle.std.proofs.Common.{◌≡◌, ◌||◌, ◌+◌, ◌*◌, ◌≤◌, map, drop}
 use Rattle.truth_tables.proofs.Common.{size-Expr, size-Member, entries_of, members_of, view, view_member, names_found, holds_pulse, any_holds_pulse}
 use Rattle.truth_tables.proofs.inside.+pulses.Given as goal
 
@@ -21,4 +21,5 @@ invariant-holds_pulse-down l =
 
 abbrev pub invariant-level_holds-loop-member : goal.invariant-level_holds-loop-member
 invariant-level_holds-loop-member l =
-    l.found ≡ any_holds_pulse (names_found (entries_of l.scope)) (members_of (map view_member (take l.member-index l.member-items)))
+    let holds = any_holds_pulse (names_found (entries_of l.scope)) in
+    (l.found || holds (members_of (map view_member (drop l.member-index l.member-items)))) ≡ holds (members_of (map view_member l.member-items))

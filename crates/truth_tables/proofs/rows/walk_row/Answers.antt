@@ -1,19 +1,24 @@
 -- A row that is refused or stands behind what is, and one that is made.
-use Rattle.std.proofs.Common.{sym, ◌∙◌, subst}
-use Rattle.truth_tables.proofs.Common.{on_ok_weaker, arena, view_row, view_guard, standing, row_work, HasInputs, design_of, nodes_left, Work}
+use Rattle.std.proofs.Common.{ℕ, ◌+◌, [], ◌∷◌, sym, ap, ◌∙◌, subst, subst₂}
+use Rattle.truth_tables.proofs.Common.{on_ok_weaker, arena, view, view_row, view_guard, part, standing, term_of, row_nodes, row_refused, row_work, Builds, Contributions, HasInputs, design_of, nodes_left, whole, Work}
+use Rattle.equations.proofs.WalkedUnits.{unit_clear, unit_made, unit_refused}
 use Rattle.section_targets.specs.declared.walked.Walked.{Walked}
 use Rattle.truth_tables.proofs.RowWorks.{found_row}
-use Rattle.truth_tables.proofs.RowsWalked.{after_exprs, after_made, not_clear, over_same, row_accepted, row_made, row_stands}
+use Rattle.truth_tables.proofs.RowsWalked.{after_exprs, after_made, not_clear, over_same}
 use Rattle.truth_tables.proofs.WorkLaws.{DoesWork}
 use Rattle.truth_tables.proofs.rows.walk_row.Goals as goal
 
 pub returns-then-refuse-clause-walks : goal.returns-then-refuse-clause-walks
-returns-then-refuse-clause-walks g c = λ n e.
+returns-then-refuse-clause-walks g c = λ n e all a.
     let v = g.D.Device.table in
     let h = c.args.headed.now in
-    let is = c.in_ok-found.ensures (design_of v h) (over_same v c.scope.result.now h.scope.now c.scope.ensures) in
-    row_stands (design_of v h) (view_guard (arena c.args.out.now.exprs) h.guard) h.table.now h.outputs.now n (view_row c.args.row.now) c.in_ok-found.found.fault c.args.out.now c.refuse.new.self
-    is.fault c.refuse.ensures.first (sym c.refuse.ensures.refused ∙ c.if-refuse.true)
+    let d = design_of v h in
+    let t = h.table.now in
+    let row = view_row c.args.row.now in
+    let i = term_of d.known (view t.inputs) in
+    let w = row_work d (view_guard (arena c.args.out.now.exprs) h.guard) t h.outputs.now n row in
+    unit_refused all (whole row.place (row_refused d t.clocked i (term_of d.known (view t.outputs)) row) (n + row_nodes d i row)) w.gives w.places c.in_ok-found.found.fault c.args.out.now c.refuse.new.self
+    (c.in_ok-found.ensures d (over_same v c.scope.result.now h.scope.now c.scope.ensures)).fault c.refuse.ensures.first (sym c.refuse.ensures.refused ∙ c.if-refuse.true) a
 
 pub returns-then-refuse-clause-inputs : goal.returns-then-refuse-clause-inputs
 returns-then-refuse-clause-inputs g c = subst (λ (w : Walked). HasInputs g.D.Device.table c.args.headed.now c.args.inputs.now w.exprs) (sym c.refuse.ensures.first) c.requires.inputs
@@ -37,15 +42,19 @@ returns-clause-walks g c =
     let made = c.give_row-made.new.out in
     let r = c.give_row-made.result in
     let m = nodes_left v h c.args.inputs.now in
-    let guard = view_guard (arena old.exprs) h.guard in
-    let s = sym c.refuse.ensures.refused ∙ c.if-refuse.false in
-    let clear = row_accepted f.fault old now c.refuse.ensures.first s in
+    let i = term_of d.known (view t.inputs) in
+    let rs = row_refused d t.clocked i (term_of d.known (view t.outputs)) row in
+    let w = row_work d (view_guard (arena old.exprs) h.guard) t h.outputs.now m row in
+    let some = sym c.refuse.ensures.refused ∙ c.if-refuse.false in
     let is = c.in_ok-found.ensures d (over_same v c.scope.result.now h.scope.now c.scope.ensures) in
+    let clear = unit_clear rs f.fault old now is.fault c.refuse.ensures.first some in
+    let built = λ (cs : Contributions) (n : ℕ). Builds (part row.place (n + row_nodes d i row) ∷ []) w.gives w.places cs (standing made) r in
+    let here : built (standing now) m = subst (λ (x : Work). DoesWork x (standing now) (standing made) r)
+    (found_row d (view_guard (arena old.exprs) h.guard) t h.outputs.now m row f c.requires.accepted.named is clear.1.0) c.give_row-made.ensures.gives in
     on_ok_weaker c.keep_limit.result
-    (λ k n e. row_made d guard t h.outputs.now n row f.fault old now made c.keep_limit.new.self r
-    is.fault c.refuse.ensures.first s c.give_row-made.ensures.fault c.give_row-made.ensures.before
-    (subst (λ i. DoesWork (row_work d guard t h.outputs.now i row) (standing now) (standing made) r) (sym (e clear.0))
-    (subst (λ (w : Work). DoesWork w (standing now) (standing made) r) (found_row d guard t h.outputs.now m row f c.requires.accepted.named is clear.1) c.give_row-made.ensures.gives)) k)
+    (λ k n e all a. unit_made all row.place rs (n + row_nodes d i row) w.gives w.places f.fault old now made c.keep_limit.new.self r
+    is.fault c.refuse.ensures.first some a c.give_row-made.ensures.fault c.give_row-made.ensures.before
+    (subst₂ built (ap standing c.refuse.ensures.first) (sym (e clear.0)) here) k)
     c.keep_limit.ensures
 
 pub returns-clause-inputs : goal.returns-clause-inputs

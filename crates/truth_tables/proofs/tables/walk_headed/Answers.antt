@@ -1,9 +1,10 @@
 -- No match for each output, one row more, and all rows.
-use Rattle.std.proofs.Common.{◌≡◌, ◌+◌, ◌++◌, not, [], ◌∷◌, length, map, take, refl, sym, ap, ◌∙◌, subst}
-use Rattle.truth_tables.proofs.Common.{arena, Names, entries_of, AreNamed, some_aims, view_row, view_guard, front_more, whole_front, nodes_behind, row_work, rows_work, WalksWork, design_of, headed_work, inputs_nodes, no_matches_work, Work, before}
-use Rattle.truth_tables.proofs.RowWorks.{none_behind, rows_more}
+use Rattle.std.proofs.Common.{◌≡◌, ◌+◌, not, List, ◌∷◌, length, map, drop, refl, sym, ap, ◌∙◌, subst, add-one}
+use Rattle.std.proofs.lemmas.List.{drop_all}
+use Rattle.truth_tables.proofs.Common.{arena, Names, entries_of, AreNamed, some_aims, view_row, view_guard, nodes_at, row_work, rows_work, walks_none, WalksWork, design_of, inputs_nodes, no_matches_work}
+use Rattle.abel_tree.specs.declared.tables.Row.{Row}
+use Rattle.truth_tables.proofs.ReadLaws.{rest_more}
 use Rattle.truth_tables.proofs.RowsWalked.{free_refused, no_fault, none_left, work_made, work_then}
-use Rattle.truth_tables.proofs.WorkLaws.{before_assoc, before_none}
 use Rattle.truth_tables.proofs.tables.walk_headed.Goals.{then-is_none+in_ok-keep_limit, else-is_none}
 use Rattle.truth_tables.proofs.tables.walk_headed.Goals as goal
 
@@ -25,39 +26,41 @@ loop-row-init g c =
       | else-is_none b ↦ subst (WalksWork w old) (sym b.out-is) (free_refused w.gives w.places old (c.is_none.ensures ∙ ap not b.if-is_none.false))
     ] in
     record {
-      walks = subst (λ (w : Work). WalksWork w old c.if-is_none.out) (sym (before_none w)) free;
+      left = λ later rest. work_then w (rows_work (design_of v h) (view_guard (arena old.exprs) h.guard) h.table.now h.outputs.now (inputs_nodes v h) (map view_row h.table.now.rows)) old c.if-is_none.out later free
+          (subst (λ rs. WalksWork (rows_work (design_of v h) (view_guard (arena old.exprs) h.guard) h.table.now h.outputs.now (inputs_nodes v h) (map view_row rs)) c.if-is_none.out later) c.as_slice-rows.ensures rest);
       inputs = tt;
-      left = λ e. refl;
+      nodes = λ e. refl;
     }
 
 pub loop-row-preserved : goal.loop-row-preserved
 loop-row-preserved g c =
     let v = g.D.Device.table in
     let h = c.args.headed.now in
-    let old = c.args.out.now in
     let new = c.walk_row.new.out in
     let rows = c.as_slice-rows.result.now in
     let i = c.loop-row.row-index in
     let row = view_row c.row-item.result in
-    let front = map view_row (take i rows) in
     let d = design_of v h in
-    let guard = view_guard (arena old.exprs) h.guard in
-    let n = inputs_nodes v h in
-    let here : map view_row (take (i + 1) rows) ≡ front ++ row ∷ [] = front_more view_row rows i c.row-item.result c.loop-row-test.true c.row-item.is in
-    let whole = headed_work v h old front in
-    let one = row_work d guard h.table.now h.outputs.now (nodes_behind n front) row in
-    let more : before whole one ≡ headed_work v h old (front ++ row ∷ []) =
-    before_assoc (no_matches_work v h old) (rows_work d guard h.table.now h.outputs.now n front) one
-    ∙ ap (before (no_matches_work v h old)) (sym (rows_more d guard h.table.now h.outputs.now n front row)) in
+    let guard = view_guard (arena c.args.out.now.exprs) h.guard in
+    let n = nodes_at (inputs_nodes v h) i in
+    let none : nodes_at (inputs_nodes v h) (i + 1) ≡ 0 = ap (nodes_at (inputs_nodes v h)) (add-one i) in
+    let later_rows = map view_row (drop (i + 1) rows) in
+    let here : map view_row (drop i rows) ≡ row ∷ later_rows = rest_more view_row rows i c.row-item.result c.loop-row-test.true c.row-item.is in
+    let work = rows_work d guard h.table.now h.outputs.now in
     record {
-      walks = subst (λ (w : Work). WalksWork w old new) (more ∙ ap (headed_work v h old) (sym here))
-          (work_then whole one old c.loop-row.out new c.loop-row.invariant.walks (c.in_ok-walk_row.ensures.walks (nodes_behind n front) (λ e. sym (c.loop-row.invariant.left e))));
+      left = λ later rest. c.loop-row.invariant.left later
+          (subst (λ rs. WalksWork (work n rs) c.loop-row.out later) (sym here)
+          (work_then (row_work d guard h.table.now h.outputs.now n row) (work 0 later_rows) c.loop-row.out new later
+          (c.in_ok-walk_row.ensures.walks n (λ e. sym (c.loop-row.invariant.nodes e))) (subst (λ m. WalksWork (work m later_rows) new later) none rest)));
       inputs = c.in_ok-walk_row.ensures.inputs;
-      left = λ e. none_left v h c.walk_row.new.inputs (c.in_ok-walk_row.ensures.made e) ∙ sym (ap (nodes_behind n) here ∙ none_behind n front row);
+      nodes = λ e. none_left v h c.walk_row.new.inputs (c.in_ok-walk_row.ensures.made e) ∙ sym none;
     }
 
 pub returns : goal.returns
 returns g c =
-    let rows = c.as_slice-rows.result.now in
-    let all = whole_front view_row rows c.loop-row.row-index c.loop-row-test.false ∙ ap (map view_row) c.as_slice-rows.ensures in
-    subst (λ rs. WalksWork (headed_work g.D.Device.table c.args.headed.now c.args.out.now rs) c.args.out.now c.loop-row.out) all c.loop-row.invariant.walks
+    let v = g.D.Device.table in
+    let h = c.args.headed.now in
+    let out = c.loop-row.out in
+    let work = λ (rs : List Row). rows_work (design_of v h) (view_guard (arena c.args.out.now.exprs) h.guard) h.table.now h.outputs.now (nodes_at (inputs_nodes v h) c.loop-row.row-index) (map view_row rs) in
+    c.loop-row.invariant.left out
+    (subst (λ rs. WalksWork (work rs) out out) (sym (drop_all c.loop-row.row-index c.as_slice-rows.result.now c.loop-row-test.false)) (λ all a. walks_none all out a))

@@ -14,15 +14,13 @@ returns-in-Some g c =
     let d = context_for v n in
     let t = c.args.table.now in
     let rows = map view_row t.rows in
-    let kept = c.refuse.ensures.first in
     let old = c.args.out.now in
     subst (λ (names : Names). WalksTable v names c.args.guard t old c.refuse.new.self) c.scope-names.ensures
     (λ all a.
-    header_stands all (assigned_by t.clocked (output_header d (view t.outputs))) (header_refused d all t.clocked (view t.inputs) (view t.outputs)) t.place (row_units d t.clocked (term_of d.known (view t.inputs)) (term_of d.known (view t.outputs)) rows (table_units d (view t.inputs) rows))
+    header_stands all (assigned_by t.clocked (output_header d (view t.outputs))) c.read_header.new.before (header_refused d all t.clocked (view t.inputs) (view t.outputs)) t.place (row_units d t.clocked (term_of d.known (view t.inputs)) (term_of d.known (view t.outputs)) rows (table_units d (view t.inputs) rows))
     (given_by d c.args.guard t (arena old.exprs)) (places_by d t) c.in-Some.fault old c.refuse.new.self
     (sym c.in-Some.is ∙ (c.in_ok-header.ensures.header d all (is_context v n) a).fault)
-    (ap (λ (w : Walked). w.fault) kept) (ap (λ (w : Walked). is_some w.fault) kept ∙ some_refused old.fault c.in-Some.fault) (ap (λ (w : Walked). w.exprs) kept)
-    (subst (λ (w : Walked). AreFirsts w.before (all ++ assigned_by t.clocked (output_header d (view t.outputs)))) (sym kept) (c.in_ok-header.ensures.before d all (is_context v n) a)))
+    c.refuse.ensures.first (ap (λ (w : Walked). is_some w.fault) c.refuse.ensures.first ∙ some_refused old.fault c.in-Some.fault) (c.in_ok-header.ensures.before d all (is_context v n) a))
 
 pub walk_headed-requires : goal.walk_headed-requires
 walk_headed-requires g c =
