@@ -27,9 +27,7 @@ fn level_of(mark: Mark) -> Option<bool>
 {
     match mark {
         Mark::Level(on) => Some(on),
-        Mark::Unknown => None,
-        Mark::Pulsed => None,
-        Mark::Released => None,
+        Mark::Unknown | Mark::Pulsed | Mark::Released => None,
     }
 }
 

@@ -15,10 +15,7 @@ use std::alloc::Global;
 fn names_pulse(scope: &Scope<'_>, text: &[u8]) -> bool
     ensures { result ≡ is_pulse_named (names_found (entries_of scope.now)) text.now }
 {
-    match scope.get(text) {
-        Some(name) => name.pulse,
-        None => false,
-    }
+    scope.get(text).is_some_and(|name| name.pulse)
 }
 
 /// Whether one of these names stands for one of them.
@@ -42,33 +39,6 @@ fn member_holds(alloc: Global, scope: &Scope<'_>, member: &Member) -> Result<boo
     }
 }
 
-/// Whether one of them stands in what is no operator of two operands.
-#[cycle(pulses)]
-fn level_holds(alloc: Global, scope: &Scope<'_>, expr: &Expr) -> Result<bool, OutOfMemory>
-    ensures { IfOk result (λ b. b ≡ holds_pulse (names_found (entries_of scope.now)) (view expr.now)) }
-{
-    match expr {
-        Expr::Number(_) => Ok(false),
-        Expr::Special { letter, .. } => Ok(*letter != b'X'),
-        Expr::Name { word, .. } => Ok(names_pulse(scope, word.text.bytes())),
-        Expr::Set { members, .. } => {
-            let mut found = false;
-            for member in members.as_slice() {
-                let holds = member_holds(alloc, scope, member)?;
-                found = found | holds;
-            }
-            Ok(found)
-        }
-        Expr::Paren { inner, .. } => holds_pulse(alloc, scope, inner.get()),
-        Expr::Unary { inner, .. } => holds_pulse(alloc, scope, inner.get()),
-        Expr::Binary { left, right, .. } => {
-            let left = holds_pulse(alloc, scope, left.get())?;
-            let right = holds_pulse(alloc, scope, right.get())?;
-            Ok(left || right)
-        }
-    }
-}
-
 /// Whether `.C.` or `.Z.` stands in an expression, or a name of one. Goes down the left side of operators in a loop,
 /// and deeper by the nestings alone.
 #[cycle(pulses)]
@@ -81,23 +51,37 @@ pub(crate) fn holds_pulse(
 {
     let mut first = expr;
     let mut found = false;
-    'down: while let Expr::Binary { left, right, .. } = first {
-        let holds = holds_pulse(alloc, scope, right.get())?;
-        found = found | holds;
-        first = left.get();
+    'down: loop {
+        match first {
+            Expr::Number(_) => return Ok(found),
+            Expr::Special { letter, .. } => return Ok(found || *letter != b'X'),
+            Expr::Name { word, .. } => {
+                let holds = names_pulse(scope, word.text.bytes());
+                return Ok(found || holds);
+            }
+            Expr::Set { members, .. } => {
+                for member in members.as_slice() {
+                    let holds = member_holds(alloc, scope, member)?;
+                    found = found | holds;
+                }
+                return Ok(found);
+            }
+            Expr::Paren { inner, .. } => first = inner.get(),
+            Expr::Unary { inner, .. } => first = inner.get(),
+            Expr::Binary { left, right, .. } => {
+                let holds = holds_pulse(alloc, scope, right.get())?;
+                found = found | holds;
+                first = left.get();
+            }
+        }
     }
-    let holds = level_holds(alloc, scope, first)?;
-    Ok(found || holds)
 }
 
 /// What is refused of the declaration of a name.
 fn refuse_name(scope: &Scope<'_>, text: &[u8]) -> Option<SectionFault>
     ensures { result ≡ first_refusal section_order (name_found (names_found (entries_of scope.now)) text.now).found.refusals }
 {
-    match scope.get(text) {
-        Some(name) => name.checked.fault,
-        None => None,
-    }
+    scope.get(text).and_then(|name| name.checked.fault)
 }
 
 /// What is refused of an operator in a row that is refused so.
@@ -151,8 +135,7 @@ pub(crate) fn refuse_inside(
     ensures { IfOk result (λ f. f ≡ first_refusal section_order (refused_inside (names_found (entries_of scope.now)) row (view entry.now))) }
 {
     match entry {
-        Expr::Number(_) => Ok(None),
-        Expr::Special { .. } => Ok(None),
+        Expr::Number(_) | Expr::Special { .. } => Ok(None),
         Expr::Name { word, .. } => Ok(refuse_name(scope, word.text.bytes())),
         Expr::Set { members, .. } => {
             let mut fault = None;

@@ -15,11 +15,15 @@ member_holds-returns-in_ok-names-in-Span t c =
     ∙ ap (list_any test) (c.in_ok-names-in-Span.ensures ∙ ap₂ range_names c.bytes.ensures c.bytes-in-Span.ensures)
     ∙ ap (member_holds_pulse ns) (sym (ap view_member c.in-Span.is ∙ view_span c.in-Span.first c.in-Span.last))
 
-pub level_holds-loop-member-init : goal.level_holds-loop-member-init
-level_holds-loop-member-init t c = refl
+pub holds_pulse-loop-member-init : goal.holds_pulse-loop-member-init
+holds_pulse-loop-member-init t c =
+    let ns = names_found (entries_of c.args.scope.now) in
+    ap (λ ms. c.down.found || any_holds_pulse ns (members_of (map view_member ms))) c.as_slice-member-items.ensures
+    ∙ ap (λ b. c.down.found || b) (sym (ap (λ e. holds_pulse ns (view e)) c.in-Set.is ∙ holds_set c.in-Set.place c.in-Set.members c.in-Set.extension ns))
+    ∙ c.down.invariant.holds
 
-pub level_holds-loop-member-preserved : goal.level_holds-loop-member-preserved
-level_holds-loop-member-preserved t c =
+pub holds_pulse-loop-member-preserved : goal.holds_pulse-loop-member-preserved
+holds_pulse-loop-member-preserved t c =
     let ns = names_found (entries_of c.args.scope.now) in
     let ms = c.as_slice-member-items.result.now in
     let i = c.loop-member.member-index in
@@ -29,11 +33,7 @@ level_holds-loop-member-preserved t c =
     ∙ ap (λ xs. c.loop-member.found || any_holds_pulse ns (members_of xs)) (sym (rest_more view_member ms i c.member-item.result c.loop-member-test.true c.member-item.is))
     ∙ c.loop-member.invariant
 
-pub level_holds-returns-after-loop-member : goal.level_holds-returns-after-loop-member
-level_holds-returns-after-loop-member t c =
-    let ns = names_found (entries_of c.args.scope.now) in
-    let holds = λ (ms : List Member). any_holds_pulse ns (members_of (map view_member ms)) in
-    sym (at_drop_all (λ (ms : List Member). c.loop-member.found || holds ms) c.as_slice-member-items.result.now c.loop-member.member-index c.loop-member-test.false ∙ or-false c.loop-member.found)
-    ∙ c.loop-member.invariant
-    ∙ ap holds c.as_slice-member-items.ensures
-    ∙ sym (ap (λ e. holds_pulse ns (view e)) c.in-Set.is ∙ holds_set c.in-Set.place c.in-Set.members c.in-Set.extension ns)
+pub holds_pulse-returns-in-Set : goal.holds_pulse-returns-in-Set
+holds_pulse-returns-in-Set t c =
+    let holds = λ (ms : List Member). c.loop-member.found || any_holds_pulse (names_found (entries_of c.args.scope.now)) (members_of (map view_member ms)) in
+    sym (at_drop_all holds c.as_slice-member-items.result.now c.loop-member.member-index c.loop-member-test.false ∙ or-false c.loop-member.found) ∙ c.loop-member.invariant
