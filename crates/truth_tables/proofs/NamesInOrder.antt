@@ -1,7 +1,7 @@
 -- What names stand for where each constant names earlier names alone: the term of its expression over all names, by fewer
 -- steps than its own name takes.
 use Rattle.std.proofs.Common.{◌≡◌, ℕ, zero, suc, ◌+◌, ◌≤◌, Bool, true, false, ◌&&◌, Option, None, Some, List, [], ◌∷◌, if◌then◌else◌, take, get_or, slice_get, cond, bytes_eq, refl, sym, ap, ap₂, ◌∙◌, subst, arith, ◌*◌, ◌<◌, length, mul-le-mul_left}
-use Rattle.truth_tables.proofs.Common.{list_all, position_from, list_all-append, slice_get-get_or, take-length, Names, Entry, Kind, APin, ANode, AConstant, ADeviceName, find, kind_of, passes, is_value, names_any, entries_of, range_names, Tree, ANumber, ASpecial, AName, ASet, AParen, AUnary, ABinary, OneMember, SpanMember, Members, NoMember, MoreMembers, Terms, Number, Before, UnaryOf, BinaryOf, Set, extended_if, term_named, named_before, term_of, terms_of, term_meant, known_of, up_to, names_left, signs_left, kind_signs, all_signs, steps_left, steps_up_to, LeadsBack, IsOfKind}
+use Rattle.truth_tables.proofs.Common.{list_all, position_from, list_all-append, slice_get-get_or, take-length, Names, Entry, Kind, AConstant, find, kind_of, passes, is_value, names_any, entries_of, range_names, Tree, AName, ASet, AParen, AUnary, ABinary, OneMember, SpanMember, Members, NoMember, MoreMembers, Terms, Number, Before, UnaryOf, BinaryOf, Set, extended_if, term_named, named_before, term_of, terms_of, term_meant, known_of, up_to, names_left, signs_left, kind_signs, all_signs, steps_left, steps_up_to, LeadsBack, IsOfKind}
 use Rattle.std.proofs.lemmas.Iterator.Adapters.{position_from-zero}
 use Rattle.std.proofs.lemmas.List.Quantifiers.{position-Some}
 use Rattle.pld_base.specs.declared.device_name.DeviceName.{DeviceName}

@@ -1,6 +1,6 @@
 -- The outputs of a header that isn't refused are the signals of its term, position by position, and names of the design.
 use Rattle.std.proofs.Common.{◌≡◌, ℕ, Bool, true, false, Option, None, Some, List, [], ◌∷◌, ◌++◌, if◌then◌else◌, length, bytes_eq, append_assoc, refl, sym, ap, ap₂, ◌∙◌, zero, suc, ◌<◌, nat_lt, subst, arith, codes}
-use Rattle.truth_tables.proofs.Common.{option_map, map-append, get_or_past, Place, find, Entry, is_signal, range_names, Tree, ANumber, ASpecial, AName, ASet, AParen, AUnary, ABinary, OneMember, SpanMember, Members, NoMember, MoreMembers, Context, no_name, targets_of, all_targets, Term, Terms, X, Pulse, Release, term_named, term_of, terms_of, named_before, special_term, known_of, SectionFault, MisplacedSpecial, NotAnOutput, found_use, name_found, names_found, too_wide, Aim, left_empty, right_empty, names_positions, header_of, refused_header, outputs_at, named_outputs, header_name, header_range, header_special, output_header, output_members, signals_of, AreNamed, some_aims, unless_refused}
+use Rattle.truth_tables.proofs.Common.{option_map, map-append, get_or_past, Place, find, Entry, is_signal, range_names, Tree, ASpecial, AName, ASet, AParen, OneMember, SpanMember, Members, NoMember, MoreMembers, Context, no_name, targets_of, all_targets, Term, Terms, X, Pulse, Release, term_named, term_of, terms_of, named_before, special_term, known_of, SectionFault, MisplacedSpecial, NotAnOutput, found_use, name_found, names_found, too_wide, Aim, left_empty, right_empty, names_positions, header_of, refused_header, outputs_at, named_outputs, header_name, header_range, header_special, output_header, output_members, signals_of, AreNamed, some_aims, unless_refused}
 use Rattle.std.proofs.lemmas.Bool.{ltb-true, ltb-false}
 use Rattle.section_targets.proofs.KnownTargets.{EachTarget, IsSignalOf, signal_targets}
 

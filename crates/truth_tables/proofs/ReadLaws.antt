@@ -1,5 +1,5 @@
 -- What is refused of an entry, by what is inside and by whether it meets its header.
-use Rattle.std.proofs.Common.{◌≡◌, Bool, true, false, Option, None, Some, List, [], ◌∷◌, refl, sym, ap, ap₂, ◌∙◌, subst, ℕ, ◌+◌, ◌<◌, ◌||◌, ◌++◌, length, map, drop, get_or, rules}
+use Rattle.std.proofs.Common.{◌≡◌, Bool, true, false, Option, Some, List, [], ◌∷◌, refl, sym, ap, ap₂, ◌∙◌, subst, ℕ, ◌+◌, ◌<◌, ◌||◌, ◌++◌, length, map, drop, get_or, rules}
 use Rattle.truth_tables.proofs.Common.{Names, entries_of, first_refusal, Tree, Context, SectionFault, names_found, section_order, IsOver, refused_inside, unless_met, list_any, Vec, Place, the_lemmas, Member, Extension, members_of, view, view_member, name_items, NameFound, holds_pulse, any_holds_pulse, all_refused_inside, earlier, first_append}
 use Rattle.abel_tree.proofs.FirstRefusals.{earlier_assoc}
 use Rattle.abel_tree.specs.declared.expressions.Expr as expr

@@ -1,6 +1,6 @@
 -- A walk over a stack, step by step.
 use Rattle.std.proofs.Common.{◌≡◌, ℕ, ◌<◌, Bool, true, false, ◌&&◌, List, [], ◌∷◌, ◌++◌, refl, sym, ap, ◌∙◌, subst, arith, append_assoc, append-nil}
-use Rattle.truth_tables.proofs.Common.{AllZip, flat_map, list_all, sum_by, and-false, and-true, flat_map-append, list_all-append, sum_by-append, Walking, Opened, Taken, IsStep, Walked}
+use Rattle.truth_tables.proofs.Common.{AllZip, flat_map, list_all, sum_by, and-false, and-true, flat_map-append, list_all-append, sum_by-append, Walking, Opened, IsStep, Walked}
 use Rattle.truth_tables.proofs.NamesInOrder.{right_true}
 
 -- ---- what lies on stacks

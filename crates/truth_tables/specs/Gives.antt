@@ -1,5 +1,5 @@
 -- What is left by giving outputs their bits (ABEL-HDL Reference Manual, truth tables).
-use Rattle.std.specs.Prelude.{◌≡◌, ℕ, Bool, true, false, Option, None, Some, List, [], ◌∷◌, map, Result}
+use Rattle.std.specs.Prelude.{◌≡◌, ℕ, Bool, false, Option, None, List, [], ◌∷◌, map, Result}
 use Rattle.truth_tables.specs.Prelude.{option_map, Place, ExprId, Node, arena, formula_at, Formula, Names, entries_of, Context, formulas, no_matches, outputs_given, Contribution, Guard, SectionFault, view_gives, view_guard, Aim, Builds}
 use Rattle.abel_meaning.specs.Contributions.{contribution}
 use Rattle.abel_meaning.specs.Contributions as meant

@@ -1,7 +1,7 @@
 -- Private: the product of a row, position by position; the rows of a table with what they give, and what making them and
 -- walks over them leave (ABEL-HDL Reference Manual, truth tables).
 use Rattle.std.specs.Prelude.{◌≡◌, ◌+◌, ℕ, zero, suc, Bool, true, length, Option, None, Some, List, [], ◌∷◌, reverse, Result, false, map}
-use Rattle.truth_tables.specs.Prelude.{Place, ExprId, Node, arena, formula_at, Formula, Const, make_literal, row_literals, Context, bits_of, formulas, width_of, Term, constant_of, Contribution, AreIn, IsShaped, bits_at, unknown_at, IsBit, IsBuilt, part, Table, RowTree, view, row_nodes, entry_levels, outputs_given, row_matches, targets_of, term_of, SectionFault, Aim, Builds, Vec, entries_of, view_row, term_nodes, no_matches, refusal_of, context_for, view_guard, Manner, Walked, AreNamed, AreFirsts, Walks}
+use Rattle.truth_tables.specs.Prelude.{ExprId, Node, arena, formula_at, Formula, Const, make_literal, row_literals, Context, bits_of, formulas, width_of, Term, constant_of, Contribution, AreIn, IsShaped, bits_at, unknown_at, part, Table, RowTree, view, row_nodes, entry_levels, outputs_given, row_matches, targets_of, term_of, SectionFault, Aim, Builds, Vec, entries_of, view_row, term_nodes, no_matches, refusal_of, context_for, view_guard, Manner, Walked, AreNamed, AreFirsts, Walks}
 use Rattle.bit_expr.specs.Folding.{Made, free}
 use Rattle.set_expr.specs.declared.shaped.Shaped.{Shaped}
 use Rattle.abel_meaning.specs.Contributions as meant

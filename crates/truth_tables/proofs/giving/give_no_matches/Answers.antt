@@ -6,9 +6,6 @@ use Rattle.std.proofs.lemmas.List.{drop_all}
 use Rattle.truth_tables.proofs.WorkLaws.{left_done}
 use Rattle.truth_tables.proofs.giving.give_no_matches.Goals as goal
 
-pub loop-index-init : goal.loop-index-init
-loop-index-init c = (λ i f e. e, λ d e later r k. k)
-
 pub give_position-requires-clause-signal : goal.give_position-requires-clause-signal
 give_position-requires-clause-signal c = named_at _ c.args.outputs.now c.loop-index.index c.loop-index-test.true c.requires
 
@@ -21,9 +18,6 @@ loop-index-preserved c = (
   λ d e. no_step_at d c.args.assigning.guard c.args.assigning.clocked (record { 0 = 0 }) c.loop-index.index c.args.outputs.now (arena c.args.exprs.now) (at c.args.exprs.now c.args.list.now.items) (at c.loop-index.exprs c.loop-index.list.items) (at c.give_position.new.exprs c.give_position.new.list.items) (Ok tt)
       c.loop-index-test.true refl (c.loop-index.invariant.1 d e) (c.in_ok-give_position.ensures.gives d e),
 )
-
-pub returns-in_err-give_position-clause-keeps : goal.returns-in_err-give_position-clause-keeps
-returns-in_err-give_position-clause-keeps c = keeps_on _ _ _ c.loop-index.invariant.0 c.in_err-give_position.ensures.keeps
 
 pub returns-in_err-give_position-clause-gives : goal.returns-in_err-give_position-clause-gives
 returns-in_err-give_position-clause-gives c = λ d e.

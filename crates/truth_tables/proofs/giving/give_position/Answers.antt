@@ -1,6 +1,6 @@
 -- What a level gives.
-use Rattle.std.proofs.Common.{[], ◌∷◌, length, subst, sym, ap, ◌∙◌, Some}
-use Rattle.truth_tables.proofs.Common.{entries_of, AreNamed, GivesPosition, some_aims}
+use Rattle.std.proofs.Common.{[], ◌∷◌, length, subst, ap, ◌∙◌, Some}
+use Rattle.truth_tables.proofs.Common.{entries_of, AreNamed, some_aims}
 use Rattle.truth_tables.proofs.GivenLaws.{named_one}
 use Rattle.truth_tables.proofs.giving.give_position.Goals as goal
 

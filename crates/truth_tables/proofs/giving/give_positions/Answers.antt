@@ -6,9 +6,6 @@ use Rattle.std.proofs.lemmas.List.{length-drop}
 use Rattle.truth_tables.proofs.WorkLaws.{left_done}
 use Rattle.truth_tables.proofs.giving.give_positions.Goals as goal
 
-pub loop-index-init : goal.loop-index-init
-loop-index-init c = (λ i f e. e, λ d e later r k. k)
-
 pub give_position-requires-clause-signal : goal.give_position-requires-clause-signal
 give_position-requires-clause-signal c = named_at _ c.args.outputs.now c.loop-index.index (omega (arith, c.loop-index-test.true, c.min-count.ensures)) c.requires.signals
 
@@ -24,9 +21,6 @@ loop-index-preserved c =
       λ d e. positions_step_at d m.assigning.guard m.assigning.clocked m.bit c.loop-index.index c.args.outputs.now c.args.levels.now fs (at c.args.exprs.now c.args.list.now.items) (at c.loop-index.exprs c.loop-index.list.items) (at c.give_position.new.exprs c.give_position.new.list.items) (Ok tt)
           lt (kept_formula fs (arena c.loop-index.exprs) m.bit c.loop-index.invariant.0 c.requires.bit) (c.loop-index.invariant.1 d e) (c.in_ok-give_position.ensures.gives d e),
     )
-
-pub returns-in_err-give_position-clause-keeps : goal.returns-in_err-give_position-clause-keeps
-returns-in_err-give_position-clause-keeps c = keeps_on _ _ _ c.loop-index.invariant.0 c.in_err-give_position.ensures.keeps
 
 pub returns-in_err-give_position-clause-gives : goal.returns-in_err-give_position-clause-gives
 returns-in_err-give_position-clause-gives c = λ d e.

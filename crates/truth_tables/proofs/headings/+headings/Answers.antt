@@ -48,9 +48,6 @@ push_outputs-returns-in-Binary t c d is =
     added_refused d _ _ _ _ c.args.outputs.now.items v refl
     (c.refuse_operator.ensures ∙ ap (λ es. NotAnOutput (first_place (view c.args.expr.now)) (first_name es (view c.args.expr.now))) (sym is.names) ∙ ap (λ e. NotAnOutput (first_place e) (first_name d.names e)) v)
 
-pub push_member-loop-text-init : goal.push_member-loop-text-init
-push_member-loop-text-init t c d is f later rest = rest
-
 pub push_member-loop-text-preserved : goal.push_member-loop-text-preserved
 push_member-loop-text-preserved t c d is f later rest =
     let p = c.in-Span.first.place in
@@ -67,9 +64,6 @@ push_member-returns-after-loop-text t c d is =
     subst (λ m. IsAdded (output_member d m) c.loop-text.fault old now) (sym (ap view_member c.in-Span.is ∙ view_span c.in-Span.first c.in-Span.last))
     (subst (λ names. IsAdded (header_range d p names) c.loop-text.fault old now) all
     (added_all (λ xs. header_range d p (map name_items xs)) c.deref-text-items.result.now c.loop-text.text-index c.loop-text.fault _ old now refl c.loop-text-test.false (c.loop-text.invariant d is None now)))
-
-pub push_set-loop-member-init : goal.push_set-loop-member-init
-push_set-loop-member-init t c d is f later rest = rest
 
 pub push_set-loop-member-preserved : goal.push_set-loop-member-preserved
 push_set-loop-member-preserved t c d is f later rest =

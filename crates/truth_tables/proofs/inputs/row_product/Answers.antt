@@ -1,5 +1,5 @@
 -- One position more, and all positions.
-use Rattle.std.proofs.Common.{◌<◌, [], ◌∷◌, Ok, Err, min, length, refl, sym, subst, true, arith}
+use Rattle.std.proofs.Common.{[], Ok, Err, length, refl, sym, subst, true, arith}
 use Rattle.truth_tables.proofs.Common.{err_from_is_err_and, arena, high_bit, keeps_longer, literals, Const, ExprId, Formula}
 use Rattle.truth_tables.proofs.ProductLaws.{LiteralsLeft, after_at, in_at, in_longer, literals_done}
 use Rattle.truth_tables.proofs.inputs.row_product.Goals as goal
@@ -15,9 +15,6 @@ loop-index-init c =
       positions = c.requires;
       left = subst (λ f. LiteralsLeft ns ns c.args.unit (all (Const true)) (all f)) (sym bit.1) (λ later r b w. (b, w));
     }
-
-pub with_position-requires-clause-found : goal.with_position-requires-clause-found
-with_position-requires-clause-found c = c.loop-index.invariant.inside
 
 pub with_position-requires-clause-position : goal.with_position-requires-clause-position
 with_position-requires-clause-position c =

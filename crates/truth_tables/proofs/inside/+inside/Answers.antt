@@ -1,13 +1,10 @@
 -- One member or name more, and all of them.
-use Rattle.std.proofs.Common.{ℕ, List, ◌≡◌, ◌+◌, map, drop, refl, sym, ap, ap₂, ◌∙◌}
+use Rattle.std.proofs.Common.{ℕ, List, ◌+◌, map, drop, sym, ap, ap₂, ◌∙◌}
 use Rattle.std.proofs.lemmas.List.{at_drop_all}
 use Rattle.abel_tree.proofs.FirstRefusals.{earlier_none}
 use Rattle.truth_tables.proofs.Common.{Member, entries_of, earlier, first_refusal, range_names, members_of, view, view_member, name_found, names_found, name_items, section_order, refused_inside, all_refused_inside, member_refused_inside, names_refused, view_span}
 use Rattle.truth_tables.proofs.ReadLaws.{first_next, inside_set, rest_more}
 use Rattle.truth_tables.proofs.inside.+inside.Goals as goal
-
-pub refuse_inside-loop-member-init : goal.refuse_inside-loop-member-init
-refuse_inside-loop-member-init t c = refl
 
 pub refuse_inside-loop-member-preserved : goal.refuse_inside-loop-member-preserved
 refuse_inside-loop-member-preserved t c =
@@ -29,9 +26,6 @@ refuse_inside-returns-after-loop-member t c =
     ∙ c.loop-member.invariant
     ∙ ap found c.as_slice-member-items.ensures
     ∙ sym (ap (λ e. first_refusal section_order (refused_inside ns r (view e))) c.in-Set.is ∙ ap (first_refusal section_order) (inside_set c.in-Set.place c.in-Set.members c.in-Set.extension ns r))
-
-pub refuse_member-loop-name-init : goal.refuse_member-loop-name-init
-refuse_member-loop-name-init t c = refl
 
 pub refuse_member-loop-name-preserved : goal.refuse_member-loop-name-preserved
 refuse_member-loop-name-preserved t c =

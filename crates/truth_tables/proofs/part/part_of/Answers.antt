@@ -1,10 +1,9 @@
 -- Names, sets, specials and operators, under the extension that counts.
 use Rattle.std.proofs.Common.{◌≡◌, ℕ, Option, List, map, sym, ap, ap₂, ◌∙◌, subst}
-use Rattle.truth_tables.proofs.Common.{Expr, Member, Extension, members_of, view, view_member, Known, Term, Set, term_of, terms_of, term_named, extended_if, IsPart, is_operand, view_name, view_set, view_special, view_unary, view_binary, innermost_wins}
+use Rattle.truth_tables.proofs.Common.{Expr, Member, Extension, members_of, view, view_member, Known, Term, Set, term_of, terms_of, term_named, extended_if, IsPart, view_name, view_set, innermost_wins}
 use Rattle.abel_tree.specs.declared.expressions.Expr as expr
 use Rattle.abel_tree.specs.declared.words.Word.{Word}
 use Rattle.abel_tree.specs.Extensions.{innermost}
-use Rattle.expr_bits.proofs.Coming.{special_extended}
 use Rattle.truth_tables.proofs.part.part_of.Goals as goal
 
 named : (ks : List Known) (x : Expr) (word : Word) (own before now : Option Extension) (text : List ℕ) → x ≡ expr.Name word own → now ≡ innermost own before → text ≡ word.text → extended_if before (term_of ks (view x)) ≡ extended_if now (term_named ks text)
@@ -27,13 +26,6 @@ returns-in-Part c d is =
     ∙ named d.known c.loop-at.at.now c.in-Name.word c.in-Name.own c.loop-at.extension c.innermost-extension.result c.bytes.result.now c.in-Name.is c.innermost-extension.ensures c.bytes.ensures))
     (c.in-Part.ensures.stand d is).0
 
-pub returns-in-Special : goal.returns-in-Special
-returns-in-Special c d is =
-    let e = c.loop-at.extension in
-    c.loop-at.invariant d is
-    ∙ ap (λ y. extended_if e (term_of d.known y)) (ap view c.in-Special.is ∙ view_special c.in-Special.letter c.in-Special.place)
-    ∙ special_extended e c.in-Special.letter
-
 pub returns-in-Set : goal.returns-in-Set
 returns-in-Set c d is =
     let own = c.in-Set.own in
@@ -47,20 +39,4 @@ returns-in-Set c d is =
           ∙ ap (λ y. extended_if before (term_of d.known y)) here
           ∙ sym (innermost_wins own before (set c.in-Set.members))
           ∙ ap₂ (λ o ms. extended_if o (set ms)) (sym c.innermost-extension-in-Set.ensures) (sym c.as_slice.ensures);
-    }
-
-pub returns-in-Unary : goal.returns-in-Unary
-returns-in-Unary c d is =
-    record {
-      extension = c.loop-at.extension;
-      is = c.loop-at.invariant d is;
-      operand = ap (λ e. is_operand (term_of d.known (view e))) c.in-Unary.is ∙ ap (λ t. is_operand (term_of d.known t)) (view_unary c.in-Unary.sign c.in-Unary.place c.in-Unary.inner);
-    }
-
-pub returns-in-Binary : goal.returns-in-Binary
-returns-in-Binary c d is =
-    record {
-      extension = c.loop-at.extension;
-      is = c.loop-at.invariant d is;
-      operand = ap (λ e. is_operand (term_of d.known (view e))) c.in-Binary.is ∙ ap (λ t. is_operand (term_of d.known t)) (view_binary c.in-Binary.sign c.in-Binary.place c.in-Binary.left c.in-Binary.right);
     }

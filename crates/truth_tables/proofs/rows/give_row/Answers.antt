@@ -1,6 +1,6 @@
 -- The bits of the input header, the product behind them, and the outputs.
-use Rattle.std.proofs.Common.{[], ◌∷◌, List, Option, Bool, true, Result, Ok, Err, length, refl, sym, ap, subst, subst₂}
-use Rattle.truth_tables.proofs.Common.{Vec, OnOk, err_from_is_err_and, ExprId, arena, Const, Names, entries_of, SectionFault, AreIn, view_guard, BuildsNodes, IsBit, AreNamed, part, keeps_on, keeps_longer, stops_longer, at, Assigning, GivesPositions, header_literals, literals, behind, found_work, HasInputs, design_of, inputs_term, nodes_left, some_aims}
+use Rattle.std.proofs.Common.{[], ◌∷◌, List, Option, Bool, true, Result, Ok, Err, sym, ap, subst, subst₂}
+use Rattle.truth_tables.proofs.Common.{Vec, OnOk, err_from_is_err_and, ExprId, arena, Const, entries_of, SectionFault, view_guard, BuildsNodes, IsBit, part, keeps_on, keeps_longer, stops_longer, at, Assigning, GivesPositions, header_literals, literals, behind, found_work, design_of, inputs_term, nodes_left}
 use Rattle.section_targets.proofs.Gives.{stops_nodes}
 use Rattle.truth_tables.proofs.RowWorks.{found_built, inputs_kept, row_built}
 use Rattle.truth_tables.proofs.rows.give_row.Goals as goal
@@ -8,9 +8,6 @@ use Rattle.truth_tables.proofs.rows.give_row.Goals as goal
 always : {P : Type 0} (r : Result Unit SectionFault) → P → OnOk r P
 always (Ok t) p = p
 always (Err f) p = tt
-
-pub inputs_of-requires-clause-made : goal.inputs_of-requires-clause-made
-inputs_of-requires-clause-made g c = subst (λ m. HasInputs g.D.Device.table c.args.headed.now m c.args.out.now.exprs) (sym c.take-made.ensures.value) c.requires.inputs
 
 pub returns-in_err-bits-clause-gives : goal.returns-in_err-bits-clause-gives
 returns-in_err-bits-clause-gives g c =
@@ -27,13 +24,6 @@ returns-in_err-bits-clause-gives g c =
     let told = subst (λ m. BuildsNodes {R = Vec (Option ExprId)} (part f.place (nodes_left v h m) ∷ []) c.args.out.now.exprs c.inputs_of.new.exprs (Err c.in_err-bits.field-0.0)) c.take-made.ensures.value c.in_err-bits.ensures.builds in
     rw (p.1, p.2)
     (stops_nodes w.units w.gives w.places old new c.in_err-bits.field-0.0 (stops_longer f.place [] n product.nodes old new c.in_err-bits.field-0.0 (told cs)))
-
-pub returns-in_err-bits-clause-inputs : goal.returns-in_err-bits-clause-inputs
-returns-in_err-bits-clause-inputs g c = subst (λ m. HasInputs g.D.Device.table c.args.headed.now m c.inputs_of.new.exprs) (sym c.take-made.ensures.after) tt
-
-pub row_product-requires : goal.row_product-requires
-row_product-requires g c =
-    subst (λ (ps : List (Option ExprId)). AreIn (length (arena c.inputs_of.new.exprs)) ps) (sym c.as_slice.ensures.value) c.in_ok-bits.ensures.inputs.inside
 
 pub returns-in_err-bit-clause-gives : goal.returns-in_err-bit-clause-gives
 returns-in_err-bit-clause-gives g c =
@@ -54,13 +44,6 @@ returns-in_err-bit-clause-gives g c =
     rw (p.1, p.2)
     (row_built d (inputs_term v h) h.guard h.table.now.clocked (nodes_left v h c.args.inputs.now) ps h.outputs.now f (at c.args.out.now.exprs cs) mid new (Err c.in_err-bit.field-0.0) c.in_ok-bits.ensures.inputs (built cs)
     (stops_nodes w.units w.gives w.places mid new c.in_err-bit.field-0.0 (told cs)))
-
-pub returns-in_err-bit-clause-inputs : goal.returns-in_err-bit-clause-inputs
-returns-in_err-bit-clause-inputs g c = subst (λ m. HasInputs g.D.Device.table c.args.headed.now m c.row_product.new.exprs) (sym c.take-made.ensures.after) tt
-
-pub give_positions-requires-clause-signals : goal.give_positions-requires-clause-signals
-give_positions-requires-clause-signals g c =
-    subst (λ (n : Names). AreNamed (length (entries_of n)) (some_aims c.args.headed.now.outputs.now)) (sym c.scope.ensures) c.requires.accepted.signals
 
 pub returns-clause-gives : goal.returns-clause-gives
 returns-clause-gives g c =
@@ -94,6 +77,3 @@ returns-clause-inputs g c =
     let gs = arena c.give_positions.new.exprs in
     let k = keeps_on fs (arena c.row_product.new.exprs) gs (c.in_ok-bit.ensures.builds []).made.grew.keeps c.give_positions.ensures.keeps in
     inputs_kept (design_of v h) (inputs_term v h) fs gs c.in_ok-bits.bits.items k (keeps_longer _ _ k) c.in_ok-bits.ensures.inputs
-
-pub returns-clause-made : goal.returns-clause-made
-returns-clause-made g c = always c.give_positions.result refl

@@ -1,10 +1,9 @@
 -- A row that is refused or stands behind what is, and one that is made.
 use Rattle.std.proofs.Common.{ℕ, ◌+◌, [], ◌∷◌, sym, ap, ◌∙◌, subst, subst₂}
-use Rattle.truth_tables.proofs.Common.{on_ok_weaker, arena, view, view_row, view_guard, part, standing, term_of, row_nodes, row_refused, row_work, Builds, Contributions, HasInputs, design_of, nodes_left, whole, Work}
+use Rattle.truth_tables.proofs.Common.{on_ok_weaker, arena, view, view_row, view_guard, part, standing, term_of, row_nodes, row_refused, row_work, Builds, Contributions, design_of, nodes_left, whole, Work}
 use Rattle.equations.proofs.WalkedUnits.{unit_clear, unit_made, unit_refused}
-use Rattle.section_targets.specs.declared.walked.Walked.{Walked}
 use Rattle.truth_tables.proofs.RowWorks.{found_row}
-use Rattle.truth_tables.proofs.RowsWalked.{after_exprs, after_made, not_clear, over_same}
+use Rattle.truth_tables.proofs.RowsWalked.{over_same}
 use Rattle.truth_tables.proofs.WorkLaws.{DoesWork}
 use Rattle.truth_tables.proofs.rows.walk_row.Goals as goal
 
@@ -19,15 +18,6 @@ returns-then-refuse-clause-walks g c = λ n e all a.
     let w = row_work d (view_guard (arena c.args.out.now.exprs) h.guard) t h.outputs.now n row in
     unit_refused all (whole row.place (row_refused d t.clocked i (term_of d.known (view t.outputs)) row) (n + row_nodes d i row)) w.gives w.places c.in_ok-found.found.fault c.args.out.now c.refuse.new.self
     (c.in_ok-found.ensures d (over_same v c.scope.result.now h.scope.now c.scope.ensures)).fault c.refuse.ensures.first (sym c.refuse.ensures.refused ∙ c.if-refuse.true) a
-
-pub returns-then-refuse-clause-inputs : goal.returns-then-refuse-clause-inputs
-returns-then-refuse-clause-inputs g c = subst (λ (w : Walked). HasInputs g.D.Device.table c.args.headed.now c.args.inputs.now w.exprs) (sym c.refuse.ensures.first) c.requires.inputs
-
-pub returns-then-refuse-clause-made : goal.returns-then-refuse-clause-made
-returns-then-refuse-clause-made g c = λ e. not_clear c.refuse.new.self.fault (sym c.refuse.ensures.refused ∙ c.if-refuse.true) e
-
-pub give_row-made-requires-clause-inputs : goal.give_row-made-requires-clause-inputs
-give_row-made-requires-clause-inputs g c = subst (λ (w : Walked). HasInputs g.D.Device.table c.args.headed.now c.args.inputs.now w.exprs) (sym c.refuse.ensures.first) c.requires.inputs
 
 pub returns-clause-walks : goal.returns-clause-walks
 returns-clause-walks g c =
@@ -55,16 +45,4 @@ returns-clause-walks g c =
     (λ k n e all a. unit_made all row.place rs (n + row_nodes d i row) w.gives w.places f.fault old now made c.keep_limit.new.self r
     is.fault c.refuse.ensures.first some a c.give_row-made.ensures.fault c.give_row-made.ensures.before
     (subst₂ built (ap standing c.refuse.ensures.first) (sym (e clear.0)) here) k)
-    c.keep_limit.ensures
-
-pub returns-clause-inputs : goal.returns-clause-inputs
-returns-clause-inputs g c =
-    on_ok_weaker c.keep_limit.result
-    (λ k. subst (HasInputs g.D.Device.table c.args.headed.now c.give_row-made.new.inputs) (sym (after_exprs c.give_row-made.result c.give_row-made.new.out c.keep_limit.new.self k)) c.give_row-made.ensures.inputs)
-    c.keep_limit.ensures
-
-pub returns-clause-made : goal.returns-clause-made
-returns-clause-made g c =
-    on_ok_weaker c.keep_limit.result
-    (λ k e. after_made c.give_row-made.result c.give_row-made.new.out c.keep_limit.new.self k e c.give_row-made.ensures.made)
     c.keep_limit.ensures

@@ -1,6 +1,6 @@
 -- The outputs of a header that isn't refused are checked against what was assigned before.
-use Rattle.std.proofs.Common.{◌≡◌, [], if◌then◌else◌, List, ◌++◌, map, refl, sym, ap, ap₂, ◌∙◌, subst, length, None, false}
-use Rattle.truth_tables.proofs.Common.{is_some, entries_of, earlier, first_append, view, Context, context_of, expression_found, SumsUp, section_order, Aim, AreNamed, AreFirsts, aims_refused, manner_of, output_header, outputs_refused, some_aims, unless_refused}
+use Rattle.std.proofs.Common.{[], if◌then◌else◌, List, ◌++◌, map, refl, sym, ap, ap₂, ◌∙◌, subst, length, None, false}
+use Rattle.truth_tables.proofs.Common.{is_some, entries_of, earlier, first_append, view, Context, context_of, expression_found, SumsUp, section_order, Aim, AreNamed, AreFirsts, aims_refused, manner_of, output_header, outputs_refused, some_aims}
 use Rattle.truth_tables.proofs.HeaderLaws.{added_outputs, first, header_aims, refused_first}
 use Rattle.truth_tables.proofs.OutputPositions.{header_named}
 use Rattle.truth_tables.proofs.tables.read_header.Goals as goal

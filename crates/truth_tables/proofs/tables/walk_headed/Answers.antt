@@ -1,16 +1,12 @@
 -- No match for each output, one row more, and all rows.
-use Rattle.std.proofs.Common.{◌≡◌, ◌+◌, not, List, ◌∷◌, length, map, drop, refl, sym, ap, ◌∙◌, subst, add-one}
+use Rattle.std.proofs.Common.{◌≡◌, ◌+◌, not, List, ◌∷◌, map, drop, refl, sym, ap, ◌∙◌, subst, add-one}
 use Rattle.std.proofs.lemmas.List.{drop_all}
-use Rattle.truth_tables.proofs.Common.{arena, Names, entries_of, AreNamed, some_aims, view_row, view_guard, nodes_at, row_work, rows_work, walks_none, WalksWork, design_of, inputs_nodes, no_matches_work}
+use Rattle.truth_tables.proofs.Common.{arena, entries_of, view_row, view_guard, nodes_at, row_work, rows_work, walks_none, WalksWork, design_of, inputs_nodes, no_matches_work}
 use Rattle.abel_tree.specs.declared.tables.Row.{Row}
 use Rattle.truth_tables.proofs.ReadLaws.{rest_more}
 use Rattle.truth_tables.proofs.RowsWalked.{free_refused, no_fault, none_left, work_made, work_then}
 use Rattle.truth_tables.proofs.tables.walk_headed.Goals.{then-is_none+in_ok-keep_limit, else-is_none}
 use Rattle.truth_tables.proofs.tables.walk_headed.Goals as goal
-
-pub give_no_matches-made-requires : goal.give_no_matches-made-requires
-give_no_matches-made-requires g c =
-    subst (λ (n : Names). AreNamed (length (entries_of n)) (some_aims c.args.headed.now.outputs.now)) (sym c.scope-names.ensures) c.requires.accepted.signals
 
 pub loop-row-init : goal.loop-row-init
 loop-row-init g c =

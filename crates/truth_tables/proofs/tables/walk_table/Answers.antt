@@ -1,6 +1,6 @@
 -- A table whose header is refused, and one whose header isn't.
 use Rattle.std.proofs.Common.{◌++◌, map, refl, sym, ap, ◌∙◌, subst}
-use Rattle.truth_tables.proofs.Common.{is_some, on_ok_weaker, arena, Names, view, view_row, table_units, term_of, context_for, AreFirsts, Walks, is_context, same_context, value_accepted, output_header, assigned_by, header_refused, row_units, WalksTable, given_by, places_by}
+use Rattle.truth_tables.proofs.Common.{is_some, on_ok_weaker, arena, Names, view, view_row, table_units, term_of, context_for, Walks, is_context, same_context, value_accepted, output_header, assigned_by, header_refused, row_units, WalksTable, given_by, places_by}
 use Rattle.section_targets.specs.declared.walked.Walked.{Walked}
 use Rattle.truth_tables.proofs.OutputPositions.{outputs_inside}
 use Rattle.truth_tables.proofs.RowsWalked.{header_noted, header_stands, some_refused}
