@@ -34,7 +34,7 @@ bit_stops p old new f m k a =
 -- ---- registers
 
 -- a literal over what its register reads
-pub literal_then : (d : Context) (p : Place) (old mid new : List Node) (found bit : ExprId) (s : ℕ) (b : Bool) (r : Result ExprId SectionFault) → found.0 < length (arena old) → MakesBit p (bare_read d s) old mid (Ok bit)
+literal_then : (d : Context) (p : Place) (old mid new : List Node) (found bit : ExprId) (s : ℕ) (b : Bool) (r : Result ExprId SectionFault) → found.0 < length (arena old) → MakesBit p (bare_read d s) old mid (Ok bit)
     → MakesBit p (make_literal (formula_at (arena mid) found) b (formula_at (arena mid) bit)) mid new r → MakesBit p (register_literal d (formula_at (arena old) found) s b) old new r
 literal_then d p old mid new found bit s b r lt a m =
     let same = kept_formula (arena old) (arena mid) found (bit_keeps p old mid (Ok bit) (bare_read d s) a) lt in
@@ -43,13 +43,12 @@ literal_then d p old mid new found bit s b r lt a m =
 -- registers with one more on the right
 literals_last : (d : Context) (f : Formula) (ss : List ℕ) (s : ℕ) (bs : List Bool) (b : Bool) → length ss ≡ length bs → register_literals d f (ss ++ s ∷ []) (bs ++ b ∷ []) ≡ (register_literals d f ss bs >>= λ g. register_literal d g s b)
 literals_last d f [] s [] b e = made_is (register_literals d f (s ∷ []) (b ∷ [])) (register_literals d f [] [] >>= λ g. register_literal d g s b) refl (omega arith)
-literals_last d f [] s (c ∷ bs) b e = absurd (omega (arith, e))
-literals_last d f (t ∷ ss) s [] b e = absurd (omega (arith, e))
 literals_last d f (t ∷ ss) s (c ∷ bs) b e =
     let next = (register_literal d f t c).what in
     let same = literals_last d next ss s bs b (omega (arith, e)) in
     made_is (register_literals d f (t ∷ ss ++ s ∷ []) (c ∷ bs ++ b ∷ [])) (register_literals d f (t ∷ ss) (c ∷ bs) >>= λ g. register_literal d g s b)
     (ap (λ (m : Made Formula). m.what) same) (omega (arith, ap (λ (m : Made Formula). m.nodes) same))
+literals_last d f _ s _ b e = absurd (omega (arith, e))
 
 more_digits : (w n : ℕ) → digits (suc w) n ≡ digits w (n / 2) ++ (n % 2 == 1) ∷ []
 more_digits w n = reverse-append ((n % 2 == 1) ∷ []) (digits_low_first w (n / 2))
@@ -63,6 +62,23 @@ guard_last d xs x n =
     (ap (λ (k : ℕ). register_literals d (Const true) (ss ++ x.signal ∷ []) (digits k n)) (length-append ss (x.signal ∷ []) ∙ add-one w)
     ∙ ap (λ (bs : List Bool). register_literals d (Const true) (ss ++ x.signal ∷ []) bs) (more_digits w n)
     ∙ literals_last d (Const true) ss x.signal (digits w (n / 2)) (n % 2 == 1) (sym (length-reverse (digits_low_first w (n / 2)) ∙ length_digits w (n / 2))))
+
+-- the literal of one register more on the right, behind the others
+pub guard_then : (d : Context) (p : Place) (xs ys : List Aim) (x : Aim) (n : ℕ) (old mid new : List Node) (found : ExprId) (r : Result ExprId SectionFault) → xs ≡ ys ++ x ∷ []
+    → MakesBit p (number_guard d (signals_of ys) (n / 2)) old mid (Ok found) → MakesBit p (register_literal d (formula_at (arena mid) found) x.signal (n % 2 == 1)) mid new r → MakesBit p (number_guard d (signals_of xs) n) old new r
+guard_then d p xs ys x n old mid new found r e a m =
+    let front = number_guard d (signals_of ys) (n / 2) in
+    let literal = λ (f : Formula). register_literal d f x.signal (n % 2 == 1) in
+    subst (λ (m : Made Formula). MakesBit p m old new r) (sym (ap (λ (zs : List Aim). number_guard d (signals_of zs) n) e ∙ guard_last d ys x n))
+    (bit_then p old mid new found r front literal a (subst (λ f. MakesBit p (literal f) mid new r) a.1.1 m))
+
+-- its last literal is made over what the last register reads
+pub guard_more : (d : Context) (p : Place) (xs ys : List Aim) (x : Aim) (n : ℕ) (old mid far new : List Node) (found bit : ExprId) (r : Result ExprId SectionFault) (digit : Bool) → (n % 2 == 1) ≡ digit → xs ≡ ys ++ x ∷ []
+    → MakesBit p (number_guard d (signals_of ys) (n / 2)) old mid (Ok found) → MakesBit p (bare_read d x.signal) mid far (Ok bit)
+    → MakesBit p (make_literal (formula_at (arena far) found) digit (formula_at (arena far) bit)) far new r → MakesBit p (number_guard d (signals_of xs) n) old new r
+guard_more d p xs ys x n old mid far new found bit r digit k e a b m =
+    guard_then d p xs ys x n old mid new found r e a
+    (literal_then d p mid far new found bit x.signal (n % 2 == 1) r a.1.0 b (subst (λ y. MakesBit p (make_literal (formula_at (arena far) found) y (formula_at (arena far) bit)) far new r) (sym k) m))
 
 -- no register makes no node
 pub no_literal : (d : Context) (ns : List Node) (p : Place) (xs : List Aim) (n : ℕ) → length xs ≡ 0 → MakesBit p (number_guard d (signals_of xs) n) ns ns (Ok (record { 0 = 1 }))

@@ -1,8 +1,7 @@
 //! The bit of a state: a literal for each register, its bare name plain or complemented.
 
-ghost use Rattle.std.specs.Prelude.{◌≡◌, ◌<◌, length, IfOk};
-ghost use Rattle.state_diagrams.specs.Prelude.{arena, formula_at, context_for};
-ghost use Rattle.state_diagrams.specs.{MakesBit, MakesGuard, bare_read, register_literal};
+ghost use Rattle.state_diagrams.specs.Prelude.{context_for};
+ghost use Rattle.state_diagrams.specs.{MakesBit, MakesGuard, bare_read};
 
 use bit_expr::{ExprFault, ExprId, Exprs, Node};
 use expr_bits::read_signal;
@@ -10,13 +9,6 @@ use pld_base::Place;
 use pld_device::Device;
 use section_targets::{Aim, SectionScope, add_node, guard_else};
 use set_expr::SectionFault;
-
-/// A register that is to read a digit.
-#[derive(Clone, Copy, PartialEq, Eq)]
-struct Literal {
-    signal: u32,
-    digit: bool,
-}
 
 /// The bit that the bare name of a signal reads, as a part of the unit at a place.
 fn bare_bit<D: Device>(
@@ -31,25 +23,6 @@ fn bare_bit<D: Device>(
         Ok(id) => Ok(id),
         Err(ExprFault::NodeLimit) => Err(SectionFault::NodeLimit(unit)),
         Err(ExprFault::OutOfMemory) => Err(SectionFault::OutOfMemory),
-    }
-}
-
-/// What was found before, and the literal of a register.
-fn with_register<D: Device>(
-    scope: &SectionScope<'_, D>,
-    found: ExprId,
-    literal: Literal,
-    unit: Place,
-    exprs: &mut Exprs,
-) -> Result<ExprId, SectionFault>
-    requires found { found.0 < length (arena exprs.old) }
-    ensures { MakesBit unit (register_literal (context_for D.table scope.now) (formula_at (arena exprs.old) found) literal.signal literal.digit) exprs.old exprs.new result }
-{
-    let bit = bare_bit::<D>(scope, literal.signal, unit, exprs)?;
-    if literal.digit {
-        add_node(exprs, Node::And(found, bit), unit)
-    } else {
-        guard_else(exprs, found, bit, unit)
     }
 }
 
@@ -71,11 +44,13 @@ pub(crate) fn state_guard<D: Device>(
         None => Ok(ExprId(1)),
         Some((last, others)) => {
             let found = state_guard::<D>(scope, others, number / 2, unit, exprs)?;
-            let literal = Literal {
-                signal: last.signal,
-                digit: number % 2 == 1,
-            };
-            with_register::<D>(scope, found, literal, unit, exprs)
+            let bit = bare_bit::<D>(scope, last.signal, unit, exprs)?;
+            let digit = number % 2 == 1;
+            if digit {
+                add_node(exprs, Node::And(found, bit), unit)
+            } else {
+                guard_else(exprs, found, bit, unit)
+            }
         }
     }
 }
