@@ -85,10 +85,10 @@ pub use Rattle.state_diagrams.specs.{WalksStates, WalksUnder, WalksUnit, WalksVa
 pub use Rattle.state_diagrams.specs.{branch_manners, branch_work, branches_manners, branches_work, case_arms, case_choices, case_place, case_unit}
 pub use Rattle.state_diagrams.specs.{choices_manners, choices_refused, choices_work, context_of_machine, diagram_manners, given_by, goal_parts, goal_places}
 pub use Rattle.state_diagrams.specs.{goal_unit, goal_work, header_work, if_none, is_among, is_empty, is_state_of, listed_after, listed_if, listed_with}
-pub use Rattle.state_diagrams.specs.{manners_behind, match_beside, matches_beside, no_block, number_guard, other_branch_places, other_firsts, other_manners}
-pub use Rattle.state_diagrams.specs.{other_places, others_work, places_by, pushed_beside, pushed_for, pushed_if, regarded, register_literal, register_manners}
-pub use Rattle.state_diagrams.specs.{registers_refused, registers_work, seen_if, signals_of, state_bit, state_bits, state_guard, state_manners, state_number}
+pub use Rattle.state_diagrams.specs.{is_first, manners_behind, no_block, number_guard, other_branch_places, other_manners}
+pub use Rattle.state_diagrams.specs.{other_places, other_signal, others_work, places_by, pushed_beside, pushed_for, pushed_if, regarded, register_literal, register_manners}
+pub use Rattle.state_diagrams.specs.{registers_refused, seen_if, signals_of, state_bit, state_bits, state_guard, state_manners, state_number}
 pub use Rattle.state_diagrams.specs.{state_places, state_refused, state_unit, state_value_refused, state_work, states_manners, states_places, states_work}
-pub use Rattle.state_diagrams.specs.{times, units_behind, units_of, units_of_diagram, units_of_other, units_of_states, units_within, view_arms, view_choices}
+pub use Rattle.state_diagrams.specs.{units_behind, units_of, units_of_diagram, units_of_other, units_of_states, units_within, view_arms, view_choices}
 pub use Rattle.state_diagrams.specs.{view_goal, view_if, where_holds, within_work}
 pub use Rattle.state_diagrams.specs.declared.machine.Machine.{Machine}

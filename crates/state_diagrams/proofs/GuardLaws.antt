@@ -1,10 +1,29 @@
--- The unit of the conditions of CASE with their first refusal, and the guards of its arms.
-use Rattle.std.proofs.Common.{◌≡◌, ℕ, zero, suc, ◌<◌, false, true, Bool, Option, None, Some, List, [], ◌∷◌, ◌++◌, if◌then◌else◌, Result, Ok, length, map, get_or, refl, sym, ap, ◌∙◌, subst, arith, ◌==◌}
-use Rattle.state_diagrams.proofs.Common.{get_or-map, length-map, Place, ExprId, formula_at, Formula, Const, Names, entries_of, first_refusal, earlier, CaseArm, view, view_choice, choices_of, Tree, Branch, guarded, choices_nodes, choice_nodes, condition_of, guard_then, Context, formulas, Number, Single, Set, Value, Contributions, SectionFault, BadWidth, Guard, refusal_of, view_guard, section_order, expression_found, Found, AreBits, IsBuilt, StopsWith, Builds, part, value_refused, value_width, wrong_width, builds_none, both_empty, left_empty, right_empty, one_unit, two_parts, condition_refused, bits_length, stops_longer, choices_refused, BuildsConditions, arm_guards, case_unit, is_some, Choices, arena, Node, Manner, Walked, AreFirsts, AfterMaking, Walks, earlier_assoc, first_append}
-use Rattle.state_diagrams.proofs.ArmViews.{choice_parts}
-use Rattle.abel_meaning.specs.Numbers.{Shape}
+-- Transitions of the code by their kinds; the unit of the conditions of CASE, and the guards of its arms.
+use Rattle.std.proofs.Common.{◌≡◌, ℕ, zero, suc, ◌<◌, false, Option, None, List, [], ◌∷◌, ◌++◌, Result, Ok, length, map, get_or, refl, sym, ap, ◌∙◌, subst, arith, rules, option_map}
+use Rattle.state_diagrams.proofs.Common.{get_or-map, length-map, Place, ExprId, formula_at, Formula, Const, Names, entries_of, first_refusal, earlier, CaseArm, view, view_choice, choices_of, Tree, Branch, guarded, choices_nodes, choice_nodes, condition_of, guard_then, Context, formulas, Contributions, SectionFault, Guard, refusal_of, view_guard, section_order, expression_found, AreBits, IsBuilt, StopsWith, Builds, part, value_width, builds_none, left_empty, right_empty, one_unit, two_parts, condition_refused, bits_length, stops_longer, choices_refused, BuildsConditions, arm_guards, case_unit, is_some, Choices, arena, Node, Manner, Walked, AreFirsts, AfterMaking, Walks, earlier_assoc, first_append, the_lemmas, Goal, If, AnIf, ACase, other_of, view_arm, case_choices, case_place, view_goal, view_if}
+use Rattle.abel_tree.specs.declared.diagrams.Arm.TheVariants as arm
+use Rattle.abel_tree.specs.declared.diagrams.Case.{Case}
 use Rattle.state_diagrams.proofs.AnyGuards.{nodes_made}
 use Rattle.state_diagrams.proofs.StateBits.{bit_at}
+
+-- ---- transitions of the code at each kind
+
+pub view_goaled : (g : Goal) → view_arm (arm.Goal g) ≡ view_goal g
+view_goaled g = search (rules, the_lemmas)
+
+pub view_iffed : (i : If) → view_arm (arm.If i) ≡ view_if i
+view_iffed i = search (rules, the_lemmas)
+
+pub if_parts : (i : If) → view_if i ≡ AnIf i.place (view i.condition) (view_arm i.then) (other_of (option_map view_arm i.otherwise))
+if_parts i = search (rules, the_lemmas)
+
+pub choice_parts : (c : CaseArm) → view_choice c ≡ (view c.condition, (c.colon, view_arm c.result))
+choice_parts c = search (rules, the_lemmas)
+
+pub view_cased : (x : Case) → view_arm (arm.Case x) ≡ ACase (case_place x) (case_choices x)
+view_cased x = search (rules, the_lemmas)
+
+-- ---- refusals
 
 abbrev pub first : List SectionFault → Option SectionFault
 first rs = first_refusal section_order rs
@@ -21,31 +40,10 @@ conditions_next d f c cs =
 
 -- ---- conditions
 
--- where a condition stands changes nothing where it isn't refused
-anywhere : (p q : Place) (f : Found) → value_refused p 1 f ≡ [] → value_refused q 1 f ≡ []
-anywhere p q f e =
-    let more = f.specials ++ value_width p 1 f.value in
-    let rest = right_empty f.refusals more e in
-    both_empty f.refusals (f.specials ++ value_width q 1 f.value) (left_empty f.refusals more e)
-    (both_empty f.specials (value_width q 1 f.value) (left_empty f.specials (value_width p 1 f.value) rest) (by f.value (right_empty f.specials (value_width p 1 f.value) rest)))
-  where
-    by_width : (b : Bool) → (if b then [] else BadWidth p ∷ []) ≡ [] → (if b then [] else BadWidth q ∷ []) ≡ []
-    by_width true e = refl
-    by_width false e = absurd cc
-
-    by_shape : (s : Shape) → wrong_width p 1 s ≡ [] → wrong_width q 1 s ≡ []
-    by_shape Number e = refl
-    by_shape Single e = refl
-    by_shape (Set w) e = by_width (w == 1) e
-
-    by : (v : Option Value) → value_width p 1 v ≡ [] → value_width q 1 v ≡ []
-    by None e = refl
-    by (Some v) e = by_shape v.shape e
-
-pub clear_at : (d : Context) (cs : List Choice) (i : ℕ) (c : Choice) (p : Place) → choices_refused d (choices_of cs) ≡ [] → i < length cs → condition_refused d p (get_or cs i c).0 ≡ []
-clear_at d [] i c p e lt = absurd (omega (arith, lt))
-clear_at d (x ∷ cs) zero c p e lt = anywhere x.1.0 p (expression_found d.names x.0) (left_empty (condition_refused d x.1.0 x.0) (choices_refused d (choices_of cs)) e)
-clear_at d (x ∷ cs) (suc i) c p e lt = clear_at d cs i c p (right_empty (condition_refused d x.1.0 x.0) (choices_refused d (choices_of cs)) e) (omega (arith, lt))
+pub clear_at : (d : Context) (cs : List Choice) (i : ℕ) (c : Choice) → choices_refused d (choices_of cs) ≡ [] → i < length cs → condition_refused d (get_or cs i c).1.0 (get_or cs i c).0 ≡ []
+clear_at d [] i c e lt = absurd (omega (arith, lt))
+clear_at d (x ∷ cs) zero c e lt = left_empty (condition_refused d x.1.0 x.0) (choices_refused d (choices_of cs)) e
+clear_at d (x ∷ cs) (suc i) c e lt = clear_at d cs i c (right_empty (condition_refused d x.1.0 x.0) (choices_refused d (choices_of cs)) e) (omega (arith, lt))
 
 -- no arm makes no node
 pub no_nodes : (p : Place) (out : Contributions) → IsBuilt (part p 0 ∷ []) [] [] out out
@@ -82,7 +80,7 @@ pub arm_clear : (d : Context) (n : Names) (arms : List CaseArm) (i : ℕ) (x : C
 arm_clear d n arms i x k e lt at_x =
     let y = view_choice x in
     let here : get_or (map view_choice arms) i y ≡ y = get_or-map view_choice arms i x y lt ∙ ap view_choice (sym at_x) in
-    let clear = ap (λ (z : Choice). condition_refused d x.colon z.0) (sym (choice_parts x) ∙ sym here) ∙ clear_at d (map view_choice arms) i y x.colon e (omega (arith, lt, length-map arms view_choice)) in
+    let clear = ap (λ (z : Choice). condition_refused d z.1.0 z.0) (sym (choice_parts x) ∙ sym here) ∙ clear_at d (map view_choice arms) i y e (omega (arith, lt, length-map arms view_choice)) in
     let f = expression_found d.names (view x.condition) in
     ap (λ es. first_refusal section_order (expression_found es (view x.condition)).refusals) (sym k)
     ∙ ap (first_refusal section_order) (left_empty f.refusals (f.specials ++ value_width x.colon 1 f.value) clear)

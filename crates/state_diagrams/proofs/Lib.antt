@@ -1,7 +1,5 @@
 pub mod AnyGuards
-pub mod ArmViews
 pub mod Common
-pub mod DiagramBuilt
 mod DiagramExamples
 pub mod GoalWorks
 pub mod GuardLaws

@@ -1,12 +1,11 @@
 -- The units of transitions and states to these registers with what they give, under a guard of formulas and behind what was
 -- assigned (ABEL-HDL Reference Manual, state diagrams).
-use Rattle.std.specs.Prelude.{ℕ, true, false, Some, List, [], ◌++◌, length, map}
-use Rattle.state_diagrams.specs.Prelude.{Formula, Branch, Choices, StateTree, Context, branch_gives, branches_give, choices_give, in_state, is_state, registers_given, state_gives, states_give, with_others, formulas, term_of, Aim, Manner, places_of, Work, given_freely}
+use Rattle.std.specs.Prelude.{ℕ, true, false, Some, List, [], length, map}
+use Rattle.state_diagrams.specs.Prelude.{Formula, Branch, Choices, StateTree, Context, branch_gives, branches_give, choices_give, in_state, is_state, state_gives, states_give, with_others, formulas, term_of, Aim, Manner, places_of, Work, given_freely}
 use Rattle.abel_meaning.specs.Contributions as meant
 use Rattle.abel_meaning.specs.Tables.{no_matches}
-use Rattle.state_diagrams.specs.DiagramPlaces.{aims_places, state_places, states_places}
+use Rattle.state_diagrams.specs.DiagramPlaces.{others_places, state_places, states_places}
 use Rattle.state_diagrams.specs.DiagramUnits.{signals_of, state_guard, units_of_branch, units_of_branches, units_of_choices, units_of_state, units_of_states, units_within}
-use Rattle.state_diagrams.specs.Matches.{other_places}
 use Rattle.state_diagrams.specs.Places.{branch_places, branches_places, choices_places}
 use Rattle.state_diagrams.specs.StateValues.{state_refused}
 
@@ -74,22 +73,12 @@ others_work d h xs all states =
     record {
       units = units_of_states d (signals_of xs) all [] states;
       gives = with_others (formulas d) d h (signals_of xs) states (states_give (formulas d) d h (signals_of xs) states);
-      places = states_places d xs states
-          ++ other_places (signals_of xs) [] (length states) (states_give (formulas d) d h (signals_of xs) states) (states_places d xs states);
+      places = others_places d xs states;
     }
 
 -- no match for each register
 abbrev pub header_work : Context → meant.Guard Formula → List Aim → Work
 header_work d h xs = given_freely (no_matches (formulas d) d h false true (map Some (signals_of xs))) (places_of xs)
-
--- a diagram of registers that aren't refused
-abbrev pub registers_work : Context → meant.Guard Formula → List Aim → List Manner → List StateTree → Work
-registers_work d h xs all states =
-    record {
-      units = units_of_states d (signals_of xs) all [] states;
-      gives = registers_given (formulas d) d h (signals_of xs) states;
-      places = aims_places d xs states;
-    }
 
 -- what holds in a state, and in each of several
 abbrev pub state_bit : Context → List Aim → StateTree → Formula

@@ -2,8 +2,7 @@
 use Rattle.std.proofs.Common.{[], length, refl, sym, ap, ◌∙◌, subst, append-nil}
 use Rattle.state_diagrams.proofs.Common.{on_ok_weaker, arena, Names, entries_of, view_guard, Walked, context_for, AreNamed, AreFirsts, standing, walks_made, no_fault, header_work}
 use Rattle.truth_tables.specs.TableUnits.{some_aims}
-use Rattle.state_diagrams.proofs.DiagramBuilt.{header_aims, header_there}
-use Rattle.state_diagrams.proofs.WalkedDiagrams.{header_refused}
+use Rattle.state_diagrams.proofs.WalkedDiagrams.{header_aims, header_refused, header_there}
 use Rattle.state_diagrams.proofs.walking.walk_header.Goals as goal
 
 pub returns-then-is_some : goal.returns-then-is_some

@@ -1,8 +1,7 @@
 -- The states, and the matches behind them where nothing is refused.
 use Rattle.std.proofs.Common.{◌≡◌, [], ◌++◌, length, drop, map, refl, sym, ap, ap₂, ◌∙◌, arith, length-append}
 use Rattle.state_diagrams.proofs.Common.{arena, view_state, view_guard, context_for, Walked, no_fault, signals_of, states_manners, others_work, states_work, pushed_for}
-use Rattle.state_diagrams.proofs.DiagramBuilt.{others_walk}
-use Rattle.state_diagrams.proofs.WalkedDiagrams.{walks_refusing}
+use Rattle.state_diagrams.proofs.WalkedDiagrams.{others_walk, walks_refusing}
 use Rattle.state_diagrams.proofs.walking.walk_others.Goals as goal
 
 pub returns-then-is_some : goal.returns-then-is_some
@@ -33,8 +32,8 @@ returns g c = λ h p q all a.
     let clear = no_fault mid.fault (sym c.is_some.ensures ∙ c.if-is_some.false) in
     let start : c.len-start.result ≡ length old.list.items = omega (arith, c.len-start.ensures) in
     let found = c.in_ok-matches.ensures
-    ∙ ap₂ (λ ids cs. pushed_for (signals_of xs) ids [] (drop c.len-start.result cs)) c.deref.ensures.value c.as_slice-given.ensures.value
-    ∙ ap (λ n. pushed_for (signals_of xs) c.in_ok-bits.bits.items [] (drop n mid.list.items)) start in
+    ∙ ap₂ (λ ids cs. pushed_for ids (signals_of xs) (drop c.len-start.result cs)) c.deref.ensures.value c.as_slice-given.ensures.value
+    ∙ ap (λ n. pushed_for c.in_ok-bits.bits.items (signals_of xs) (drop n mid.list.items)) start in
     let made : Walked = record mid { list = c.append.new.self } in
     others_walk d h xs all (states_manners d ss) ss c.in_ok-bits.bits.items old mid made clear (c.in_ok-bits.ensures.walks h p q all a) (c.in_ok-bits.ensures.bits clear)
     (c.in_ok-append.ensures.items ∙ ap (λ cs. mid.list.items ++ cs) found)
