@@ -70,15 +70,13 @@ registers_done d h xs g i old new e b =
 -- ---- the unit
 
 parts_of : (p : Place) (g : Formula) (xs : List Aim) (ws : List Formula) → AreParts p (goal_parts p g xs ws)
-parts_of p g [] ws = tt
-parts_of p g (x ∷ xs) [] = tt
 parts_of p g (x ∷ xs) (w ∷ ws) = (refl, parts_of p g xs ws)
+parts_of p g _ _ = tt
 
 parts_nodes : (p : Place) (g : Formula) (xs : List Aim) (ws : List Formula) → length xs ≡ length ws → units_nodes (goal_parts p g xs ws) ≡ guard_nodes g ws
 parts_nodes p g [] [] e = refl
-parts_nodes p g [] (w ∷ ws) e = absurd (omega (arith, e))
-parts_nodes p g (x ∷ xs) [] e = absurd (omega (arith, e))
 parts_nodes p g (x ∷ xs) (w ∷ ws) e = ap (λ n. (make_and g w).nodes + n) (parts_nodes p g xs ws (omega (arith, e)))
+parts_nodes p g _ _ e = absurd (omega (arith, e))
 
 -- its parts are the unit
 pub goal_built : (d : Context) (h : meant.Guard Formula) (xs : List Aim) (g : Goal) (old new : Contributions) (r : Result Unit SectionFault) → length xs ≡ length (goal_word d xs g) → DoesWork (goal_parted d h xs g) old new r → DoesWork (goal_unit d h xs g []) old new r

@@ -21,16 +21,13 @@ neither true b h = absurd cc
 
 mutual
   same_value : (d : Context) (at : Levels) (t : Term) → reads_signal t ≡ false → term_value d at t ≡ constant_of d t
-  same_value d at (term.Number n) h = refl
-  same_value d at term.X h = refl
-  same_value d at term.Pulse h = refl
-  same_value d at term.Release h = refl
   same_value d at (term.Read s e) h = absurd cc
   same_value d at (term.Set ts) h = same_set d at ts h
   same_value d at (term.UnaryOf sign t) h = ap (unary_value sign) (same_value d at t h)
   same_value d at (term.BinaryOf sign t u) h =
       let n = neither (reads_signal t) (reads_signal u) h in
       ap₂ (binary_value sign) (same_value d at t n.0) (same_value d at u n.1)
+  same_value d at _ h = refl
 
   same_set : (d : Context) (at : Levels) (ts : Terms) → any_reads_signal ts ≡ false → set_value d at ts ≡ set_value d nowhere ts
   same_set d at term.NoTerm h = refl
@@ -57,8 +54,7 @@ places_say d fs s t still h other =
 
     no_number : (x : Shape) → s.shape ≡ x → HasShape x v → v.shape ≡ number.Number → ⊥
     no_number (shape.Number n) p q e = other n p
-    no_number shape.Single p q e = cc
-    no_number (shape.Set w) p q e = cc
+    no_number _ p q e = cc
 
     by_shape : (x : number.Shape) → v.shape ≡ x → HasBits x v.number v.number bs → number_with bs ≡ v.number
     by_shape number.Number e k = absurd (no_number s.shape refl h.shape e)
@@ -79,9 +75,8 @@ narrow n d t known e =
     (narrow_if d f.value f.specials (term_of (known_of (entries_of n)) t) (l.valued (none_refused section_order f.refusals (sym e))) l.linked)
 
 pub few_positions : (s : Shape) (v : Value) → HasShape s v → width_of v.shape ≤ 32 → positions s ≤ 32
-few_positions (shape.Number n) v h w = omega arith
-few_positions shape.Single v h w = omega arith
 few_positions (shape.Set k) v h w = subst (λ x. width_of x ≤ 32) h w
+few_positions _ v h w = omega arith
 
 -- all but one of 32 positions make a number that can be doubled
 counted : (fs : List Formula) (ps : List (Option ExprId)) → length (map (formula_value all_zero) (bits_at fs ps)) ≡ length ps

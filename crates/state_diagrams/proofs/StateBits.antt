@@ -1,12 +1,10 @@
 -- The bit of a state is where the present state has the value; bits in an arena that grows.
-use Rattle.std.proofs.Common.{◌≡◌, zero, suc, ◌<◌, false, List, [], ◌∷◌, ◌++◌, All, length, map, get_or, refl, sym, ap, ap₂, ◌∙◌, subst, arith, ℕ, Bool, true, None}
-use Rattle.state_diagrams.proofs.Common.{get_or-map, length-map, map-append, All-append, ExprId, formula_at, Formula, Const, StateTree, Context, Keeps, Aim, IsBit, AreBits, kept_formula, kept_inside, state_bit, state_bits, make_not, make_and, condition, register_literals, registers_equal, is_state, formulas, digits, Term, constant_of, number_guard}
+use Rattle.std.proofs.Common.{◌≡◌, zero, suc, ◌<◌, false, List, [], ◌∷◌, ◌++◌, length, map, get_or, refl, sym, ap, ap₂, ◌∙◌, subst, arith, ℕ, Bool, true, None}
+use Rattle.state_diagrams.proofs.Common.{get_or-map, length-map, map-append, All-append, AreIn, ExprId, formula_at, Formula, Const, StateTree, Context, Keeps, Aim, IsBit, AreBits, kept_formula, kept_inside, state_bit, state_bits, make_not, make_and, condition, register_literals, registers_equal, is_state, formulas, digits, Term, constant_of, number_guard}
+use Rattle.std.proofs.lemmas.List.Elements.{All-cons, All-nil}
 use Rattle.abel_meaning.specs.Terms as term
 
-abbrev InArena : List Formula → List ExprId → Type 0
-InArena fs ids = All (λ (id : ExprId). id.0 < length fs) ids
-
-kept_bits : (old new : List Formula) (ids : List ExprId) → Keeps old new → InArena old ids → map (formula_at new) ids ≡ map (formula_at old) ids
+kept_bits : (old new : List Formula) (ids : List ExprId) → Keeps old new → AreIn (length old) ids → map (formula_at new) ids ≡ map (formula_at old) ids
 kept_bits old new [] k h = refl
 kept_bits old new (id ∷ ids) k h =
     ap₂ (λ f fs. f ∷ fs) (kept_formula old new id k (h 0 id (omega arith))) (kept_bits old new ids k (λ i x lt. h (suc i) x (omega (arith, lt))))
@@ -19,13 +17,9 @@ bits_kept old new ids fs k b = (λ i x lt. kept_inside old new (get_or ids i x) 
 pub bit_at : (fs : List Formula) (ids : List ExprId) (gs : List Formula) (i : ℕ) (id : ExprId) → AreBits fs ids gs → i < length ids → IsBit fs (get_or ids i id) (get_or gs i (Const false))
 bit_at fs ids gs i id b lt = (b.0 i id lt, sym (get_or-map (formula_at fs) ids i id (Const false) lt) ∙ ap (λ hs. get_or hs i (Const false)) b.1)
 
-alone : (fs : List Formula) (id : ExprId) → id.0 < length fs → InArena fs (id ∷ [])
-alone fs id h zero x lt = h
-alone fs id h (suc i) x lt = absurd (omega (arith, lt))
-
 pub bits_more : (fs : List Formula) (ids : List ExprId) (gs : List Formula) (id : ExprId) (g : Formula) → AreBits fs ids gs → IsBit fs id g → AreBits fs (ids ++ id ∷ []) (gs ++ g ∷ [])
 bits_more fs ids gs id g b o = (
-  All-append (λ (x : ExprId). x.0 < length fs) ids (id ∷ []) b.0 (alone fs id o.0),
+  All-append (λ (x : ExprId). x.0 < length fs) ids (id ∷ []) b.0 (All-cons (λ (x : ExprId). x.0 < length fs) id [] o.0 (All-nil _)),
   map-append (formula_at fs) ids (id ∷ []) ∙ ap₂ (λ xs x. xs ++ x ∷ []) b.1 o.1,
 )
 
@@ -42,10 +36,9 @@ states_counted d xs fs ids ss b = sym (length-map ids (formula_at fs)) ∙ ap le
 
 -- the literals of registers are what it is for them to read these digits, whatever was found before
 pub registers_hold : (d : Context) (found : Formula) (ss : List ℕ) (bs : List Bool) → (register_literals d found ss bs).what ≡ registers_equal (formulas d) found ss bs
-registers_hold d found [] bs = refl
-registers_hold d found (s ∷ ss) [] = refl
 registers_hold d found (s ∷ ss) (true ∷ bs) = registers_hold d (make_and found (condition (formulas d) (term.Read s None))).what ss bs
 registers_hold d found (s ∷ ss) (false ∷ bs) = registers_hold d (make_and found (make_not (condition (formulas d) (term.Read s None))).what).what ss bs
+registers_hold d found _ _ = refl
 
 -- so the guard of a value's number is what it is to be in that state
 pub guard_is_state : (d : Context) (ss : List ℕ) (v : Term) → (number_guard d ss (constant_of d v).number).what ≡ is_state (formulas d) d ss v

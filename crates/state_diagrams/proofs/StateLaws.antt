@@ -1,6 +1,6 @@
 -- What is refused of registers and of the values of states.
 use Rattle.std.proofs.Common.{◌≡◌, ℕ, ◌^◌, Bool, true, false, not, ◌&&◌, nat_lt, Option, None, Some, List, [], ◌∷◌, ◌++◌, if◌then◌else◌, refl, ap, ◌≤◌, length, map, sym, ◌∙◌, subst, append-nil, ◌==◌}
-use Rattle.state_diagrams.proofs.Common.{list_any, Place, Tree, StateTree, none_refused, Context, term_of, known_of, SectionFault, BadState, Found, section_order, reads_signal, Manner, manners_behind, register_manners, if_none, is_empty, is_state_of, listed_after, listed_with, state_number, state_refused, state_value_refused, listed_if, Aim, AreNamed, aims_refused, manner_of, TargetFound, target_member, unless_any, AreRegisters}
+use Rattle.state_diagrams.proofs.Common.{list_any, Place, Tree, StateTree, none_refused, Context, term_of, known_of, SectionFault, BadState, Found, section_order, reads_signal, Manner, manners_behind, register_manners, if_none, is_empty, is_state_of, listed_after, listed_with, state_number, state_refused, state_value_refused, listed_if, Aim, AreNamed, aims_refused, manner_of, TargetFound, target_member, unless_any, AreRegisters, is_some, not_clear}
 use Rattle.state_diagrams.proofs.GuardLaws.{first}
 use Rattle.section_targets.specs.declared.sides.Side.{Side}
 use Rattle.section_targets.specs.NamedTargets.{IsSide}
@@ -50,14 +50,11 @@ pub no_registers : (d : Context) (all : List Manner) (t : Tree) (s : Side) (f : 
 no_registers d all t s f h e =
     record {
       fault = e ∙ by (target_member d t).refusals (sym e ∙ h.fault);
-      aims = λ n. absurd (never n);
-      few = λ n. absurd (never n);
+      aims = λ n. not_clear s.fault (ap is_some e) n;
+      few = λ n. not_clear s.fault (ap is_some e) n;
       inside = h.inside;
     }
   where
-    never : s.fault ≡ None → ⊥
-    never n = cc
-
     by : (rs : List SectionFault) → Some f ≡ first rs → Some f ≡ first (if_none rs (aims_refused d all None false true (target_member d t).aims))
     by [] g = absurd cc
     by (r ∷ rs) g = g

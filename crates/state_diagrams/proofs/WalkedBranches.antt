@@ -5,8 +5,7 @@ use Rattle.abel_meaning.specs.Contributions as meant
 use Rattle.equations.specs.declared.choices.BothGuards.{BothGuards}
 use Rattle.equations.specs.Builds.{condition_unit}
 use Rattle.state_diagrams.proofs.AnyGuards.{chosen_guard, kept_guard, statements_under, statements_work, still_firsts, under_any, under_then, unit_then, unit_under, walked_clear}
-use Rattle.state_diagrams.proofs.GuardLaws.{Choice}
-use Rattle.state_diagrams.proofs.ArmViews.{if_parts}
+use Rattle.state_diagrams.proofs.GuardLaws.{Choice, if_parts}
 
 -- ---- goals
 

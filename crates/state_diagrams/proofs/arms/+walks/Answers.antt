@@ -3,8 +3,7 @@ use Rattle.std.proofs.Common.{◌≡◌, ◌+◌, ◌<◌, Option, ◌∷◌, Li
 use Rattle.state_diagrams.proofs.Common.{drop_all, on_ok_weaker, ExprId, arena, formula_at, Formula, Arm, the_lemmas, CaseArm, Branch, choices_of, other_of, view, view_arm, view_choice, condition_of, formulas, Guard, context_for, AreBits, AreIn, kept_formula, kept_inside, walks_none, arm_guards, case_choices, case_place, view_choices, WalksBranch, WalksChoices}
 use Rattle.abel_meaning.specs.Contributions as meant
 use Rattle.state_diagrams.proofs.StateBits.{bits_kept}
-use Rattle.state_diagrams.proofs.GuardLaws.{Choice, arm_holds}
-use Rattle.state_diagrams.proofs.ArmViews.{choice_parts, view_goaled, view_iffed, view_cased}
+use Rattle.state_diagrams.proofs.GuardLaws.{Choice, arm_holds, choice_parts, view_goaled, view_iffed, view_cased}
 use Rattle.state_diagrams.proofs.WalkedBranches.{WalksOther, branch_clear, branch_keeps, case_walk, choices_walk, if_walk, rest_at}
 use Rattle.state_diagrams.proofs.arms.+walks.Goals as goal
 

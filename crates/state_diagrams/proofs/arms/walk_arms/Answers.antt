@@ -7,9 +7,6 @@ use Rattle.state_diagrams.proofs.arms.walk_arms.Goals as goal
 pub loop-arm-init : goal.loop-arm-init
 loop-arm-init g c = record { guard = c.requires.guard; walks = λ later k. k }
 
-pub walk_arm-requires-clause-guard : goal.walk_arm-requires-clause-guard
-walk_arm-requires-clause-guard g c = c.loop-arm.invariant.guard
-
 pub loop-arm-preserved : goal.loop-arm-preserved
 loop-arm-preserved g c =
     let t = g.D.Device.table in

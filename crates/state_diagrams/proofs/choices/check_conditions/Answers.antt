@@ -1,8 +1,7 @@
 -- One condition more, and all conditions.
 use Rattle.std.proofs.Common.{◌+◌, List, map, drop, ap, sym, ◌∙◌, arith}
 use Rattle.state_diagrams.proofs.Common.{drop_all, earlier, choices_of, view_choice, earlier_none, section_order, condition_refused, view_choices, choices_refused, entries_of, context_for}
-use Rattle.state_diagrams.proofs.GuardLaws.{Choice, first, conditions_next}
-use Rattle.state_diagrams.proofs.ArmViews.{choice_parts}
+use Rattle.state_diagrams.proofs.GuardLaws.{Choice, first, conditions_next, choice_parts}
 use Rattle.state_diagrams.proofs.WalkedBranches.{rest_at}
 use Rattle.state_diagrams.proofs.choices.check_conditions.Goals as goal
 

@@ -26,9 +26,6 @@ returns-in-Ok-clause-walks g c =
     conditions_made (context_for g.D.Device.table c.args.scope.now) c.args.guard (case_place x) (case_choices x) c.in_ok-fault.fault c.args.out.now c.refuse.new.self (record c.refuse.new.self { exprs = ns }) ns (Ok tt)
     c.in_ok-fault.ensures c.refuse.ensures.first (sym c.refuse.ensures.refused ∙ c.if-refuse.false) c.in-Ok.ensures.builds refl
 
-pub returns-in-Ok-clause-inside : goal.returns-in-Ok-clause-inside
-returns-in-Ok-clause-inside g c = c.in-Ok.ensures.guards.0
-
 pub returns-in-Ok-clause-guards : goal.returns-in-Ok-clause-guards
 returns-in-Ok-clause-guards g c = λ e.
     subst (λ (w : Walked). AreBits (arena c.make_guards.new.exprs) c.in-Ok.guards.items (arm_guards (context_for g.D.Device.table c.args.scope.now) (formula_at (arena w.exprs) c.args.guard) (case_arms c.args.case.now))) c.refuse.ensures.first c.in-Ok.ensures.guards

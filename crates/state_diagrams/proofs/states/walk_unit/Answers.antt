@@ -37,9 +37,6 @@ returns-in-Ok-clause-walks g c = λ listed value.
     unit_walk (context_for g.D.Device.table m.scope.now) (signals_of m.registers.now) (view_state c.args.state.now) listed c.args.found c.args.out.now now made c.state_guard.new.exprs (Ok tt)
     value c.refuse.ensures.first (sym c.refuse.ensures.refused ∙ c.if-refuse.false) c.in-Ok.ensures.0 refl
 
-pub returns-in-Ok-clause-inside : goal.returns-in-Ok-clause-inside
-returns-in-Ok-clause-inside g c = c.in-Ok.ensures.1.0
-
 pub returns-in-Ok-clause-bit : goal.returns-in-Ok-clause-bit
 returns-in-Ok-clause-bit g c = λ listed value e.
     let m = c.args.machine.now in
