@@ -1,5 +1,5 @@
 pub mod Common
-mod ExampleTrees
+pub mod ExampleTrees
 pub mod GivenLaws
 pub mod HeaderLaws
 pub mod InputLaws
