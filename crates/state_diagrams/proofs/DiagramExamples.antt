@@ -1,56 +1,29 @@
 -- What is refused of state diagrams, by computation. a is a pin, Q and R are registers on cells, Y a combinational
--- output, s is the constant 2; each line has one token that counts.
-use Rattle.state_diagrams.proofs.Common.{Place, Kind, APin, AConstant, Words, Entry, Tree, ANumber, ASpecial, AName, ASet, ABinary, SetMember, OneMember, members_of, AnAssign, Branch, AGoal, AnIf, ACase, NoBranch, ABranch, NoChoice, MoreChoices, StateTree, Context, context_of, SectionFault, MisplacedSpecial, BadWidth, NotAnOutput, MixedAssignment, BadState, units_refused, units_of_diagram}
+-- output, s is the constant 2; each column has one token that counts.
+use Rattle.state_diagrams.proofs.Common.{APin, Entry, Tree, ABinary, AnAssign, Branch, AGoal, AnIf, ACase, NoBranch, ABranch, NoChoice, MoreChoices, StateTree, Context, context_of, SectionFault, MisplacedSpecial, BadWidth, NotAnOutput, MixedAssignment, BadState, units_refused, units_of_diagram}
 use Prim.Native.String.{String}
-use Rattle.std.proofs.Common.{◌≡◌, ℕ, Bool, true, false, None, Some, List, [], ◌∷◌, codes, refl}
+use Rattle.std.proofs.Common.{◌≡◌, ℕ, true, false, None, Some, List, [], ◌∷◌, refl}
 use Rattle.pld_device.specs.SampleTable.{sample}
 use Rattle.abel_tree.specs.declared.words.Binary.TheVariants as binary
 use Rattle.abel_tree.specs.declared.words.Sign.TheVariants as sign
-use Rattle.abel_tree.specs.declared.words.Word.{Word}
-
-abbrev at : ℕ → Place
-at l = record { line = l; column = 1 }
-
-abbrev number : ℕ → Tree
-number n = ANumber (record { value = n; place = at 1 })
-
-abbrev word : ℕ → String → Word
-word l text = record { text = codes text; place = at l }
-
-abbrev name : ℕ → String → Tree
-name l text = AName (word l text) None
-
-abbrev ones : List Tree → List SetMember
-ones [] = []
-ones (t ∷ ts) = OneMember t ∷ ones ts
-
-abbrev set : ℕ → List Tree → Tree
-set l ts = ASet (at l) (members_of (ones ts)) None
-
-abbrev unknown : ℕ → Tree
-unknown l = ASpecial 88 (at l)
+use Rattle.truth_tables.proofs.ExampleTrees.{at, constant, declared, name, number, set, unknown}
 
 abbrev both : ℕ → Tree → Tree → Tree
 both l t u = ABinary binary.And (at l) t u
 
-abbrev words : (registered : Bool) → Words
-words true = record { combinational = false; registered = true; buffer = false; invert = true; dc = false }
-words false = record { combinational = true; registered = false; buffer = false; invert = true; dc = false }
-
-abbrev declared : String → Kind → (registered assigned : Bool) → Entry
-declared text kind registered assigned =
-    record { name = codes text; place = at 1; kind = kind; words = words registered; assigned = assigned }
+abbrev register : String → (pin : ℕ) → Entry
+register text pin =
+    let entry = declared text (APin pin false) true in
+    record entry { words = record { combinational = false; registered = true; buffer = false; invert = true; dc = false } }
 
 abbrev names : List Entry
 names =
-    declared "a" (APin 1 false) false false ∷ declared "Q" (APin 8 false) true true
-    ∷ declared "R" (APin 9 false) true true ∷ declared "Y" (APin 9 false) false true
-    ∷ declared "s" (AConstant (number 2)) false false ∷ []
+    declared "a" (APin 1 false) false ∷ register "Q" 8 ∷ register "R" 9 ∷ declared "Y" (APin 9 false) true ∷ constant "s" (number 2) ∷ []
 
 abbrev design : Context
 design = context_of sample names
 
--- a state on this line
+-- a state at this column
 abbrev state : ℕ → Tree → List Branch → StateTree
 state l value transitions = record { place = at l; value = value; statements = []; transitions = transitions }
 
@@ -85,14 +58,14 @@ too_large = refl
 signal : refused registers (state 2 (name 2 "a") [] ∷ state 3 (both 3 (name 3 "a") (number 0)) [] ∷ []) ≡ BadState (at 2) ∷ BadState (at 3) ∷ []
 signal = refl
 
-unknown_state : refused registers (state 2 (unknown 3) [] ∷ []) ≡ BadState (at 2) ∷ []
+unknown_state : refused registers (state 2 unknown [] ∷ []) ≡ BadState (at 2) ∷ []
 unknown_state = refl
 
 -- [0,1,1] is wider than two registers, and is 3; .X. in an operator is refused there
 wide : refused registers (state 2 (set 2 (number 0 ∷ number 1 ∷ number 1 ∷ [])) [] ∷ []) ≡ []
 wide = refl
 
-inside : refused registers (state 2 (both 3 (unknown 4) (number 1)) [] ∷ []) ≡ MisplacedSpecial (at 4) ∷ []
+inside : refused registers (state 2 (both 3 unknown (number 1)) [] ∷ []) ≡ MisplacedSpecial (at 9) ∷ []
 inside = refl
 
 -- state 2 and state s
