@@ -1,6 +1,6 @@
 -- What is refused of registers and of the values of states.
-use Rattle.std.proofs.Common.{◌≡◌, ℕ, ◌^◌, Bool, true, false, not, ◌&&◌, nat_lt, Option, None, Some, List, [], ◌∷◌, ◌++◌, if◌then◌else◌, refl, ap, ◌≤◌, length, map, sym, ◌∙◌, subst, append-nil, ◌==◌}
-use Rattle.state_diagrams.proofs.Common.{list_any, Place, Tree, StateTree, none_refused, Context, term_of, known_of, SectionFault, BadState, Found, section_order, reads_signal, Manner, manners_behind, register_manners, if_none, is_empty, is_state_of, listed_after, listed_with, state_number, state_refused, state_value_refused, listed_if, Aim, AreNamed, aims_refused, manner_of, TargetFound, target_member, unless_any, AreRegisters, is_some, not_clear}
+use Rattle.std.proofs.Common.{◌≡◌, ℕ, true, false, Option, None, Some, List, [], ◌∷◌, ◌++◌, refl, ap, ◌≤◌, length, map, sym, ◌∙◌, subst, append-nil}
+use Rattle.state_diagrams.proofs.Common.{Tree, StateTree, none_refused, Context, known_of, SectionFault, section_order, Manner, manners_behind, register_manners, if_none, listed_after, listed_with, state_number, state_refused, listed_if, Aim, AreNamed, aims_refused, manner_of, TargetFound, target_member, unless_any, AreRegisters, is_some, not_clear}
 use Rattle.state_diagrams.proofs.GuardLaws.{first}
 use Rattle.section_targets.specs.declared.sides.Side.{Side}
 use Rattle.section_targets.specs.NamedTargets.{IsSide}
@@ -8,23 +8,6 @@ use Rattle.section_targets.proofs.SignalLists.{side_all}
 use Rattle.section_targets.proofs.SmallTargets.{member_few}
 
 -- ---- values
-
-at_state : (d : Context) (p : Place) (n : ℕ) (listed : List ℕ) (f : Found) (v : Tree) (b : Bool) → None ≡ first f.refusals → is_state_of d n listed f.specials v ≡ b → (if b then None else Some (BadState p)) ≡ first (state_value_refused d p n listed f v)
-at_state d p n listed f v b e h = by f.refusals (none_refused section_order f.refusals e) b h
-  where
-    by : (rs : List SectionFault) → rs ≡ [] → (b : Bool) → is_state_of d n listed f.specials v ≡ b → (if b then None else Some (BadState p)) ≡ first (if_none rs (if is_state_of d n listed f.specials v then [] else BadState p ∷ []))
-    by [] e true h = rw h refl
-    by [] e false h = rw h refl
-    by (r ∷ rs) e b h = absurd cc
-
--- it reads a signal
-pub read_refused : (d : Context) (p : Place) (n : ℕ) (listed : List ℕ) (f : Found) (v : Tree) → None ≡ first f.refusals → reads_signal (term_of d.known v) ≡ true → Some (BadState p) ≡ first (state_value_refused d p n listed f v)
-read_refused d p n listed f v e h = at_state d p n listed f v false e (by (is_empty f.specials) (reads_signal (term_of d.known v)) h)
-  where
-    by : (a b : Bool) → b ≡ true → (a && (not b && (nat_lt (state_number d v) (2 ^ n) && not (list_any (λ m. m == state_number d v) listed)))) ≡ false
-    by a false h = absurd cc
-    by true true h = refl
-    by false true h = refl
 
 -- a state that isn't refused is listed
 pub listed_as : (d : Context) (n : ℕ) (listed : List ℕ) (s : StateTree) (m : ℕ) (f : Option SectionFault) → f ≡ first (state_refused d n listed s) → (f ≡ None → m ≡ state_number d s.value) → listed_if f listed m ≡ listed_after d n listed s

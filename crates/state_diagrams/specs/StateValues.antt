@@ -1,11 +1,10 @@
 -- The value of a state: a constant without X that the registers hold, listed once (ABEL-HDL Reference Manual, state
 -- diagrams; which values are states is this project's rule).
 use Rattle.std.specs.Prelude.{ℕ, ◌^◌, ◌==◌, nat_lt, Bool, true, false, not, ◌&&◌, List, [], ◌∷◌, ◌++◌, if◌then◌else◌, ◌≡◌, Option, None, Some}
-use Rattle.state_diagrams.specs.Prelude.{list_any, Place, Tree, StateTree, Context, term_of, known_of, reads_signal, SectionFault, expression_found, Names, entries_of, first_refusal, view, section_order}
+use Rattle.state_diagrams.specs.Prelude.{list_any, Place, Tree, StateTree, Context, term_of, reads_signal, SectionFault, expression_found, first_refusal, section_order}
 use Rattle.abel_meaning.specs.Values.{constant_of}
 use Rattle.set_expr.specs.declared.fault.SectionFault.TheVariants.{BadState}
 use Rattle.set_expr.specs.Refusals.{Found}
-use Rattle.abel_tree.specs.declared.diagrams.State.{State}
 use Rattle.pld_base.specs.Points.{Levels, levels_of}
 use Rattle.state_diagrams.specs.declared.values.StateFound.{StateFound}
 

@@ -27,13 +27,11 @@ fn places_number(exprs: &Exprs, places: &[Option<ExprId>]) -> u32
     };
     match places.split_first() {
         None => 0,
-        Some((None, higher)) => 2 * places_number(exprs, higher),
-        Some((Some(id), higher)) => {
+        Some((place, higher)) => {
             let number = 2 * places_number(exprs, higher);
-            if exprs.eval(*id, &nowhere) {
-                number + 1
-            } else {
-                number
+            match place {
+                Some(id) if exprs.eval(*id, &nowhere) => number + 1,
+                _ => number,
             }
         }
     }

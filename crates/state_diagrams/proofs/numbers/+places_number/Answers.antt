@@ -4,14 +4,10 @@ use Rattle.state_diagrams.proofs.Common.{arena}
 use Rattle.state_diagrams.proofs.NumberLaws.{rest_small}
 use Rattle.state_diagrams.proofs.numbers.+places_number.Goals as goal
 
-pub overflow_mul-result : goal.overflow_mul-result
-overflow_mul-result t c =
-    omega (arith, c.places_number.ensures, rest_small (arena c.args.exprs.now) c.in-Some-None-default.higher.now (omega (arith, ap length c.in-Some-None-default.ensures.cases.0, c.requires.few)))
-
 pub overflow_mul-number : goal.overflow_mul-number
 overflow_mul-number t c =
-    omega (arith, c.places_number-number.ensures, rest_small (arena c.args.exprs.now) c.in-Some-Some-default.higher.now (omega (arith, ap length c.in-Some-Some-default.ensures.cases.0, c.requires.few)))
+    omega (arith, c.places_number-number.ensures, rest_small (arena c.args.exprs.now) c.in-Some.higher.now (omega (arith, ap length c.in-Some.ensures.cases.0, c.requires.few)))
 
 pub overflow_add-result : goal.overflow_add-result
 overflow_add-result t c =
-    omega (arith, c.places_number-number.ensures, rest_small (arena c.args.exprs.now) c.in-Some-Some-default.higher.now (omega (arith, ap length c.in-Some-Some-default.ensures.cases.0, c.requires.few)))
+    omega (arith, c.places_number-number.ensures, rest_small (arena c.args.exprs.now) c.in-Some.higher.now (omega (arith, ap length c.in-Some.ensures.cases.0, c.requires.few)))

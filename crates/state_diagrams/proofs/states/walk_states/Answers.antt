@@ -16,9 +16,6 @@ loop-state-init g c =
       bits = λ e. subst (λ (ids : List ExprId). AreBits (arena c.args.out.now.exprs) ids []) (sym c.new-bits.ensures.items) (λ i x lt. absurd (omega (arith, lt)), refl);
     }
 
-pub walk_statements-requires : goal.walk_statements-requires
-walk_statements-requires g c = record { guard = c.in_ok-when.ensures.inside }
-
 pub walk_arms-requires-clause-guard : goal.walk_arms-requires-clause-guard
 walk_arms-requires-clause-guard g c =
     kept_inside _ _ c.in_ok-when.when (c.in_ok-walk_statements.ensures c.walk_unit.new.out.before (λ s p. refl)).keeps c.in_ok-when.ensures.inside
