@@ -1,8 +1,8 @@
 -- The answer for a source from that for its units.
-use Rattle.std.proofs.Common.{◌≡◌, Option, None, Some, List, [], ◌++◌, length, map, sym, ap, ap₂, ◌∙◌, subst, append-nil}
+use Rattle.std.proofs.Common.{◌≡◌, Option, None, Some, List, [], length, map, sym, ap, ◌∙◌, subst, append-nil}
 use Rattle.source_sections.proofs.Common.{arena, earlier, first_refusal, Design, given_formulas, Contribution, view_contribution, section_order, units_nodes, both_clear, at, AreContributed, IsTold, sections_refused, source_units, sections_places}
 use Rattle.std.specs.Option.{is_some}
-use Rattle.abel_tree.proofs.FirstRefusals.{first_append, none_refused}
+use Rattle.abel_tree.proofs.FirstRefusals.{none_refused}
 use Rattle.set_expr.specs.declared.contributions.Contributions.{Contributions}
 use Rattle.set_expr.specs.declared.fault.SectionFault.{SectionFault}
 use Rattle.set_expr.specs.declared.fault.SectionFault.TheVariants as fault
@@ -10,21 +10,8 @@ use Rattle.section_targets.specs.Appending.{Contributed}
 use Rattle.gathering.specs.Parts.{AllLieIn}
 
 pub told_of : (rs : List SectionFault) (f : SectionFault) → first_refusal section_order rs ≡ Some f → IsTold rs f
-told_of rs (fault.MisplacedSpecial p) e = e
-told_of rs (fault.NotConstant p) e = e
-told_of rs (fault.ZeroDivisor p) e = e
-told_of rs (fault.BadWidth p) e = e
-told_of rs (fault.NotAnOutput p n) e = e
-told_of rs (fault.MixedAssignment p n) e = e
-told_of rs (fault.BadRow p) e = e
-told_of rs (fault.BadState p) e = e
-told_of rs (fault.BadVector p) e = e
-told_of rs (fault.NodeLimit p) e = e
 told_of rs fault.OutOfMemory e = tt
-
--- the first of what is refused of constants and of units
-pub first_of : (cs us : List SectionFault) (c u : Option SectionFault) → c ≡ first_refusal section_order cs → u ≡ first_refusal section_order us → earlier section_order c u ≡ first_refusal section_order (cs ++ us)
-first_of cs us c u h k = ap₂ (earlier section_order) h k ∙ sym (first_append section_order cs us)
+told_of rs _ e = e
 
 -- where nothing is refused of both, nothing is of the units
 pub accepted_right : (c u : Option SectionFault) → earlier section_order c u ≡ None → u ≡ None

@@ -1,6 +1,6 @@
 -- A section is walked by its statements, rows or states, and behind it those that are left; the same of declarations.
-use Rattle.std.proofs.Common.{◌≡◌, ℕ, ◌+◌, ◌<◌, Bool, true, Option, List, [], ◌∷◌, ◌++◌, drop, length, get_or, refl, sym, ap, ◌∙◌, subst}
-use Rattle.source_sections.proofs.Common.{at_drop_more, arena, formula_at, Table, Names, SectionTree, Declaration, ADevice, SomePins, SomeNodes, SomeAttributes, SomeConstants, SomeOptions, DontCareFor, Context, after_declarations, after_section, formulas, context_for, view_guard, Manner, Walked, AreFirsts, Walks, walks_none, walks_then, WalksSection, section_manners, sections_manners, section_places, sections_places, units_of_section, units_of_sections}
+use Rattle.std.proofs.Common.{◌≡◌, ℕ, Bool, true, Option, List, [], ◌∷◌, ◌++◌, refl, sym, subst}
+use Rattle.source_sections.proofs.Common.{arena, formula_at, Table, Names, SectionTree, Declaration, DontCareFor, Context, after_declarations, after_section, formulas, context_for, view_guard, Manner, Walked, AreFirsts, Walks, walks_none, walks_then, WalksSection, section_manners, sections_manners, section_places, sections_places, units_of_section, units_of_sections}
 use Rattle.abel_meaning.specs.Sections.{next_block, section_gives, sections_give, unguarded}
 use Rattle.bit_expr.specs.Formulas.{Formula, Const}
 use Rattle.abel_meaning.specs.Contributions as meant
@@ -8,18 +8,10 @@ use Rattle.set_expr.specs.declared.contributions.Guard.{Guard}
 
 -- ---- declarations
 
-pub left_next : {X : Type 0} (list : List X) (i : ℕ) (x : X) → i < length list → x ≡ get_or list i x → drop i list ≡ x ∷ drop (i + 1) list
-left_next list i x h is = at_drop_more (λ ys. ys) list i x h ∙ ap (λ y. y ∷ drop (i + 1) list) (sym is)
-
 -- whether the directive is in force behind declarations
 pub declarations_then : (on : Bool) (d : Declaration) (ds : List Declaration) → after_declarations on (d ∷ ds) ≡ after_declarations (after_declarations on (d ∷ [])) ds
 declarations_then on (DontCareFor directive) ds = refl
-declarations_then on (ADevice name text) ds = refl
-declarations_then on (SomePins names numbers attributes) ds = refl
-declarations_then on (SomeNodes names numbers attributes) ds = refl
-declarations_then on (SomeAttributes names attributes) ds = refl
-declarations_then on (SomeConstants names values) ds = refl
-declarations_then on (SomeOptions words) ds = refl
+declarations_then on _ ds = refl
 
 -- ---- one section
 

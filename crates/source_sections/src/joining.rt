@@ -1,11 +1,6 @@
 //! What all sections of a source contribute.
 
-ghost use Rattle.std.specs.Prelude.{◌≡◌};
-ghost use Rattle.abel_tree.specs.Entries.{entries_of};
-ghost use Rattle.abel_tree.specs.FirstRefusal as first;
 ghost use Rattle.abel_tree.specs.View.{view_module};
-ghost use Rattle.set_expr.specs.FoundNames.{constants_refused};
-ghost use Rattle.set_expr.specs.SectionOrder.{section_order};
 ghost use Rattle.source_sections.specs.SectionAnswers.{AnswersModule};
 
 use crate::directives::after_declarations;
@@ -14,18 +9,8 @@ use abel_tree::{Module, earlier};
 use pld_base::ListOf;
 use pld_device::Device;
 use section_targets::{SectionScope, Walked};
-use set_expr::{Contributions, Scope, SectionFault};
+use set_expr::{Contributions, SectionFault};
 use std::alloc::Global;
-
-/// The first refusal, by place, of all constants. Takes no memory.
-fn refused_constant(scope: &Scope<'_>) -> Option<SectionFault>
-    ensures { result ≡ first.first_refusal section_order (constants_refused (entries_of scope.now)) }
-{
-    match scope.check_constants() {
-        Ok(()) => None,
-        Err(fault) => Some(fault),
-    }
-}
 
 /// What the sections of a module contribute in their order, made in an arena of their own, where nothing is refused of
 /// its constants and its sections. Else the first refusal by place; the limit of nodes counts among them. Everything is
@@ -41,7 +26,7 @@ pub fn contributions<D: Device>(
     let sections = source.sections.as_slice();
     let mut out = Walked::new(alloc);
     walk_sections::<D>(alloc, scope, starts_dontcare, sections, &mut out)?;
-    let constant = refused_constant(scope.scope());
+    let constant = scope.scope().check_constants().err();
     match earlier(constant, out.fault) {
         None => Ok(Contributions {
             exprs: out.exprs,

@@ -1,7 +1,8 @@
 -- One declaration, and those that are left.
 use Rattle.std.proofs.Common.{◌+◌, drop, map, sym, ap, ◌∙◌}
 use Rattle.source_sections.proofs.Common.{view_decl, after_declarations}
-use Rattle.source_sections.proofs.SectionsWalked.{declarations_then, left_next}
+use Rattle.source_sections.proofs.SectionsWalked.{declarations_then}
+use Rattle.state_diagrams.proofs.WalkedBranches.{rest_at}
 use Rattle.source_sections.proofs.directives.after_declarations.Goals as goal
 
 pub loop-decl-preserved : goal.loop-decl-preserved
@@ -11,4 +12,4 @@ loop-decl-preserved c =
     let rest = map view_decl (drop (l.decl-index + 1) list) in
     ap (λ on. after_declarations on rest) c.after_declaration-on.ensures
     ∙ (sym (declarations_then l.on (view_decl c.decl-item.result) rest)
-    ∙ (sym (ap (λ ds. after_declarations l.on (map view_decl ds)) (left_next list l.decl-index c.decl-item.result c.loop-decl-test.true c.decl-item.is)) ∙ l.invariant))
+    ∙ (sym (ap (after_declarations l.on) (rest_at view_decl list l.decl-index c.decl-item.result c.loop-decl-test.true c.decl-item.is)) ∙ l.invariant))

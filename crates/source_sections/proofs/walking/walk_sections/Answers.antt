@@ -1,7 +1,8 @@
 -- One section, and those that are left.
-use Rattle.std.proofs.Common.{◌≡◌, ◌+◌, [], ◌∷◌, List, drop, refl, sym, ap, subst, arith}
+use Rattle.std.proofs.Common.{◌≡◌, ◌+◌, [], ◌∷◌, List, drop, refl, sym, subst, arith}
 use Rattle.source_sections.proofs.Common.{at_drop_all, view_section, after_section, Manner, Walked, AreFirsts, WalksSections, view_sections}
-use Rattle.source_sections.proofs.SectionsWalked.{AreLeft, all_walked, left_next, one_walked}
+use Rattle.source_sections.proofs.SectionsWalked.{AreLeft, all_walked, one_walked}
+use Rattle.state_diagrams.proofs.WalkedBranches.{rest_at}
 use Rattle.source_sections.proofs.walking.walk_sections.Goals as goal
 
 pub loop-section-init : goal.loop-section-init
@@ -17,7 +18,7 @@ loop-section-preserved g c =
     let x = c.section-item.result in
     let rest = view_sections (drop (i + 1) list) in
     let Done = λ (new : Walked). WalksSections t n c.args.starts_dontcare (view_sections list) c.args.out.now new in
-    let here : view_sections (drop i list) ≡ view_section x ∷ rest = ap view_sections (left_next list i x c.loop-section-test.true c.section-item.is) in
+    let here : view_sections (drop i list) ≡ view_section x ∷ rest = rest_at view_section list i x c.loop-section-test.true c.section-item.is in
     subst (λ on. AreLeft t n on c.in_ok-block.block rest c.walk_section.new.out Done) (sym c.after_section-dontcare.ensures)
     (subst (λ b. AreLeft t n (after_section l.dontcare (view_section x)) b rest c.walk_section.new.out Done) (sym c.in_ok-block.ensures)
     (one_walked t n l.dontcare l.block l.out Done (view_section x) rest c.walk_section.new.out (c.in_ok-walk_section.ensures l.block refl)
