@@ -4,7 +4,6 @@ mod DiagramExamples
 pub mod GoalWorks
 pub mod GuardLaws
 pub mod GuardsOfStates
-pub mod LiteralLaws
 pub mod MatchLaws
 pub mod NumberLaws
 pub mod StateBits

@@ -88,11 +88,6 @@ pub(crate) fn under_arm(guard: Guard, guards: &[ExprId], index: usize) -> Guard
     ensures block { result.block ≡ guard.block }
     ensures inside { (count : ℕ) → guard.when.0 < count → AreIn count guards.now → result.when.0 < count }
 {
-    match guards.get(index) {
-        Some(when) => Guard {
-            when: *when,
-            ..guard
-        },
-        None => guard,
-    }
+    let when = guards.get(index).copied().unwrap_or(guard.when);
+    Guard { when, ..guard }
 }

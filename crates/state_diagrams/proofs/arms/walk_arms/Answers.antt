@@ -4,9 +4,6 @@ use Rattle.state_diagrams.proofs.Common.{drop_all, Arm, Branch, view_arm, kept_i
 use Rattle.state_diagrams.proofs.WalkedBranches.{branch_keeps, branches_walk, rest_at}
 use Rattle.state_diagrams.proofs.arms.walk_arms.Goals as goal
 
-pub loop-arm-init : goal.loop-arm-init
-loop-arm-init g c = record { guard = c.requires.guard; walks = λ later k. k }
-
 pub loop-arm-preserved : goal.loop-arm-preserved
 loop-arm-preserved g c =
     let t = g.D.Device.table in

@@ -1,6 +1,6 @@
 -- The answer of reading a signal, as a part of a unit.
 use Rattle.state_diagrams.proofs.Common.{context_for, same_context, bare_read}
-use Rattle.state_diagrams.proofs.LiteralLaws.{bit_made, bit_past, no_memory}
+use Rattle.state_diagrams.proofs.StateBits.{bit_made, bit_past, no_memory}
 use Rattle.state_diagrams.proofs.guards.bare_bit.Goals as goal
 
 pub returns-in-Ok : goal.returns-in-Ok
