@@ -1,6 +1,6 @@
 -- The walk over a whole diagram, part by part: no match for each register, states with the matches of other signals.
 use Rattle.std.proofs.Common.{◌≡◌, false, true, Option, None, Some, List, [], ◌∷◌, ◌++◌, Result, Ok, length, map, drop, option_map, refl, sym, ap, ap₂, ◌∙◌, subst, subst₂, arith, append-nil, filter, append_assoc}
-use Rattle.state_diagrams.proofs.Common.{drop-append_seam, Place, ExprId, arena, Formula, StateTree, Context, first_of_each, is_other, other_matches, states_give, formulas, no_matches, Contribution, Contributions, SectionFault, view_contribution, Aim, Manner, Walked, AreBits, IsBuilt, Builds, AreFirsts, Walks, standing, walks_made, walks_then, places_of, signals_of, DoesWork, is_among, other_places, other_signal, pushed_for, regarded, no_block, WalksWork, header_work, others_work, state_bits, states_work, is_some, earlier, first_refusal, Tree, view, view_state, registers_given, some_signals, targets_of, term_of, Guard, section_order, view_guard, target_member, CountedUnit, walks_none, walks_refused, aims_places, diagram_manners, manners_behind, register_manners, registers_refused, states_manners, units_behind, units_of_states, given_by, places_by, units_of, if_none, before, some_refused, not_clear}
+use Rattle.state_diagrams.proofs.Common.{drop-append_seam, Place, ExprId, arena, Formula, StateTree, Context, first_of_each, is_other, other_matches, states_give, formulas, no_matches, Contribution, Contributions, SectionFault, view_contribution, Aim, Manner, Walked, AreBits, IsBuilt, Builds, AreFirsts, Walks, standing, walks_made, walks_then, places_of, signals_of, DoesWork, is_among, other_places, other_signal, pushed_for, regarded, no_block, WalksWork, header_work, others_work, state_bits, states_work, is_some, earlier, first_refusal, Tree, view, view_state, registers_given, some_signals, targets_of, term_of, Guard, section_order, view_guard, target_member, CountedUnit, walks_refused, aims_places, diagram_manners, manners_behind, register_manners, registers_refused, states_manners, units_behind, units_of_states, given_by, places_by, units_of, if_none, before, some_refused, not_clear}
 use Rattle.std.proofs.Math.Bool.{or-false}
 use Rattle.std.proofs.lemmas.Simd.{map-map}
 use Rattle.abel_meaning.specs.Contributions as meant
@@ -19,10 +19,6 @@ use Rattle.state_diagrams.proofs.AnyGuards.{unit_then}
 pub walks_refusing : (all ms : List Manner) (us : List CountedUnit) (gs hs : List (meant.Contribution Formula)) (ps qs : List Place) (old new : Walked) → is_some new.fault ≡ true → Walks all us gs ps ms old new → Walks all us hs qs ms old new
 walks_refusing all ms us gs hs ps qs old new s w =
     record { keeps = w.keeps; fault = w.fault; manners = w.manners; given = λ e. not_clear new.fault s e }
-
--- nothing is given behind what is refused
-pub header_refused : (all : List Manner) (gs : List (meant.Contribution Formula)) (ps : List Place) (out : Walked) → is_some out.fault ≡ true → AreFirsts out.before all → Walks all [] gs ps [] out out
-header_refused all gs ps out s a = walks_refusing all [] [] [] gs [] ps out out s (walks_none all out a)
 
 -- ---- other signals
 

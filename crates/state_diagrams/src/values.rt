@@ -56,10 +56,7 @@ pub(crate) fn check_value<D: Device>(
         number: 0,
         fault: Some(SectionFault::BadState(state.place)),
     };
-    if found.special.is_some() {
-        return Ok(bad);
-    }
-    if machine.scope.reads_signal(alloc, &state.value)? {
+    if found.special.is_some() || machine.scope.reads_signal(alloc, &state.value)? {
         return Ok(bad);
     }
     let number = state_number::<D>(alloc, machine.scope, &state.value)?;

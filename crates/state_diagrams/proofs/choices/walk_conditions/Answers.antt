@@ -1,6 +1,6 @@
 -- Conditions that are refused or stand behind what is, and those whose guards are made.
 use Rattle.std.proofs.Common.{[], Ok, Err, refl, sym, ◌∙◌, subst}
-use Rattle.state_diagrams.proofs.Common.{arena, formula_at, context_for, Walked, AreBits, limit_kept, unit_clear, unit_refused, not_clear, arm_guards, case_unit, case_arms, case_choices, case_place, choices_refused}
+use Rattle.state_diagrams.proofs.Common.{arena, formula_at, context_for, Walked, AreBits, limit_kept, unit_clear, unit_refused, arm_guards, case_unit, case_arms, case_choices, case_place, choices_refused}
 use Rattle.state_diagrams.proofs.GuardLaws.{conditions_made}
 use Rattle.state_diagrams.proofs.choices.walk_conditions.Goals as goal
 
@@ -10,9 +10,6 @@ returns-then-refuse-clause-walks g c = λ all a.
     let x = c.args.case.now in
     unit_refused all (case_unit d (formula_at (arena c.args.out.now.exprs) c.args.guard) (case_place x) (case_choices x)) [] [] c.in_ok-fault.fault c.args.out.now c.refuse.new.self
     c.in_ok-fault.ensures c.refuse.ensures.first (sym c.refuse.ensures.refused ∙ c.if-refuse.true) a
-
-pub returns-then-refuse-clause-guards : goal.returns-then-refuse-clause-guards
-returns-then-refuse-clause-guards g c = λ e. not_clear c.refuse.new.self.fault (sym c.refuse.ensures.refused ∙ c.if-refuse.true) e
 
 pub make_guards-requires-clause-accepted : goal.make_guards-requires-clause-accepted
 make_guards-requires-clause-accepted g c =

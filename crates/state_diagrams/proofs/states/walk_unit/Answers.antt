@@ -1,6 +1,6 @@
 -- A state that is refused or stands behind what is, and one whose bit is made.
 use Rattle.std.proofs.Common.{◌≡◌, ℕ, false, List, [], ◌∷◌, Result, Ok, Err, length, refl, sym, ap, ◌∙◌, subst, subst₂}
-use Rattle.state_diagrams.proofs.Common.{is_some, arena, Node, earlier, StateTree, view_state, Context, term_of, SectionFault, section_order, Manner, Walked, BuildsNodes, IsBit, AreFirsts, context_for, part, AfterMaking, Walks, high_bit, limit_kept, unit_clear, unit_refused, not_clear, signals_of, state_guard, state_unit, number_guard, IsState, state_refused, Made, Formula}
+use Rattle.state_diagrams.proofs.Common.{is_some, arena, Node, earlier, StateTree, view_state, Context, term_of, SectionFault, section_order, Manner, Walked, BuildsNodes, IsBit, AreFirsts, context_for, part, AfterMaking, Walks, high_bit, limit_kept, unit_clear, unit_refused, signals_of, state_guard, state_unit, number_guard, IsState, state_refused, Made, Formula}
 use Rattle.state_diagrams.specs.declared.values.StateFound.{StateFound}
 use Rattle.state_diagrams.proofs.StateBits.{guard_is_state}
 use Rattle.state_diagrams.proofs.AnyGuards.{nodes_made}
@@ -11,9 +11,6 @@ returns-then-refuse-clause-walks g c = λ listed value all a.
     let m = c.args.machine.now in
     unit_refused all (state_unit (context_for g.D.Device.table m.scope.now) (signals_of m.registers.now) listed (view_state c.args.state.now)) [] [] c.args.found.fault c.args.out.now c.refuse.new.self
     value.fault c.refuse.ensures.first (sym c.refuse.ensures.refused ∙ c.if-refuse.true) a
-
-pub returns-then-refuse-clause-bit : goal.returns-then-refuse-clause-bit
-returns-then-refuse-clause-bit g c = λ listed value e. not_clear c.refuse.new.self.fault (sym c.refuse.ensures.refused ∙ c.if-refuse.true) e
 
 -- the number of a state that isn't refused
 its_number : (d : Context) (ss : List ℕ) (s : StateTree) (listed : List ℕ) (f : StateFound) (old now : Walked) → IsState d (length ss) listed s f → now ≡ record old { fault = earlier section_order old.fault f.fault } → is_some now.fault ≡ false

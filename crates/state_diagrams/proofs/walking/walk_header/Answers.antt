@@ -1,15 +1,15 @@
 -- Behind what is refused, and where nothing is.
 use Rattle.std.proofs.Common.{[], length, refl, sym, ap, ◌∙◌, subst, append-nil}
-use Rattle.state_diagrams.proofs.Common.{on_ok_weaker, arena, Names, entries_of, view_guard, Walked, context_for, AreNamed, AreFirsts, standing, walks_made, no_fault, header_work}
+use Rattle.state_diagrams.proofs.Common.{on_ok_weaker, arena, Names, entries_of, view_guard, Walked, context_for, AreNamed, AreFirsts, standing, walks_made, walks_none, no_fault, header_work}
 use Rattle.truth_tables.specs.TableUnits.{some_aims}
-use Rattle.state_diagrams.proofs.WalkedDiagrams.{header_aims, header_refused, header_there}
+use Rattle.state_diagrams.proofs.WalkedDiagrams.{header_aims, header_there, walks_refusing}
 use Rattle.state_diagrams.proofs.walking.walk_header.Goals as goal
 
 pub returns-then-is_some : goal.returns-then-is_some
 returns-then-is_some g c = λ all a.
     let m = c.args.machine.now in
     let w = header_work (context_for g.D.Device.table m.scope.now) (view_guard (arena c.args.out.now.exprs) c.args.guard) m.registers.now in
-    header_refused all w.gives w.places c.args.out.now (sym c.is_some.ensures ∙ c.if-is_some.true) a
+    walks_refusing all [] [] [] w.gives [] w.places c.args.out.now c.args.out.now (sym c.is_some.ensures ∙ c.if-is_some.true) (walks_none all c.args.out.now a)
 
 pub give_no_matches-made-requires : goal.give_no_matches-made-requires
 give_no_matches-made-requires g c =
