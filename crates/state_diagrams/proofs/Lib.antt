@@ -10,4 +10,3 @@ pub mod StateBits
 pub mod StateLaws
 pub mod WalkedBranches
 pub mod WalkedDiagrams
-pub mod WalkedStates

@@ -34,8 +34,7 @@ seen_again ss before seen s h e = λ t. h t ∙ ap (λ b. is_among ss t || b) (t
 -- data to a signal that is no register and didn't come before
 first_other : (data_to register came : Bool) → (data_to && not (register || came)) ≡ (data_to && not register && not came)
 first_other true false came = refl
-first_other true true came = refl
-first_other false register came = refl
+first_other _ _ came = refl
 
 -- ---- what is pushed, over an arena
 

@@ -2,10 +2,9 @@
 use Rattle.std.proofs.Common.{◌≡◌, ℕ, ◌+◌, None, List, [], drop, length, map, take, refl, sym, ap, ◌∙◌, subst, arith}
 use Rattle.state_diagrams.proofs.Common.{drop_all, take-length, ExprId, arena, State, StateTree, view_state, context_for, Guard, front_more, AreBits, walks_none, kept_bit, WalksBranches, WalksStates, Arm, Stmt, kept_inside, view_list, WalksStatements, view_arms, signals_of, state_bit, state_bits}
 use Rattle.state_diagrams.proofs.AnyGuards.{walked_clear}
-use Rattle.state_diagrams.proofs.StateLaws.{listed_as}
+use Rattle.state_diagrams.proofs.StateLaws.{listed_as, states_walk, within_plain, within_walk}
 use Rattle.state_diagrams.proofs.StateBits.{bits_kept, states_more}
 use Rattle.state_diagrams.proofs.WalkedBranches.{rest_at}
-use Rattle.state_diagrams.proofs.WalkedStates.{states_walk, within_plain, within_walk}
 use Rattle.state_diagrams.proofs.states.walk_states.Goals as goal
 
 pub loop-state-init : goal.loop-state-init
