@@ -6,14 +6,12 @@ use Rattle.truth_tables.specs.declared.mark.Mark as code
 -- ---- what is said of marks, by what they are seen as
 
 pub chars_seen : (es : List Entry) (char : Bool → Mark → Option ℕ) (ss : List (Option ℕ)) (ms : List code.Mark) → chars_read es char ss ms ≡ chars_for es char ss (map view_mark ms)
-chars_seen es char [] ms = refl
-chars_seen es char (s ∷ ss) [] = refl
 chars_seen es char (s ∷ ss) (m ∷ ms) = rw (chars_seen es char ss ms) refl
+chars_seen es char _ _ = refl
 
 pub pulses_seen : (ss : List (Option ℕ)) (ms : List code.Mark) → pulse_read ss ms ≡ tests_pulse ss (map view_mark ms)
-pulses_seen [] ms = refl
-pulses_seen (s ∷ ss) [] = refl
 pulses_seen (s ∷ ss) (m ∷ ms) = rw (pulses_seen ss ms) refl
+pulses_seen _ _ = refl
 
 -- ---- the character of a pin
 
@@ -47,13 +45,11 @@ given_one pin char (APin other negated) m = given_pin other pin (char negated m)
 given_one pin char _ m = refl
 
 given_found : (d : Context) (pin : ℕ) (char : Bool → Mark → Option ℕ) (ss : List (Option ℕ)) (ms : List Mark) → char_given d pin char ss ms ≡ found_at (chars_for d.names char ss ms) pin
-given_found d pin char [] ms = refl
-given_found d pin char (None ∷ ss) [] = refl
-given_found d pin char (Some s ∷ ss) [] = refl
 given_found d pin char (None ∷ ss) (m ∷ ms) = given_found d pin char ss ms
 given_found d pin char (Some s ∷ ss) (m ∷ ms) =
     ap₂ first_char (given_one pin char (name_at d s).kind m) (given_found d pin char ss ms)
     ∙ sym (found_more (position_gives d.names char (Some s) m) (chars_for d.names char ss ms) pin)
+given_found d pin char _ _ = refl
 
 pub all_found : (d : Context) (pin : ℕ) (ss : List (Option ℕ)) (given : List Mark) (ts : List (Option ℕ)) (tested : List Mark) → first_char (char_given d pin input_char ss given) (char_given d pin output_char ts tested) ≡ found_at (all_given d.names ss given ts tested) pin
 all_found d pin ss given ts tested =

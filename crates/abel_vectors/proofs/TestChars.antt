@@ -17,15 +17,13 @@ by_level false low high l h = l
 
 input_tests : (negated : Bool) (m : Mark) → IsTestIf (input_char negated m)
 input_tests negated (Level on) = by_level (complement_if negated on) 48 49 refl refl
-input_tests negated Unknown = tt
 input_tests negated Pulsed = by_level negated 67 75 refl refl
-input_tests negated Released = tt
+input_tests negated _ = tt
 
 output_tests : (negated : Bool) (m : Mark) → IsTestIf (output_char negated m)
 output_tests negated (Level on) = by_level (complement_if negated on) 76 72 refl refl
-output_tests negated Unknown = tt
-output_tests negated Pulsed = tt
 output_tests negated Released = refl
+output_tests negated _ = tt
 
 if_tests : (b : Bool) (o : Option ℕ) → IsTestIf o → IsTestIf (if b then o else None)
 if_tests true o h = h
@@ -33,21 +31,17 @@ if_tests false o h = tt
 
 given_tests : (pin : ℕ) (char : Bool → Mark → Option ℕ) (k : Kind) (m : Mark) → ((b : Bool) (n : Mark) → IsTestIf (char b n)) → IsTestIf (given_to pin char k m)
 given_tests pin char (APin other negated) m h = if_tests (other == pin) (char negated m) (h negated m)
-given_tests pin char (ANode n) m h = tt
-given_tests pin char (AConstant v) m h = tt
-given_tests pin char ADeviceName m h = tt
+given_tests pin char _ m h = tt
 
 first_tests : (a b : Option ℕ) → IsTestIf a → IsTestIf b → IsTestIf (first_char a b)
 first_tests None b h k = k
 first_tests (Some c) b h k = h
 
 side_tests : (d : Context) (pin : ℕ) (char : Bool → Mark → Option ℕ) (ss : List (Option ℕ)) (ms : List Mark) → ((b : Bool) (n : Mark) → IsTestIf (char b n)) → IsTestIf (char_given d pin char ss ms)
-side_tests d pin char [] ms h = tt
-side_tests d pin char (None ∷ ss) [] h = tt
-side_tests d pin char (Some s ∷ ss) [] h = tt
 side_tests d pin char (None ∷ ss) (m ∷ ms) h = side_tests d pin char ss ms h
 side_tests d pin char (Some s ∷ ss) (m ∷ ms) h =
     first_tests (given_to pin char (name_at d s).kind m) (char_given d pin char ss ms) (given_tests pin char (name_at d s).kind m h) (side_tests d pin char ss ms h)
+side_tests d pin char _ _ h = tt
 
 plain_by : (b : Bool) → is_test_char (if b then 78 else 88) ≡ true
 plain_by true = refl

@@ -88,10 +88,8 @@ fn is_contradicted(here: (u8, u8), behind: &[(u8, u8)]) -> bool
 pub(crate) fn disagree(list: &[(u8, u8)]) -> bool
     ensures { result ≡ disagree list.now }
 {
-    for index in 0..list.len() {
-        if is_contradicted(list[index], &list[index + 1..]) {
-            return true;
-        }
+    match list.split_first() {
+        None => false,
+        Some((here, behind)) => is_contradicted(*here, behind) || disagree(behind),
     }
-    false
 }

@@ -52,13 +52,10 @@ pub fn all_sections<D: Device>(
     let given = contributions::<D>(alloc, scope, source);
     let tested = all_vectors::<D>(alloc, scope.scope(), source);
     match given {
-        Ok(contributions) => match tested {
-            Ok(vectors) => Ok(SourceSections {
-                contributions,
-                vectors,
-            }),
-            Err(fault) => Err(fault),
-        },
+        Ok(contributions) => Ok(SourceSections {
+            contributions,
+            vectors: tested?,
+        }),
         Err(section) => Err(first_with(section, &tested)),
     }
 }

@@ -10,6 +10,6 @@ mod pins;
 mod rows;
 mod sections;
 
-pub use headers::{Side, read_side};
+pub use headers::read_side;
 pub use joining::{SourceSections, all_sections};
 pub use sections::vectors;

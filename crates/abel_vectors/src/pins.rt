@@ -18,9 +18,7 @@ fn pin_of(meaning: &Meaning) -> Option<(u8, bool)>
 {
     match meaning {
         Meaning::Pin { pin, negated } => Some((*pin, *negated)),
-        Meaning::Node(_) => None,
-        Meaning::Constant(_) => None,
-        Meaning::DeviceName => None,
+        _ => None,
     }
 }
 

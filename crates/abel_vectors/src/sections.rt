@@ -1,11 +1,11 @@
 //! Sections of vectors: one, and all of a source.
 
 ghost use Rattle.std.specs.Prelude.{◌≡◌, ℕ, ◌+◌, ◌-◌, ◌≤◌, All, IfOk, OnOk, length};
-ghost use Rattle.abel_vectors.specs.Prelude.{IsTestVector, entries_of, view_module, view_section, Place, Tree, Context, design_for, targets_of, term_of, section_vectors, context_for};
-ghost use Rattle.abel_vectors.specs.{Finds, FindsSection, IsReadAs, IsSide, view_vectors, AnswersVectors, Answers, side_refused, vectors_refused};
+ghost use Rattle.abel_vectors.specs.Prelude.{IsTestVector, entries_of, view_module, view_section, design_for, section_vectors, context_for};
+ghost use Rattle.abel_vectors.specs.{Finds, FindsSection, view_vectors, AnswersVectors, Answers, vectors_refused};
 
 use crate::finding::{Found, both};
-use crate::headers::{Side, read_side};
+use crate::headers::read_side;
 use crate::rows::{Header, read_rows};
 use abel_tree::{Module, Section, Vectors};
 use pld_base::{OutOfMemory, Vector};
@@ -15,17 +15,6 @@ use std::alloc::Global;
 
 /// The most vectors of a source.
 const MOST: usize = 9_999;
-
-/// The pins of a side of a header, or its refusal.
-fn pins_in(side: Side) -> Result<Vec<Option<u32>>, SectionFault>
-    ensures { (d : Context) (p : Place) (t : Tree) → IsSide d p t side
-        → IsReadAs (side_refused d p t) (λ ss. ss.items ≡ targets_of (term_of d.known t)) result }
-{
-    match side {
-        Side::Pins(pins) => Ok(pins),
-        Side::Refused(fault) => Err(fault),
-    }
-}
 
 /// A section of vectors that has room for so many: both sides of its header, and then its rows.
 fn read_section<D: Device>(
@@ -39,7 +28,7 @@ fn read_section<D: Device>(
 {
     let inputs = read_side(alloc, scope, section.place, &section.inputs)?;
     let outputs = read_side(alloc, scope, section.place, &section.outputs)?;
-    match both(pins_in(inputs), pins_in(outputs)) {
+    match both(inputs, outputs) {
         Ok((driven, tested)) => {
             let header = Header {
                 section,

@@ -3,7 +3,7 @@
 use crate::places::{put_blank, put_fault};
 use crate::sources::{ROW, source_of};
 use abel_tree::{Expr, Module, Section, Vectors};
-use abel_vectors::{Side, read_side, vectors};
+use abel_vectors::{read_side, vectors};
 use pld_base::Place;
 use pld_device::Sample;
 use set_expr::{Scope, SectionFault};
@@ -66,8 +66,8 @@ fn put_pins(pins: &[Option<u32>], found: &mut Found) {
 fn put_side(alloc: Global, module: &Module, scope: &Scope<'_>, found: &mut Found) -> Option<()> {
     let header = &vectors_of(module)?.inputs;
     match read_side(alloc, scope, HERE, header) {
-        Ok(Side::Pins(pins)) => put_pins(pins.as_slice(), found),
-        Ok(Side::Refused(fault)) => put_fault(Some(fault), found),
+        Ok(Ok(pins)) => put_pins(pins.as_slice(), found),
+        Ok(Err(fault)) => put_fault(Some(fault), found),
         Err(_) => return None,
     }
     Some(())

@@ -9,8 +9,8 @@ read_rows-requires g c =
     let d = context_for g.D.Device.table c.args.scope.now in
     let over : IsOver c.args.scope.now d = record { names = refl; known = refl } in
     let v = c.args.section.now in
-    let sides = both_read (side_refused d v.place (view v.inputs)) (side_refused d v.place (view v.outputs)) _ _ c.pins_in.result c.pins_in-2.result (Ok (c.in-Ok.driven, c.in-Ok.tested))
-    (c.pins_in.ensures d v.place (view v.inputs) (c.in_ok-inputs.ensures d over)) (c.pins_in-2.ensures d v.place (view v.outputs) (c.in_ok-outputs.ensures d over))
+    let sides = both_read (side_refused d v.place (view v.inputs)) (side_refused d v.place (view v.outputs)) _ _ c.in_ok-inputs.inputs c.in_ok-outputs.outputs (Ok (c.in-Ok.driven, c.in-Ok.tested))
+    (c.in_ok-inputs.ensures d over) (c.in_ok-outputs.ensures d over)
     c.in-Ok.ensures.read tt in
     record { driven = c.as_slice.ensures.value ∙ sides.1.0; tested = c.as_slice-in-Ok.ensures.value ∙ sides.1.1 }
 
@@ -19,8 +19,8 @@ returns-in-Ok g c =
     let d = context_for g.D.Device.table c.args.scope.now in
     let over : IsOver c.args.scope.now d = record { names = refl; known = refl } in
     let v = c.args.section.now in
-    let sides = both_read (side_refused d v.place (view v.inputs)) (side_refused d v.place (view v.outputs)) _ _ c.pins_in.result c.pins_in-2.result (Ok (c.in-Ok.driven, c.in-Ok.tested))
-    (c.pins_in.ensures d v.place (view v.inputs) (c.in_ok-inputs.ensures d over)) (c.pins_in-2.ensures d v.place (view v.outputs) (c.in_ok-outputs.ensures d over))
+    let sides = both_read (side_refused d v.place (view v.inputs)) (side_refused d v.place (view v.outputs)) _ _ c.in_ok-inputs.inputs c.in_ok-outputs.outputs (Ok (c.in-Ok.driven, c.in-Ok.tested))
+    (c.in_ok-inputs.ensures d over) (c.in_ok-outputs.ensures d over)
     c.in-Ok.ensures.read tt in
     on_ok_weaker c.read_rows.result
     (λ finds n room.
@@ -36,6 +36,6 @@ returns-in-Err g c n room =
     let v = c.args.section.now in
     c.refuse.ensures d.device _ (section_vectors d (view_vectors v))
     (first_alone (header_refused d v.place (view v.inputs) (view v.outputs)) (rows_refused d n (header_term d v.inputs) (header_term d v.outputs) (map view_vector_row v.rows)) c.in-Err.fault
-    (both_read (side_refused d v.place (view v.inputs)) (side_refused d v.place (view v.outputs)) _ _ c.pins_in.result c.pins_in-2.result (Err c.in-Err.fault)
-    (c.pins_in.ensures d v.place (view v.inputs) (c.in_ok-inputs.ensures d over)) (c.pins_in-2.ensures d v.place (view v.outputs) (c.in_ok-outputs.ensures d over))
+    (both_read (side_refused d v.place (view v.inputs)) (side_refused d v.place (view v.outputs)) _ _ c.in_ok-inputs.inputs c.in_ok-outputs.outputs (Err c.in-Err.fault)
+    (c.in_ok-inputs.ensures d over) (c.in_ok-outputs.ensures d over)
     tt c.in-Err.ensures.refused))
