@@ -1,6 +1,6 @@
 -- No two names have one number; where each pin has a number, names are sound, and no two are one pin.
 use Rattle.std.proofs.Common.{◌≡◌, ℕ, ◌<◌, ◌==◌, true, false, not, List, length, get_or, sym, ap, ◌∙◌, inl, inr, eqb-true, take, arith, []}
-use Rattle.declared_names.proofs.Common.{true≢false, cases_Bool, list_any_at, get_or_from_slice_get, slice_get_within, Names, Kind, APin, ANode, AConstant, ADeviceName, Entry, entries_of, SoundNames, are_numbered, is_unnumbered, no_name, AreDeclaredFor, NumbersAreApart, PinsAreApart, cases_lt, eqb-true, get_or-take, get_or_past, length-take, slice_get-get_or, is_on_pin, is_taken, IsNewPin, AreSound, sound_at}
+use Rattle.declared_names.proofs.Common.{true≢false, cases_Bool, list_any_at, get_or_from_slice_get, slice_get_within, Names, Kind, APin, Entry, entries_of, SoundNames, are_numbered, is_unnumbered, no_name, AreDeclaredFor, NumbersAreApart, PinsAreApart, cases_lt, eqb-true, get_or-take, get_or_past, length-take, slice_get-get_or, is_on_pin, is_taken, IsNewPin, AreSound, sound_at}
 use Rattle.abel_meaning.specs.Controls.{is_pin}
 use Rattle.pld_base.specs.declared.device_name.DeviceName.{DeviceName}
 
@@ -8,17 +8,13 @@ use Rattle.pld_base.specs.declared.device_name.DeviceName.{DeviceName}
 
 same_test : (n : ℕ) (k : Kind) → is_pin n k ≡ true → is_on_pin n k ≡ true
 same_test n (APin pin negated) is = is
-same_test n (ANode number) is = absurd cc
-same_test n (AConstant value) is = absurd cc
-same_test n ADeviceName is = absurd cc
+same_test n _ is = absurd cc
 
 not_taken : (n : ℕ) (earlier : List Entry) (k : Kind) → (n == 0) ≡ false → is_pin n k ≡ true → IsNewPin earlier k → is_taken earlier n ≡ false
 not_taken n earlier (APin pin negated) numbered is new =
     let same = eqb-true pin n is in
     ap (is_taken earlier) (sym same) ∙ new (ap (λ m. m == 0) same ∙ numbered)
-not_taken n earlier (ANode number) numbered is new = absurd cc
-not_taken n earlier (AConstant value) numbered is new = absurd cc
-not_taken n earlier ADeviceName numbered is new = absurd cc
+not_taken n earlier _ numbered is new = absurd cc
 
 -- what is a pin is a name of the list
 pub within : (n : ℕ) (es : List Entry) (k : ℕ) → is_pin n (get_or es k no_name).kind ≡ true → k < length es
@@ -69,9 +65,7 @@ numbered_sound name pins n are numbered = record {
 -- a pin of the number 0 has none
 zero_is_none : (pin : ℕ) (k : Kind) → (pin == 0) ≡ true → is_pin pin k ≡ true → is_unnumbered k ≡ true
 zero_is_none pin (APin p negated) zero is = ap (λ m. m == 0) (eqb-true p pin is) ∙ zero
-zero_is_none pin (ANode number) zero is = absurd cc
-zero_is_none pin (AConstant value) zero is = absurd cc
-zero_is_none pin ADeviceName zero is = absurd cc
+zero_is_none pin _ zero is = absurd cc
 
 pub numbered_apart : (es : List Entry) → NumbersAreApart es → are_numbered es ≡ true → PinsAreApart es
 numbered_apart es apart numbered pin i j first second =

@@ -1,6 +1,6 @@
 -- What sections assign is what their parts give, and marks find it, and whether it is on the clock.
 use Rattle.std.proofs.Common.{◌≡◌, ℕ, Bool, true, ◌||◌, if◌then◌else◌, Option, Some, None, List, [], ◌∷◌, ◌++◌, refl, sym, ap, ◌∙◌, ◌==◌, false, ◌&&◌, ap₂, slice_get, bytes_eq}
-use Rattle.declared_names.proofs.Common.{read_names, Assigned, Named, assigned_by, assigned_each, is_clocked_sign, sections_assign, signals_of, signals_of_name, signals_of_names, target_extension, without_extension, Extension, is_data, is_raw, range_names, Tree, SectionTree, Targets, part_gives, sections_give, use_reads, uses_read, list_any, and-false, and-true, is_assigned, is_clocked_target, meant, named_after, named_of, Kind, APin, ANode, AConstant, ADeviceName, Entry, is_signal, Mark, is_marked, value_of, all_marks, value_uses}
+use Rattle.declared_names.proofs.Common.{read_names, Assigned, Named, assigned_by, assigned_each, is_clocked_sign, sections_assign, signals_of, signals_of_name, signals_of_names, target_extension, without_extension, Extension, is_data, is_raw, range_names, Tree, SectionTree, Targets, part_gives, sections_give, use_reads, uses_read, list_any, and-false, and-true, is_assigned, is_clocked_target, meant, named_after, named_of, Kind, AConstant, ADeviceName, Entry, is_signal, Mark, is_marked, value_of, all_marks, value_uses}
 use Rattle.name_uses.specs.Targets.{targets_in}
 use Rattle.abel_tree.specs.declared.words.Extension.TheVariants as ext
 use Rattle.name_uses.proofs.AssigningParts.{sections_assigned as parts_assign}
@@ -30,13 +30,7 @@ module _ (ks : List Named) where
   side_assigns : (e : Option Extension) (c : Bool) (t : Tree) → uses_read named_by (is_raw e || c) (if is_data e then targets_in t else []) ≡ assigned_by e c (signals_of ks t)
   side_assigns None c t = targets_assign c t
   side_assigns (Some ext.D) c t = targets_assign true t
-  side_assigns (Some ext.Clk) c t = refl
-  side_assigns (Some ext.Oe) c t = refl
-  side_assigns (Some ext.Ar) c t = refl
-  side_assigns (Some ext.Sp) c t = refl
-  side_assigns (Some ext.Q) c t = refl
-  side_assigns (Some ext.Fb) c t = refl
-  side_assigns (Some ext.Pin) c t = refl
+  side_assigns _ c t = refl
 
   pub sections_assigned : (xs : List SectionTree) → sections_give Targets named_by xs ≡ sections_assign ks xs
   sections_assigned =
@@ -74,10 +68,9 @@ module _ (es : List Entry) (xs : List SectionTree) (s : ℕ) (x : Entry) (g : sl
   module _ (any : Bool) (p : Assigned → Bool) (one : (k : ℕ) (c : Bool) → p (record { signal = k; clocked = c }) ≡ ((k == s) && (any || c))) where
     of_kind : (ks : List Named) (k : ℕ) (c : Bool) (kd : Kind)
         → list_any p (assigned_each c (meant ks k kd)) ≡ ((is_signal kd && ((k == s) && (any || c))) || list_any p (uses_read (named_by ks) c (value_uses Targets (value_of kd))))
-    of_kind ks k c (APin pin negated) = ap (λ b. b || false) (one k c)
-    of_kind ks k c (ANode node) = ap (λ b. b || false) (one k c)
     of_kind ks k c (AConstant value) = ap (list_any p) (sym (targets_assign ks c value))
     of_kind ks k c ADeviceName = refl
+    of_kind ks k c _ = ap (λ b. b || false) (one k c)
 
     found_by : weighs (λ c. is_signal x.kind && (any || c)) (at (all_marks Targets es xs) s) ≡ list_any p (sections_assign (named_of es) xs)
     found_by = marked_in_the_end named Targets es s x g any p (λ ks k e c. of_kind ks k c e.kind) xs ∙ ap (list_any p) (sections_assigned (named_of es) xs)

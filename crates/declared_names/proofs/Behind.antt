@@ -1,5 +1,5 @@
 -- Where nothing is refused, a register follows Q, or may, only where the device complements behind it.
-use Rattle.std.proofs.Common.{◌≡◌, ◌≢◌, ℕ, zero, suc, ◌+◌, ◌==◌, Bool, true, false, not, ◌&&◌, ◌||◌, if◌then◌else◌, Option, Some, None, List, [], ◌∷◌, ◌++◌, get_or, option_map, refl, sym, ap, ap₂, subst, ◌∙◌, arith, add-zero, suc-add, add-suc, zero-add, slice_get, unwrap_or}
+use Rattle.std.proofs.Common.{◌≡◌, ◌≢◌, ℕ, ◌==◌, Bool, true, false, not, ◌&&◌, ◌||◌, if◌then◌else◌, Option, Some, None, List, [], ◌∷◌, ◌++◌, get_or, option_map, refl, sym, ap, ap₂, subst, ◌∙◌, arith, zero-add, slice_get, unwrap_or}
 use Rattle.declared_names.proofs.Common.{All, list_all, and_parts, true≢false, nat_tests, get_or_from_slice_get, slice_get_within, unwrap_or-slice_get, Flip, Table, Assigned, named_of, sections_assign, is_assigned, is_clocked_target, Entry, find, is_signal, is_stored, follows_q, SectionTree, ModuleTree, GivenName, declared_names, no_name, Holds, holds_of, is_held, is_buffer_by_default, is_registered, words_with_kind, with_kind, with_kinds, names_of, none_left, none_right, Targets, is_marked, all_marks, all_declarations, always_inverts, all_buffered, is_register_at, buffers_refused, module_buffers_refused, names_once, read_refusals, name_refusals, BuffersAreAllowed, module_accepted, AreSound}
 use Rattle.std.proofs.lemmas.List.Elements.{All-get_or}
 use Rattle.pld_device.specs.declared.flip.Flip.TheVariants.{Always, AfterRegister, BeforeRegister}
@@ -8,7 +8,7 @@ use Rattle.declared_names.proofs.AssignedMarks.{is_found}
 use Rattle.declared_names.proofs.Passing.{at}
 use Rattle.decls.specs.declared.fault.NameFault.TheVariants as fault
 use Rattle.decls.proofs.Among.{of_among}
-use Rattle.declared_names.proofs.Buffers.{registered_by, declared_at}
+use Rattle.declared_names.proofs.Buffers.{kinds_at}
 use Rattle.decls.proofs.Placed.{found_at}
 use Rattle.decls.proofs.SaidBuffers.{IsTold}
 
@@ -23,12 +23,6 @@ none_registered found es (x ∷ xs) h = by (is_register_at found es (find es x.n
     by : (b : Bool) → (if b then fault.BadAttribute x.place ∷ [] else []) ++ buffers_refused found es xs ≡ [] → (buffers_refused found es xs ≡ [] → rest ≡ true) → (not b && rest) ≡ true
     by true g more = absurd cc
     by false g more = more g
-
-kinds_at : (flip : Flip) (held : Holds) (found : List Assigned) (k : ℕ) (es : List Entry) (s : ℕ) → slice_get (with_kinds flip held found k es) s ≡ option_map (with_kind flip held found (k + s)) (slice_get es s)
-kinds_at flip held found k [] zero = refl
-kinds_at flip held found k [] (suc s) = refl
-kinds_at flip held found k (e ∷ es) zero = ap (λ n. Some (with_kind flip held found n e)) (sym (add-zero k))
-kinds_at flip held found k (e ∷ es) (suc s) = kinds_at flip held found (suc k) es s ∙ ap (λ n. option_map (with_kind flip held found n) (slice_get es s)) (suc-add k s ∙ sym (add-suc k s))
 
 -- a settled name, or what stands past the end
 pub name_at_or : (flip : Flip) (held : Holds) (found : List Assigned) (es : List Entry) (s : ℕ) (o : Option Entry) → slice_get es s ≡ o
@@ -68,10 +62,8 @@ module _ (t : Table) (held : Holds) (found : List Assigned) (es : List Entry) (x
   no_register : always_inverts t ≡ true → (s : ℕ) (e : Entry) → slice_get es s ≡ Some e → is_signal e.kind ≡ true → e.words.buffer ≡ true → is_registered e.words (is_clocked_target found s) ≡ true → ⊥
   no_register inverted s e is signal said registered =
       let quiet = of_among (λ name. not (is_register_at found es (find es name))) xs e.name (none_registered found es xs (none inverted)) (told_at s e is signal said) in
-      let here : registered_by found s (Some e) ≡ true = ap₂ (λ a b. a && b) signal registered in
-      let at : is_register_at found es (find es e.name) ≡ true =
-      ap (is_register_at found es) (found_at t.pins es sound s e is)
-      ∙ (sym (declared_at found es s) ∙ (ap (registered_by found s) is ∙ here)) in
+      let here : (is_signal e.kind && is_registered e.words (is_clocked_target found s)) ≡ true = ap₂ (λ a b. a && b) signal registered in
+      let at : is_register_at found es (find es e.name) ≡ true = ap (is_register_at found es) (found_at t.pins es sound s e is) ∙ rw is here in
       true≢false (sym quiet ∙ ap not at)
 
   not_behind : (flip : Flip) → always_inverts t ≡ true → is_buffer_by_default flip ≡ false → (s : ℕ) (e : Entry) → slice_get es s ≡ Some e → is_signal e.kind ≡ true → is_stored (with_kind flip held found s e) ≡ true → follows_q (with_kind flip held found s e) ≡ true → ⊥

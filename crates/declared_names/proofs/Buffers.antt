@@ -1,6 +1,6 @@
 -- The registers of the names as the table keeps them are those of the names as they are declared.
-use Rattle.std.proofs.Common.{◌≡◌, ℕ, zero, suc, ◌+◌, Bool, false, ◌&&◌, if◌then◌else◌, Option, Some, None, List, [], ◌∷◌, ◌++◌, ◌<◌, map, take, length, get_or, refl, sym, ap, ap₂, ◌∙◌, append_assoc, add-zero, suc-add, add-suc, zero-add, slice_get}
-use Rattle.declared_names.proofs.Common.{append-nil, flat_map-append, get_or_default, take_more, Flip, Table, Assigned, Named, meant, named_after, named_of, sections_assign, is_clocked_target, Kind, APin, ANode, AConstant, ADeviceName, Words, Entry, find, is_signal, ModuleTree, GivenName, Holds, holds_of, is_registered, is_buffer, settled_words, stays_free, with_kinds, with_assigned, NameFault, Buffered, all_declarations, always_inverts, all_buffered, is_register_at, buffers_refused, names_once, module_buffers_refused, buffered_names, number_if, numbered, kept, kept_kind, is_register, register_refused, registers_refused, refused_for}
+use Rattle.std.proofs.Common.{◌≡◌, ℕ, zero, suc, ◌+◌, Bool, false, ◌&&◌, if◌then◌else◌, Option, Some, None, List, [], ◌∷◌, ◌++◌, ◌<◌, map, take, length, get_or, refl, sym, ap, ap₂, ◌∙◌, append_assoc, add-zero, suc-add, add-suc, zero-add, slice_get, option_map}
+use Rattle.declared_names.proofs.Common.{append-nil, flat_map-append, get_or_default, take_more, Flip, Table, Assigned, Named, meant, named_after, named_of, sections_assign, is_clocked_target, Kind, APin, Words, Entry, find, is_signal, ModuleTree, GivenName, Holds, holds_of, is_registered, is_buffer, settled_words, stays_free, with_kind, slice_get-map, with_kinds, with_assigned, NameFault, Buffered, all_declarations, always_inverts, all_buffered, is_register_at, buffers_refused, names_once, module_buffers_refused, buffered_names, number_if, numbered, kept, kept_kind, is_register, register_refused, registers_refused, refused_for}
 use Rattle.pld_base.specs.declared.place.Place.{Place}
 use Rattle.decls.specs.declared.fault.NameFault.TheVariants as fault
 
@@ -8,9 +8,7 @@ use Rattle.decls.specs.declared.fault.NameFault.TheVariants as fault
 
 meant_kept : (t : Table) (ks : List Named) (s : ℕ) (k : Kind) → meant ks s (kept_kind t k) ≡ meant ks s k
 meant_kept t ks s (APin pin negated) = refl
-meant_kept t ks s (ANode number) = refl
-meant_kept t ks s (AConstant value) = refl
-meant_kept t ks s ADeviceName = refl
+meant_kept t ks s _ = refl
 
 after_kept : (t : Table) (ks : List Named) (s : ℕ) (es : List Entry) → named_after ks s (map (kept t) es) ≡ named_after ks s es
 after_kept t ks s [] = refl
@@ -26,19 +24,21 @@ registered_by found s (Some e) = is_signal e.kind && is_registered e.words (is_c
 
 registered_kept : (t : Table) (k : Kind) (w : Words) (r b f : Bool) → (is_signal (kept_kind t k) && (if is_signal (kept_kind t k) then settled_words w r b f else w).registered) ≡ (is_signal k && r)
 registered_kept t (APin pin negated) w r b f = refl
-registered_kept t (ANode number) w r b f = refl
-registered_kept t (AConstant value) w r b f = refl
-registered_kept t ADeviceName w r b f = refl
+registered_kept t _ w r b f = refl
 
-settled_at : (t : Table) (flip : Flip) (held : Holds) (found : List Assigned) (s : ℕ) (es : List Entry) (n : ℕ) → is_register (slice_get (with_kinds flip held found s (map (kept t) es)) n) ≡ registered_by found (s + n) (slice_get es n)
-settled_at t flip held found s [] zero = refl
-settled_at t flip held found s [] (suc n) = refl
-settled_at t flip held found s (e ∷ es) zero =
-    let registered = is_registered e.words (is_clocked_target found s) in
-    registered_kept t e.kind e.words registered (is_buffer flip e.words) (stays_free flip held s e.words registered)
-    ∙ ap (λ k. is_signal e.kind && is_registered e.words (is_clocked_target found k)) (sym (add-zero s))
-settled_at t flip held found s (e ∷ es) (suc n) =
-    settled_at t flip held found (suc s) es n ∙ ap (λ k. registered_by found k (slice_get es n)) (suc-add s n ∙ sym (add-suc s n))
+pub kinds_at : (flip : Flip) (held : Holds) (found : List Assigned) (k : ℕ) (es : List Entry) (s : ℕ) → slice_get (with_kinds flip held found k es) s ≡ option_map (with_kind flip held found (k + s)) (slice_get es s)
+kinds_at flip held found k [] _ = refl
+kinds_at flip held found k (e ∷ es) zero = ap (λ n. Some (with_kind flip held found n e)) (sym (add-zero k))
+kinds_at flip held found k (e ∷ es) (suc s) = kinds_at flip held found (suc k) es s ∙ ap (λ n. option_map (with_kind flip held found n) (slice_get es s)) (suc-add k s ∙ sym (add-suc k s))
+
+settled_at : (t : Table) (flip : Flip) (held : Holds) (found : List Assigned) (es : List Entry) (n : ℕ) → is_register (slice_get (with_kinds flip held found 0 (map (kept t) es)) n) ≡ is_register_at found es (Some n)
+settled_at t flip held found es n =
+    ap is_register (kinds_at flip held found 0 (map (kept t) es) n ∙ ap₂ (λ k (o : Option Entry). option_map (with_kind flip held found k) o) (zero-add n) (slice_get-map (kept t) es n))
+    ∙ by (slice_get es n) refl
+  where
+    by : (o : Option Entry) → slice_get es n ≡ o → is_register (option_map (with_kind flip held found n) (option_map (kept t) o)) ≡ is_register_at found es (Some n)
+    by None e = rw e refl
+    by (Some x) e = let r = is_registered x.words (is_clocked_target found n) in rw e (registered_kept t x.kind x.words r (is_buffer flip x.words) (stays_free flip held n x.words r))
 
 pub declared_at : (found : List Assigned) (es : List Entry) (n : ℕ) → registered_by found n (slice_get es n) ≡ is_register_at found es (Some n)
 declared_at found es n = by (slice_get es n) refl
@@ -70,7 +70,7 @@ module _ (t : Table) (flip : Flip) (held : Holds) (found : List Assigned) (es : 
   one_same p None = refl
   one_same p (Some n) =
       append-nil (if is_register (slice_get settled n) then fault.BadAttribute p ∷ [] else [])
-      ∙ ap (λ b. if b then fault.BadAttribute p ∷ [] else []) (settled_at t flip held found 0 es n ∙ (ap (λ k. registered_by found k (slice_get es n)) (zero-add n) ∙ declared_at found es n))
+      ∙ ap (λ b. if b then fault.BadAttribute p ∷ [] else []) (settled_at t flip held found es n)
 
   buffers_same : (xs : List GivenName) → registers_refused settled (numbered es xs) ≡ buffers_refused found es xs
   buffers_same [] = refl

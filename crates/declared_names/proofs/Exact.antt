@@ -1,6 +1,6 @@
 -- What is answered where nothing is refused.
-use Rattle.std.proofs.Common.{◌≡◌, Bool, true, false, ◌&&◌, if◌then◌else◌, Option, None, List, [], ◌∷◌, ◌++◌, map, refl, sym, ap, ap₂, subst, ◌∙◌}
-use Rattle.declared_names.proofs.Common.{list_any, append-nil, or_parts, Flip, Table, Names, named_of, sections_assign, Entry, entries_of, first_refusal, IsNamed, are_named, module_uses, Declaration, ADevice, SomePins, SomeNodes, SomeAttributes, SomeConstants, SomeOptions, DontCareFor, ModuleTree, none_refused, GivenName, all_said, declared_names, holds_of, names_of, with_assigned, NameFault, Buffered, all_declarations, name_order, always_inverts, all_buffered, buffered, buffers_refused, first_name_refusal, name_refusals, module_buffers_refused, names_once, read_refusals, names_behind, buffered_names, kept, none_left, AreDeclaredFor, NumbersAreApart, BuffersAreAllowed, refused_for, Accepted, module_accepted, AreSound, sound_alike, sound_at}
+use Rattle.std.proofs.Common.{◌≡◌, Bool, true, false, ◌&&◌, if◌then◌else◌, Option, List, [], ◌∷◌, ◌++◌, map, refl, sym, ap, ap₂, subst, ◌∙◌}
+use Rattle.declared_names.proofs.Common.{list_any, append-nil, or_parts, Flip, Table, Names, named_of, sections_assign, Entry, entries_of, first_refusal, IsNamed, are_named, module_uses, Declaration, SomePins, SomeNodes, SomeAttributes, ModuleTree, GivenName, all_said, declared_names, holds_of, names_of, with_assigned, NameFault, Buffered, all_declarations, name_order, always_inverts, all_buffered, buffered, buffers_refused, first_name_refusal, name_refusals, module_buffers_refused, names_once, read_refusals, names_behind, buffered_names, kept, none_left, AreDeclaredFor, NumbersAreApart, BuffersAreAllowed, refused_for, Accepted, module_accepted, AreSound, sound_alike, sound_at}
 use Rattle.decls.specs.Buffers.{says_buffer, registers_wait}
 use Rattle.declared_names.proofs.Buffers.{refused_same}
 use Rattle.decls.proofs.NamesAlike.{alike_settled, extends_alike, named_more}
@@ -22,13 +22,10 @@ quiet_if true xs e = absurd cc
 quiet_if false xs e = refl
 
 quiet_declaration : (es : List Entry) (d : Declaration) → says_buffer d ≡ false → buffered es d ≡ []
-quiet_declaration es (ADevice name text) h = refl
 quiet_declaration es (SomePins names numbers attributes) h = quiet_if (all_said attributes).buffer _ h
 quiet_declaration es (SomeNodes names numbers attributes) h = quiet_if (all_said attributes).buffer _ h
 quiet_declaration es (SomeAttributes names attributes) h = quiet_if (all_said attributes).buffer _ h
-quiet_declaration es (SomeConstants names values) h = refl
-quiet_declaration es (SomeOptions words) h = refl
-quiet_declaration es (DontCareFor directive) h = refl
+quiet_declaration es _ h = refl
 
 -- where no string says `buffer`, there is no name that such a string is for
 quiet_declarations : (before ds : List Declaration) → list_any says_buffer ds ≡ false → all_buffered before ds ≡ []
@@ -51,9 +48,6 @@ pub final_fault : (t : Table) (m : ModuleTree) (f : Option NameFault) (wait : Bo
 final_fault t m f wait e same h =
     ap (λ fs. first_refusal name_order (read_refusals t m ++ fs)) (none_wait t m (sym same ∙ h))
     ∙ (ap (first_refusal name_order) (append-nil (read_refusals t m)) ∙ sym e)
-
-pub nothing_refused : (t : Table) (m : ModuleTree) → None ≡ first_name_refusal t m → name_refusals t m ≡ []
-nothing_refused t m h = none_refused name_order (name_refusals t m) h
 
 module _ (t : Table) (m : ModuleTree) (h : name_refusals t m ≡ []) where
   nothing_read : read_refusals t m ≡ []

@@ -1,27 +1,22 @@
 -- What sections hold is what their parts give, and marks find which registers are held.
 use Rattle.std.proofs.Common.{◌≡◌, ℕ, Bool, Option, Some, None, List, ◌++◌, refl, sym, ap, ap₂, ◌∙◌, true, false, ◌||◌, if◌then◌else◌, [], ◌∷◌, map, ◌==◌, ◌&&◌, slice_get}
-use Rattle.declared_names.proofs.Common.{append-nil, flat_map-append, asks_q, read_in, read_in_member, read_in_members, read_names, range_names, Tree, ANumber, ASpecial, AName, ASet, AParen, AUnary, ABinary, SetMember, OneMember, SpanMember, Members, NoMember, MoreMembers, Extension, use_reads, uses_read, innermost, UsedName, member_used, members_used, names_used, flat_map, list_any, list_any-append, Part, part_reads, part_shares, parts_read, sections_parts, target_extension, without_extension, is_raw, SectionTree, Reads, part_gives, sections_give, section_shares, shares_all, PartedSection, with_parts, and-false, and-true, Kind, APin, ANode, AConstant, ADeviceName, Entry, is_signal, held_after, held_by, held_meant, held_of, holds_of, value_of, all_marks, value_uses, PartTree}
-use Rattle.abel_tree.specs.declared.words.Extension.TheVariants as ext
+use Rattle.declared_names.proofs.Common.{append-nil, flat_map-append, asks_q, read_in, read_in_member, read_in_members, read_names, range_names, Tree, AName, ASet, AParen, AUnary, ABinary, SetMember, OneMember, SpanMember, Members, NoMember, MoreMembers, Extension, use_reads, uses_read, innermost, UsedName, member_used, members_used, names_used, flat_map, list_any, list_any-append, Part, part_reads, part_shares, parts_read, sections_parts, target_extension, without_extension, is_raw, SectionTree, Reads, part_gives, sections_give, section_shares, shares_all, PartedSection, with_parts, and-false, and-true, Kind, AConstant, ADeviceName, Entry, is_signal, held_after, held_by, held_meant, held_of, holds_of, value_of, all_marks, value_uses, PartTree}
 use Rattle.abel_tree.specs.declared.words.Extension.TheVariants.{Q}
 use Rattle.name_uses.proofs.HoldingParts.{sections_followed}
+use Rattle.name_uses.specs.Viewed.{view_part, view_section_parts}
+use Rattle.name_uses.specs.declared.part.Part.{Part as SourcePart}
+use Rattle.name_uses.specs.declared.source.SectionParts.{SectionParts}
 use Rattle.abel_meaning.specs.Held.{Held}
-use Rattle.declared_names.proofs.AmongNumbers.{among}
 use Rattle.declared_names.proofs.Looked.{Standing, marked_in_the_end}
 use Rattle.declared_names.proofs.Passing.{at, strong_alone}
+use Rattle.declared_names.proofs.AmongNumbers.{among}
 
 -- ---- the names of an expression
 
 -- an extension counts before that around it
 nearest : (as_q : Bool) (own outer : Option Extension) → asks_q (asks_q as_q outer) own ≡ asks_q as_q (innermost own outer)
 nearest as_q None outer = refl
-nearest as_q (Some ext.Q) outer = refl
-nearest as_q (Some ext.D) outer = refl
-nearest as_q (Some ext.Clk) outer = refl
-nearest as_q (Some ext.Oe) outer = refl
-nearest as_q (Some ext.Ar) outer = refl
-nearest as_q (Some ext.Sp) outer = refl
-nearest as_q (Some ext.Fb) outer = refl
-nearest as_q (Some ext.Pin) outer = refl
+nearest as_q _ outer = refl
 
 module _ {A : Type 0} (of : List ℕ → Bool → List A) (as_q : Bool) where
   both : (xs ys : List A) (us vs : List UsedName) → xs ≡ uses_read of as_q us → ys ≡ uses_read of as_q vs → xs ++ ys ≡ uses_read of as_q (us ++ vs)
@@ -29,14 +24,13 @@ module _ {A : Type 0} (of : List ℕ → Bool → List A) (as_q : Bool) where
 
   mutual
     pub read_used : (outer : Option Extension) (t : Tree) → read_in of (asks_q as_q outer) t ≡ uses_read of as_q (names_used outer t)
-    read_used outer (ANumber n) = refl
-    read_used outer (ASpecial letter place) = refl
     read_used outer (AName word e) = ap (of word.text) (nearest as_q e outer) ∙ sym (append-nil (of word.text (asks_q as_q (innermost e outer))))
     read_used outer (ASet place ms e) = ap (λ q. read_in_members of q ms) (nearest as_q e outer) ∙ members_read (innermost e outer) ms
     read_used outer (AParen place t) = read_used outer t
     read_used outer (AUnary sign place t) = read_used outer t
     read_used outer (ABinary sign place t u) =
         both (read_in of (asks_q as_q outer) t) (read_in of (asks_q as_q outer) u) (names_used outer t) (names_used outer u) (read_used outer t) (read_used outer u)
+    read_used outer _ = refl
 
     members_read : (outer : Option Extension) (ms : Members) → read_in_members of (asks_q as_q outer) ms ≡ uses_read of as_q (members_used outer ms)
     members_read outer NoMember = refl
@@ -88,6 +82,14 @@ found_each : {B : Type 0} (give : B → List Bool) (test : B → Bool) → ((x :
 found_each give test one [] = refl
 found_each give test one (x ∷ xs) = list_any-append (λ b. b) (give x) (flat_map give xs) ∙ ap₂ (λ b c. b || c) (one x) (found_each give test one xs)
 
+any_map : {A B : Type 0} (p : B → Bool) (f : A → B) (xs : List A) → list_any p (map f xs) ≡ list_any (λ x. p (f x)) xs
+any_map p f [] = refl
+any_map p f (x ∷ xs) = ap (λ b. p (f x) || b) (any_map p f xs)
+
+pub parts_share : (ss : List SectionParts) → list_any (λ (s : SectionParts). list_any (λ (p : SourcePart). shares_all (view_part p)) s.parts.items) ss ≡ list_any section_shares (map view_section_parts ss)
+parts_share [] = refl
+parts_share (s ∷ ss) = ap₂ (λ a b. a || b) (sym (any_map shares_all view_part s.parts.items)) (parts_share ss)
+
 pub sections_share : (xs : List SectionTree) → list_any section_shares (map with_parts xs) ≡ list_any part_shares (sections_parts xs)
 sections_share xs =
     let give = λ (p : PartTree). if_so (shares_all p) in
@@ -120,10 +122,9 @@ module _ (es : List Entry) (xs : List SectionTree) (s : ℕ) (x : Entry) (g : sl
 
   of_kind : (ks : List Held) (k : ℕ) (c : Bool) (kd : Kind)
       → among s (held_meant ks k kd c) ≡ ((is_signal kd && ((k == s) && (false || c))) || among s (uses_read (held_by ks) c (value_uses Reads (value_of kd))))
-  of_kind ks k c (APin pin negated) = at_pin k c
-  of_kind ks k c (ANode node) = at_pin k c
   of_kind ks k c (AConstant value) = ap (among s) (read_used (held_by ks) c None value)
   of_kind ks k c ADeviceName = refl
+  of_kind ks k c _ = at_pin k c
 
   -- the signal is marked strongly in the end where its Q is read, or its raw input is set
   pub is_read : is_signal x.kind ≡ true → (at (all_marks Reads es xs) s).strong ≡ among s (holds_of es xs).signals

@@ -79,9 +79,8 @@ module _ {K A : Type 0} (d : Standing K A) where
       -- the first of a name and its number, of the first so many, say the same of the signal
       abbrev Same : ℕ → Option K → Option ℕ → Type 0
       Same k None None = Unit {0}
-      Same k None (Some j) = ⊥
-      Same k (Some y) None = ⊥
       Same k (Some y) (Some j) = (j < k) × ((c : Bool) → list_any p (d.gives y c) ≡ stands k j c)
+      Same k _ _ = ⊥
 
       abbrev AllSame : ℕ → Type 0
       AllSame k = (name : List ℕ) → Same k (first (all_of (take k es)) name) (below k (find es name))
@@ -91,9 +90,8 @@ module _ {K A : Type 0} (d : Standing K A) where
         where
           by : (o : Option K) (m : Option ℕ) → Same k o m → list_any p (gives_if o c) ≡ list_any (counted (stands k)) (number_given m c)
           by None None h = refl
-          by None (Some j) h = absurd h
-          by (Some y) None h = absurd h
           by (Some y) (Some j) h = h.1 c ∙ sym (or-false (stands k j c))
+          by _ _ h = absurd h
 
       next : (k : ℕ) → k < length es → AllSame k → AllSame (suc k)
       next k h same name =
@@ -128,9 +126,8 @@ module _ {K A : Type 0} (d : Standing K A) where
           by : (o : Option K) (m : Option ℕ) (b : Bool) → Same k o m → Same (suc k) (option_or o (cond b (Some made) None)) (earlier_number m (if b then Some k else None))
           by None None true same = (omega arith, newest)
           by None None false same = tt
-          by None (Some j) b same = absurd same
-          by (Some y) None b same = absurd same
           by (Some y) (Some j) b same = (omega (arith, same.0), λ c. same.1 c ∙ older j c same.0)
+          by _ _ b same = absurd same
 
       all_same : (k : ℕ) → k ≤ length es → AllSame k
       all_same zero h = λ name. subst (λ ks. Same 0 (first ks name) (below 0 (find es name))) (sym (d.after_none [] 0)) (subst (Same 0 None) (sym (beyond name es 0 (omega arith))) tt)

@@ -76,10 +76,8 @@ any_or p q [] = refl
 any_or p q (x ∷ xs) = ap (λ b. (p x || q x) || b) (any_or p q xs) ∙ exchange (p x) (q x) (list_any p xs) (list_any q xs)
   where
     exchange : (a b c d : Bool) → ((a || b) || (c || d)) ≡ ((a || c) || (b || d))
-    exchange true b c d = refl
     exchange false b true d = or-true b
-    exchange false true false d = refl
-    exchange false false false d = refl
+    exchange _ _ _ d = refl
 
 module _ (s : ℕ) (w : Bool → Bool) (each : ℕ → Bool → List Assigned) where
   -- the name s counts itself, one of the first so many where what it gives does

@@ -1,7 +1,9 @@
 -- Names with their kinds, by the marks of what is assigned and what is held; and the registers among them that are declared
 -- `buffer` (this project's rule).
-use Rattle.std.specs.Prelude.{ℕ, suc, Bool, not, ◌&&◌, ◌||◌, List, [], ◌∷◌, if◌then◌else◌, get_or, false, Option, None, Some, slice_get}
-use Rattle.declared_names.specs.Prelude.{Words, Entry, is_signal, is_registered, is_buffer, is_open, settled_words, flat_map, Table, NameFault, always_inverts}
+use Rattle.std.specs.List.{enumerate_from}
+use Rattle.std.specs.Prelude.{ℕ, Bool, map, not, ◌&&◌, ◌||◌, List, [], ◌∷◌, if◌then◌else◌, get_or, false, Option, None, Some, slice_get}
+use Rattle.declared_names.specs.Prelude.{Words, Entry, view_declared, is_signal, is_registered, is_buffer, is_open, settled_words, flat_map, Table, NameFault, always_inverts}
+use Rattle.abel_tree.specs.declared.names.Declared.{Declared}
 use Rattle.pld_device.specs.declared.flip.Flip.{Flip}
 use Rattle.declared_names.specs.declared.held.Held.{Held}
 use Rattle.declared_names.specs.declared.marks.Mark.{Mark}
@@ -31,11 +33,10 @@ kind_by flip m held e =
       assigned = is_signal e.kind && is_marked m;
     }
 
--- all names, of which the first has this number
-abbrev pub kinds_by : Flip → List Mark → Held → ℕ → List Entry → List Entry
-kinds_by flip ms held s [] = []
-kinds_by flip ms held s (e ∷ es) =
-    kind_by flip (get_or ms s clear) (is_held_at held s) e ∷ kinds_by flip ms held (suc s) es
+-- all names by their numbers
+abbrev pub kinds_by : Flip → List Mark → Held → List Declared → List Entry
+kinds_by flip ms held ds =
+    map (λ (x : ℕ × Declared). kind_by flip (get_or ms x.0 clear) (is_held_at held x.0) (view_declared x.1)) (enumerate_from 0 ds)
 
 -- ---- registers that are declared `buffer`
 

@@ -1,7 +1,7 @@
 //! What is said of a signal, and what its attributes become.
 
 ghost use Rattle.std.specs.Prelude.{◌≡◌};
-ghost use Rattle.declared_names.specs.Prelude.{is_buffer, is_open, is_registered, view_attributes};
+ghost use Rattle.declared_names.specs.Prelude.{is_registered, view_attributes};
 ghost use Rattle.declared_names.specs.{attribute_words, words_by};
 
 use crate::marks::Mark;
@@ -9,37 +9,19 @@ use abel_tree::Attributes;
 use bitflags::Flags;
 use pld_device::Flip;
 
-/// The attributes of a signal: its kind, its polarity and DC; neither polarity where it is free.
+/// The attributes of a signal: its kind, its polarity and DC; neither polarity where it is free, which is a register that
+/// nothing holds, of which neither is said, on a device that leaves it to the fitter.
 pub(crate) fn settled_attributes(flip: Flip, said: Attributes, mark: Mark, held: bool) -> Attributes
     ensures { view_attributes result ≡ words_by flip held (view_attributes said) (is_registered (view_attributes said) mark.strong) }
 {
-    let registered = is_registered(said, mark.strong);
-    let buffer = is_buffer(flip, said);
-    let free = registered && is_open(flip, said) && !held;
-    attributes_of(registered, buffer, free, said.contains(Attributes::DC))
-}
-
-/// Whether neither polarity is said, and the device leaves it to the fitter.
-fn is_open(flip: Flip, said: Attributes) -> bool
-    ensures { result ≡ is_open flip (view_attributes said) }
-{
-    !said.contains(Attributes::BUFFER)
+    let registered = said.contains(Attributes::REG)
+        || (!said.contains(Attributes::COM) && mark.strong);
+    let open = !said.contains(Attributes::BUFFER)
         && !said.contains(Attributes::INVERT)
-        && matches!(flip, Flip::AfterRegister)
-}
-
-/// Whether a signal is a register.
-fn is_registered(said: Attributes, clocked: bool) -> bool
-    ensures { result ≡ is_registered (view_attributes said) clocked }
-{
-    said.contains(Attributes::REG) || (!said.contains(Attributes::COM) && clocked)
-}
-
-/// Whether a register's pin equals Q.
-fn is_buffer(flip: Flip, said: Attributes) -> bool
-    ensures { result ≡ is_buffer flip (view_attributes said) }
-{
-    said.contains(Attributes::BUFFER) || is_open(flip, said)
+        && matches!(flip, Flip::AfterRegister);
+    let buffer = said.contains(Attributes::BUFFER) || open;
+    let free = registered && open && !held;
+    attributes_of(registered, buffer, free, said.contains(Attributes::DC))
 }
 
 /// The set of one kind, one polarity or none, and perhaps DC.

@@ -6,7 +6,7 @@ ghost use Rattle.decls.specs.declared.fault.NameFault.TheVariants.{OutOfMemory};
 ghost use Rattle.declared_names.specs.{AreDeclaredFor, BuffersAreAllowed, NumbersAreApart};
 
 use crate::kinds::settle;
-use crate::registers::{first_refused, open_fault};
+use crate::registers::first_refused;
 use abel_tree::Names;
 use decls::{NameFault, NamesRead, read_names};
 use name_uses::ModuleParts;
@@ -34,12 +34,15 @@ pub fn declare<D: Device>(alloc: Global, source: &ModuleParts<'_>) -> Result<Nam
         fault,
         registers_wait,
     } = read_names::<D>(alloc, source)?;
-    let fault = match open_fault(fault, registers_wait) {
-        Ok(fault) => fault,
-        Err(fault) => return Err(fault),
-    };
+    // Only a register that waits may be refused before it.
+    if !registers_wait {
+        if let Some(fault) = fault {
+            return Err(fault);
+        }
+    }
     let list = settle(alloc, D::FLIP, list, source)?;
-    match first_refused::<D>(fault, list.as_slice(), buffered.as_slice()) {
+    let refused = first_refused::<D>(fault, list.as_slice(), buffered.as_slice());
+    match refused {
         Some(fault) => Err(fault),
         None => Ok(Names {
             list: ListOf::from_vec(list),

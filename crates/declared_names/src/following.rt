@@ -1,8 +1,8 @@
 //! From the last constant to the first: what is in a constant that is marked is marked.
 
-ghost use Rattle.std.specs.Prelude.{◌≡◌, [], IfOk, OnOk, get_or, if◌then◌else◌, map, option_map, slice_get};
+ghost use Rattle.std.specs.Prelude.{◌≡◌, [], IfOk, OnOk, get_or, if◌then◌else◌, map, slice_get};
 ghost use Rattle.declared_names.specs.Prelude.{view_declared, view, view_module, view_use};
-ghost use Rattle.declared_names.specs.{all_marked, clear, IsNumbering, value_at, all_marks, given_by, uses_in};
+ghost use Rattle.declared_names.specs.{all_marked, clear, IsNumbering, value_at, all_marks, given_by, uses_in, value_uses};
 
 use crate::marks::{CLEAR, Mark, mark_of};
 use crate::numbers::{FirstNames, Numbers};
@@ -28,13 +28,22 @@ fn uses_in(alloc: Global, expr: &Expr, follow: Follow) -> Result<Vec<NameUse<'_>
     }
 }
 
-/// The value of the name of this number, if it is a constant.
-fn constant_at(names: &[Declared], number: usize) -> Option<&Expr>
-    ensures { option_map (λ e. view e.now) result ≡ value_at (slice_get (map view_declared names.now) number) }
+/// The names in the value of the name of this number that are marked; none where it is no constant.
+fn value_uses<'a>(
+    alloc: Global,
+    names: &'a [Declared],
+    number: usize,
+    follow: Follow,
+) -> Result<Vec<NameUse<'a>>, OutOfMemory>
+    ensures { IfOk result (λ uses. map view_use uses.items
+        ≡ value_uses follow (value_at (slice_get (map view_declared names.now) number))) }
 {
-    match &names.get(number)?.meaning {
-        Meaning::Constant(value) => Some(value),
-        _ => None,
+    let Some(declared) = names.get(number) else {
+        return Ok(Vec::new(alloc));
+    };
+    match &declared.meaning {
+        Meaning::Constant(value) => uses_in(alloc, value, follow),
+        _ => Ok(Vec::new(alloc)),
     }
 }
 
@@ -76,7 +85,7 @@ impl Numbers {
 
 /// These uses, or none.
 fn uses_if<'a, 'b>(asked: bool, uses: &'b [NameUse<'a>]) -> &'b [NameUse<'a>]
-    ensures { result.now ≡ (if asked then uses.now else []) }
+    ensures { map view_use result.now ≡ (if asked then map view_use uses.now else []) }
 {
     if asked { uses } else { &[] }
 }
@@ -94,11 +103,8 @@ impl FirstNames<'_> {
         ensures { OnOk result (marks.new.items ≡ all_marked marks.old.items
             (given_by follow (map view_declared names.now) self.now.limit (get_or marks.old.items self.now.limit clear))) }
     {
-        let Some(value) = constant_at(names, self.limit) else {
-            return Ok(());
-        };
         let mark = mark_of(marks.as_slice(), self.limit);
-        let uses = uses_in(alloc, value, follow)?;
+        let uses = value_uses(alloc, names, self.limit, follow)?;
         self.mark_uses(alloc, marks, false, uses_if(mark.plain, uses.as_slice()))?;
         self.mark_uses(alloc, marks, true, uses_if(mark.strong, uses.as_slice()))
     }

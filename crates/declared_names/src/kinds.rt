@@ -45,11 +45,10 @@ fn settle_all(
     held: &Held,
 ) -> Result<Vec<Declared>, OutOfMemory>
     ensures { IfOk result (λ list. map view_declared list.items
-        ≡ kinds_by flip marks.now held.now 0 (map view_declared names.items)) }
+        ≡ kinds_by flip marks.now held.now names.items) }
 {
     let mut settled = Vec::new(alloc);
-    for declared in names {
-        let number = settled.len();
+    for (number, declared) in names.into_iter().enumerate() {
         let mark = mark_of(marks, number);
         let is_held = held.is_held(number);
         settled.push(settled_by(flip, declared, mark, is_held))?;
@@ -74,8 +73,5 @@ fn settled_by(flip: Flip, declared: Declared, mark: Mark, held: bool) -> Declare
 pub(crate) fn is_signal(meaning: &Meaning) -> bool
     ensures { result ≡ is_signal (view_meaning meaning.now) }
 {
-    matches!(
-        meaning,
-        Meaning::Pin { pin: _, negated: _ } | Meaning::Node(_)
-    )
+    matches!(meaning, Meaning::Pin { .. } | Meaning::Node(_))
 }

@@ -28,17 +28,10 @@ pub(crate) fn mark_number(marks: &mut Vec<Mark>, number: usize, strong: bool)
     ensures { marks.new.items ≡ hit strong marks.old.items number }
 {
     if number < marks.len() {
-        let mark = marks[number];
-        marks[number] = if strong {
-            Mark {
-                strong: true,
-                ..mark
-            }
+        if strong {
+            marks[number].strong = true;
         } else {
-            Mark {
-                plain: true,
-                ..mark
-            }
-        };
+            marks[number].plain = true;
+        }
     }
 }

@@ -14,24 +14,6 @@ use name_uses::{
 use pld_base::OutOfMemory;
 use std::alloc::Global;
 
-/// Whether what a part assigns is assigned on the clock. What is read as Q says so itself.
-fn is_strong(part: &Part<'_>, follow: Follow) -> bool
-    ensures { result ≡ (part_names follow (view_part part.now)).strong }
-{
-    match follow {
-        Follow::Targets => match part.role {
-            Role::Target(sign) => {
-                Extension::is_raw(target_extension(part.expr))
-                    || matches!(sign, Sign::Clocked | Sign::ClockedAny)
-            }
-            Role::Outputs(clocked) => clocked,
-            Role::Registers => true,
-            _ => false,
-        },
-        Follow::Reads => false,
-    }
-}
-
 /// The names that an equation assigns, if its target is data.
 fn assigned_uses(alloc: Global, target: &Expr) -> Result<Vec<NameUse<'_>>, OutOfMemory>
     ensures { IfOk result (λ uses. map view_use uses.items ≡ assigned_names (view target.now)) }
@@ -52,25 +34,33 @@ fn raw_uses(alloc: Global, target: &Expr) -> Result<Vec<NameUse<'_>>, OutOfMemor
     target_names_used(alloc, target, Some(Extension::Q))
 }
 
-/// The names that a part assigns, as a target of data, the outputs of a table or the registers of a diagram; or those
-/// that it reads.
-fn part_uses<'a>(
+/// What a part assigns, as a target of data, the outputs of a table or the registers of a diagram, and whether on the
+/// clock; or what it reads, of which what is read as Q says so itself.
+fn part_names<'a>(
     alloc: Global,
     part: &Part<'a>,
     follow: Follow,
-) -> Result<Vec<NameUse<'a>>, OutOfMemory>
-    ensures { IfOk result (λ uses. map view_use uses.items ≡ (part_names follow (view_part part.now)).uses) }
+) -> Result<(bool, Vec<NameUse<'a>>), OutOfMemory>
+    ensures strong { IfOk result (λ named. named.0 ≡ (part_names follow (view_part part.now)).strong) }
+    ensures uses { IfOk result (λ named. map view_use named.1.items ≡ (part_names follow (view_part part.now)).uses) }
 {
     match follow {
         Follow::Targets => match part.role {
-            Role::Target(_) => assigned_uses(alloc, part.expr),
-            Role::Outputs(_) | Role::Registers => targets_in(alloc, part.expr),
-            _ => Ok(Vec::new(alloc)),
+            Role::Target(sign) => {
+                let clocked = matches!(sign, Sign::Clocked | Sign::ClockedAny);
+                let strong = Extension::is_raw(target_extension(part.expr)) || clocked;
+                Ok((strong, assigned_uses(alloc, part.expr)?))
+            }
+            Role::Outputs(clocked) => Ok((clocked, targets_in(alloc, part.expr)?)),
+            Role::Registers => Ok((true, targets_in(alloc, part.expr)?)),
+            _ => Ok((false, Vec::new(alloc))),
         },
         Follow::Reads => match part.role {
-            Role::Target(_) => raw_uses(alloc, part.expr),
-            Role::Value(_) | Role::Read => Ok(Vec::from_slice(alloc, part.uses.as_slice())?),
-            _ => Ok(Vec::new(alloc)),
+            Role::Target(_) => Ok((false, raw_uses(alloc, part.expr)?)),
+            Role::Value(_) | Role::Read => {
+                Ok((false, Vec::from_slice(alloc, part.uses.as_slice())?))
+            }
+            _ => Ok((false, Vec::new(alloc))),
         },
     }
 }
@@ -88,8 +78,8 @@ impl FirstNames<'_> {
             (λ of. flat_map (part_gives follow of) (map view_part parts.now))) }
     {
         for part in parts {
-            let uses = part_uses(alloc, part, follow)?;
-            self.mark_uses(alloc, marks, is_strong(part, follow), uses.as_slice())?;
+            let (strong, uses) = part_names(alloc, part, follow)?;
+            self.mark_uses(alloc, marks, strong, uses.as_slice())?;
         }
         Ok(())
     }

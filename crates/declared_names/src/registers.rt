@@ -1,10 +1,9 @@
 //! Registers that a device can't buffer.
 
-ghost use Rattle.std.specs.Prelude.{◌≡◌, ◌++◌, IfErr, IfOk, List, Some, false, map, slice_get, true};
+ghost use Rattle.std.specs.Prelude.{◌≡◌, ◌++◌, List, map, slice_get};
 ghost use Rattle.declared_names.specs.Prelude.{view_declared, NameFault};
 ghost use Rattle.abel_tree.specs.FirstRefusal.{first_refusal};
 ghost use Rattle.decls.specs.FaultOrder.{name_order};
-ghost use Rattle.decls.specs.Passed.{wants_names};
 ghost use Rattle.declared_names.specs.{is_register, refused_for};
 
 use crate::kinds::is_signal;
@@ -22,23 +21,6 @@ fn is_register(list: &[Declared], number: usize) -> bool
             is_signal(&declared.meaning) && declared.attributes.contains(Attributes::REG)
         }
         None => false,
-    }
-}
-
-/// The first refusal so far, if registers wait that may be refused before it. Else it is the answer.
-pub(crate) fn open_fault(
-    fault: Option<NameFault>,
-    registers_wait: bool,
-) -> Result<Option<NameFault>, NameFault>
-    ensures open { IfOk result (λ f. (f ≡ fault) × (wants_names registers_wait fault ≡ true)) }
-    ensures settled { IfErr result (λ f. (fault ≡ Some f) × (registers_wait ≡ false)) }
-{
-    if registers_wait {
-        return Ok(fault);
-    }
-    match fault {
-        Some(fault) => Err(fault),
-        None => Ok(None),
     }
 }
 

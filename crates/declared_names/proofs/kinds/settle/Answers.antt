@@ -13,7 +13,7 @@ returns c =
     c.as_slice-4.ensures.value ∙ (c.in_ok-assigned.ensures ∙ ap (λ l. all_marks Targets (map view_declared l) xs) c.as_slice-2.ensures.value) in
     let read : c.in_ok-read.read.items ≡ all_marks Reads es xs = c.in_ok-read.ensures ∙ ap (λ l. all_marks Reads (map view_declared l) xs) c.as_slice-3.ensures.value in
     IfOk-weaker c.settle_all.result
-    (λ list. map view_declared list.items ≡ kinds_by c.args.flip c.as_slice-4.result.now held 0 es)
+    (λ list. map view_declared list.items ≡ kinds_by c.args.flip c.as_slice-4.result.now held c.args.names.items)
     (λ list. map view_declared list.items ≡ with_assigned c.args.flip xs es)
-    (λ list h. h ∙ settled es xs c.args.flip c.as_slice-4.result.now held assigned c.are_all_held.ensures read)
+    (λ list h. h ∙ settled c.args.names.items xs c.args.flip c.as_slice-4.result.now held assigned c.are_all_held.ensures read)
     c.settle_all.ensures

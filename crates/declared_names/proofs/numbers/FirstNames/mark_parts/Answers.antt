@@ -11,4 +11,4 @@ loop-part-preserved c = λ es num.
     flat_next marked (part_gives c.args.follow of) view_part c.args.marks.now.items l.marks.items c.mark_uses.new.marks.items c.args.parts.now l.part-index c.part-item.result c.loop-part-test.true c.part-item.is
     (l.invariant es num)
     (c.in_ok-mark_uses.ensures es num
-    ∙ ap₂ (λ strong us. all_marked l.marks.items (uses_read of strong us)) c.is_strong.ensures (ap (map view_use) c.as_slice.ensures.value ∙ c.in_ok-uses.ensures))
+    ∙ ap₂ (λ strong us. all_marked l.marks.items (uses_read of strong us)) c.in_ok-strong.ensures.strong (ap (map view_use) c.as_slice.ensures.value ∙ c.in_ok-strong.ensures.uses))
