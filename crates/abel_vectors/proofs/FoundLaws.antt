@@ -1,6 +1,7 @@
--- More that is found, behind what was found before.
-use Rattle.std.proofs.Common.{◌≡◌, ℕ, Option, None, Some, List, [], ◌∷◌, ◌++◌, Result, Ok, Err, IfOk, refl, sym, ap, ap₂, ◌∙◌, subst, append_assoc, append-nil, IfErr}
-use Rattle.abel_vectors.proofs.Common.{map-append, Vector, Table, all_chars, chars_of, first_refusal, earlier, earlier_assoc, earlier_none, first_append, none_refused, SectionFault, section_order, Found, fault_in, Finds, IsFound, IsReadAs, NothingFound, if_none}
+-- More that is found, behind what was found before; and the first of what is refused of sections and of vectors.
+use Rattle.std.proofs.Common.{◌≡◌, ◌≢◌, ℕ, Option, None, Some, List, [], ◌∷◌, ◌++◌, Result, Ok, Err, IfOk, refl, sym, ap, ap₂, ◌∙◌, subst, append_assoc, append-nil, IfErr}
+use Rattle.abel_vectors.proofs.Common.{map-append, Vector, Table, all_chars, chars_of, first_refusal, earlier, earlier_assoc, earlier_none, first_append, none_refused, SectionFault, section_order, IsTold, told_of, Found, fault_in, Finds, IsFound, IsReadAs, NothingFound, if_none}
+use Rattle.set_expr.specs.declared.fault.SectionFault.TheVariants.{OutOfMemory}
 
 -- where nothing is refused now, nothing was before
 both_none : (a : Option SectionFault) (rs : List SectionFault) → earlier section_order a (first_refusal section_order rs) ≡ None → (a ≡ None) × (rs ≡ [])
@@ -76,3 +77,18 @@ all_found t rs cs old new n a =
       fault = a.fault ∙ ap (λ f. earlier section_order f (first_refusal section_order rs)) n.fault;
       list = λ e. a.list e ∙ ap (λ xs. all_chars t xs ++ cs) n.list;
     }
+
+-- ---- sections and vectors
+
+-- what is told of other than want of memory is the first refusal
+pub told_first : (rs : List SectionFault) (f : SectionFault) → f ≢ OutOfMemory → IsTold rs f → first_refusal section_order rs ≡ Some f
+told_first rs OutOfMemory o h = absurd (o refl)
+told_first rs f o h = h
+
+pub first_told : (rs ss : List SectionFault) (f g r : SectionFault) → f ≢ OutOfMemory → g ≢ OutOfMemory → earlier section_order (Some f) (Some g) ≡ Some r → IsTold rs f → IsTold ss g → IsTold (rs ++ ss) r
+first_told rs ss f g r o p e h k =
+    told_of (rs ++ ss) r (first_append section_order rs ss ∙ ap₂ (earlier section_order) (told_first rs f o h) (told_first ss g p k) ∙ e)
+
+-- where nothing else is refused
+pub told_alone : (rs ss : List SectionFault) (f : SectionFault) → ss ≡ [] → IsTold rs f → IsTold (rs ++ ss) f
+told_alone rs ss f e h = subst (λ xs. IsTold xs f) (sym (ap (λ ys. rs ++ ys) e ∙ append-nil rs)) h

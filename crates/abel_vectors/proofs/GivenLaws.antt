@@ -1,6 +1,7 @@
--- The characters of the positions of a side, and the first of each pin.
-use Rattle.std.proofs.Common.{◌≡◌, ℕ, ◌==◌, Bool, true, false, if◌then◌else◌, Option, None, Some, List, [], ◌∷◌, ◌++◌, map, refl, sym, ap₂, ◌∙◌, option_map}
-use Rattle.abel_vectors.proofs.Common.{cons_option, Entry, Kind, APin, Context, name_at, Mark, input_char, output_char, given_to, first_char, char_given, view_mark, found_at, all_given, char_for, chars_for, chars_read, pin_of, position_gives, pulse_read, tests_pulse}
+-- The characters of the positions of a side, the first of each pin, and those of a vector, pin after pin.
+use Rattle.std.proofs.Common.{◌≡◌, ℕ, ◌+◌, ◌<◌, ◌≤◌, ◌==◌, Bool, true, false, if◌then◌else◌, Option, None, Some, List, [], ◌∷◌, ◌++◌, length, map, get_or, take, refl, sym, ap₂, ◌∙◌, arith, option_map}
+use Rattle.abel_vectors.proofs.Common.{range_with_len, ext_get_or, get_or-take, length-take-le, cons_option, Entry, Kind, APin, Context, name_at, Mark, input_char, output_char, given_to, first_char, char_given, view_mark, found_at, all_given, char_for, chars_for, chars_read, pin_of, position_gives, pulse_read, tests_pulse}
+use Rattle.std.proofs.lemmas.List.FromFn.{get_or-map-range_with_len, length-map-range_with_len}
 use Rattle.truth_tables.specs.declared.mark.Mark as code
 
 -- ---- what is said of marks, by what they are seen as
@@ -55,3 +56,13 @@ pub all_found : (d : Context) (pin : ℕ) (ss : List (Option ℕ)) (given : List
 all_found d pin ss given ts tested =
     ap₂ first_char (given_found d pin input_char ss given) (given_found d pin output_char ts tested)
     ∙ sym (found_append (chars_for d.names input_char ss given) (chars_for d.names output_char ts tested) pin)
+
+-- ---- the characters of a vector
+
+pub all_placed : (f : ℕ → ℕ) (chars : List ℕ) (pins : ℕ) → pins ≤ length chars → ((k : ℕ) → k < pins → get_or chars k 0 ≡ f (k + 1)) → take pins chars ≡ map f (range_with_len 1 pins)
+all_placed f chars pins h placed =
+    let taken : length (take pins chars) ≡ pins = length-take-le pins chars h in
+    ext_get_or 0 (take pins chars) (map f (range_with_len 1 pins)) (taken ∙ sym (length-map-range_with_len f 1 pins))
+    (λ i lt.
+    let below : i < pins = omega arith in
+    get_or-take pins chars i 0 below ∙ placed i below ∙ sym (get_or-map-range_with_len f 1 pins i (i + 1) 0 below (omega arith)))

@@ -1,6 +1,6 @@
 -- The characters of vectors are those that a fuse file may have.
 use Rattle.std.proofs.Common.{◌≡◌, ℕ, ◌==◌, Bool, true, false, ◌&&◌, ◌||◌, if◌then◌else◌, Option, None, Some, List, [], ◌∷◌, map, refl, sym, ap, ap₂, ◌∙◌, All}
-use Rattle.abel_vectors.proofs.Common.{list_all, range_with_len, Vector, Table, IsTestVector, all_chars, chars_of, Kind, APin, ANode, AConstant, ADeviceName, RowTree, SectionTree, SomeVectors, Context, name_at, Mark, Level, Unknown, Pulsed, Released, marks_of, targets_of, Term, term_of, char_by, input_char, output_char, given_to, first_char, char_given, char_or_plain, pin_char, row_chars, section_vectors, sections_vectors}
+use Rattle.abel_vectors.proofs.Common.{list_all, range_with_len, Vector, Table, IsTestVector, all_chars, chars_of, Kind, APin, RowTree, SectionTree, SomeVectors, Context, name_at, Mark, Level, Pulsed, Released, marks_of, targets_of, Term, term_of, char_by, input_char, output_char, given_to, first_char, char_given, char_or_plain, pin_char, row_chars, section_vectors, sections_vectors}
 use Rattle.std.proofs.lemmas.List.Folds.{list_all-append, list_all-map}
 use Rattle.std.proofs.lemmas.List.Sums.{AllPass-from_list_all}
 use Rattle.pld_device.specs.Macrocells.{complement_if}

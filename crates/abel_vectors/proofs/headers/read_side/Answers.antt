@@ -1,5 +1,5 @@
 -- An expression that is refused, something else, pins, and signals that are no pins.
-use Rattle.std.proofs.Common.{◌≡◌, None, Some, [], List, ◌&&◌, sym, ap, ap₂, ◌∙◌, subst}
+use Rattle.std.proofs.Common.{◌≡◌, List, ◌&&◌, sym, ap, ap₂, ◌∙◌, subst}
 use Rattle.abel_vectors.proofs.Common.{list_all, first_refusal, none_refused, view, Entry, Tree, targets_of, term_of, BadVector, expression_found, section_order, inside_first, none_met, none_unmet, is_pin_or_unknown, names_pins}
 use Rattle.set_expr.specs.KnownNames.{SumsUp}
 use Rattle.set_expr.specs.declared.checked.Checked.{Checked}

@@ -1,7 +1,7 @@
 -- Vectors of which nothing is refused, and the first of two refusals.
 use Rattle.std.proofs.Common.{subst, sym}
 use Rattle.abel_vectors.proofs.Common.{sections_refused, AnswersVectors, all_vectors_refused}
-use Rattle.abel_vectors.proofs.AllAnswers.{first_told, told_alone}
+use Rattle.abel_vectors.proofs.FoundLaws.{first_told, told_alone}
 use Rattle.abel_vectors.proofs.joining.first_with.Goals as goal
 
 pub returns-in-Ok : goal.returns-in-Ok

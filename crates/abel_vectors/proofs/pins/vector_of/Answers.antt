@@ -1,7 +1,7 @@
 -- All pins.
 use Rattle.std.proofs.Common.{arith}
 use Rattle.abel_vectors.proofs.Common.{char_or_plain, found_at}
-use Rattle.abel_vectors.proofs.PinLaws.{all_placed}
+use Rattle.abel_vectors.proofs.GivenLaws.{all_placed}
 use Rattle.abel_vectors.proofs.pins.vector_of.Goals as goal
 
 pub returns : goal.returns
