@@ -1,5 +1,5 @@
 -- The words that the proofs of this crate are said in, passed on from one place. Declares nothing.
-pub use Rattle.std.proofs.Math.Bool.{and-false}
+pub use Rattle.std.proofs.Math.Bool.{and-false, and-true, or-false}
 pub use Rattle.std.proofs.lemmas.Bool.{and_parts, cases_Bool, cases_eq, cases_lt, eq-eqb, eqb-true, le-ltb, lt-ltb, ne_eqb, or_cases, or_left, or_right}
 pub use Rattle.std.proofs.lemmas.Bool.{true≢false}
 pub use Rattle.std.proofs.lemmas.List.{append-nil, drop_all, get_or_append_left, get_or_push, map-append, take_all, take_more}

@@ -178,8 +178,7 @@ module _ (fs : List Formula) (s : ℕ) (cs : List Contribution) where
     where
       outside : (q : Part) (c : Contribution) → is_to s c ≡ false → is_for q s (view_contribution fs c) ≡ false
       outside (part.Data g) c miss = rw miss refl
-      outside (part.DataIn b g) c miss = rw miss refl
-      outside (part.Control e) c miss = rw miss refl
+      outside _ c miss = rw miss refl
 
   any_same : (p : meant.Contribution Formula → Bool) → ((c : Contribution) → is_to s c ≡ false → p (view_contribution fs c) ≡ false) → list_any p own ≡ list_any p all
   any_same p none = any_own (view_contribution fs) p (is_to s) none cs

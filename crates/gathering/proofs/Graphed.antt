@@ -35,9 +35,8 @@ some_linked t x kind linked is = rw is linked
 
 module _ (d : Design) (cells : AssignedHaveCells d.context) where
   pin_linked : (found : Option ℕ) (b : Bool) → b ≡ true → IsSome found → is_some (if b then found else None) ≡ true
-  pin_linked None b assigned some = absurd cc
   pin_linked (Some c) true assigned some = refl
-  pin_linked (Some c) false assigned some = absurd cc
+  pin_linked _ _ assigned some = absurd cc
 
   assigned_linked : (s pin : ℕ) (negated : Bool) → (name_at d.context s).kind ≡ APin pin negated → (name_at d.context s).assigned ≡ true → is_linked d.context.device (name_at d.context s) ≡ true
   assigned_linked s pin negated kind assigned =

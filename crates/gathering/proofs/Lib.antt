@@ -5,6 +5,5 @@ pub mod LinkFacts
 pub mod LinkSets
 mod Pushed
 mod Renamed
-pub mod SameChains
 pub mod SeenLists
 pub mod Standing

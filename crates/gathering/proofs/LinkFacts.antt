@@ -69,6 +69,5 @@ module _ (d : Context) (cs : List (meant.Contribution Formula)) where
       ]
     where
       starts : is_linked d.device x ≡ true → ((ms : List ℕ) (ks : List Link) → AreLinksFrom d cs (suc s) xs ms ks → Facts (suc s) xs ms ks) → (ms : List ℕ) (ks : List Link) → StartsIf true (IsLinkOf d cs s x) (AreLinksFrom d cs (suc s) xs) s ms ks → Facts s (x ∷ xs) ms ks
-      starts linked rest [] ks none = absurd none
-      starts linked rest (m ∷ ms) [] none = absurd none
       starts linked rest (m ∷ ms) (k ∷ ks) here = facts_more s m x k xs ms ks here.0 linked here.1 (rest ms ks here.2)
+      starts linked rest _ _ none = absurd none

@@ -1,6 +1,6 @@
 //! The graph of signals that read one another.
 
-ghost use Rattle.std.specs.Prelude.{◌≡◌, ◌<◌, ◌≤◌, ℕ, IfOk, length};
+ghost use Rattle.std.specs.Prelude.{◌≡◌, ◌<◌, ◌≤◌, ◌==◌, ◌&&◌, ◌||◌, ℕ, IfOk, length};
 ghost use Rattle.gathering.specs.Prelude.{is_on};
 ghost use Rattle.pld_order.specs.Sets.{reads_of};
 ghost use Rattle.gathering.specs.{AreLeaves, is_read_by, link_reads, is_stored_in};
@@ -11,6 +11,15 @@ use pld_base::OutOfMemory;
 use pld_order::VertexSet;
 use std::alloc::Global;
 
+/// Puts a vertex into the set, if that is asked for.
+fn insert_if(set: &mut VertexSet, vertex: u8, asked: bool)
+    ensures { (v : ℕ) → is_on set.new v ≡ ((asked && (v == vertex)) || is_on set.old v) }
+{
+    if asked {
+        set.insert(vertex);
+    }
+}
+
 /// The signals whose leaves are among these.
 pub(crate) fn read_by(links: &[Link], reads: &Reads) -> VertexSet
     requires few { length links.now ≤ 256 }
@@ -19,9 +28,7 @@ pub(crate) fn read_by(links: &[Link], reads: &Reads) -> VertexSet
 {
     let mut set = VertexSet::new();
     for v in 0..links.len() {
-        if has_if_any(reads, links[v].leaf) {
-            set.insert(v as u8);
-        }
+        insert_if(&mut set, v as u8, has_if_any(reads, links[v].leaf));
     }
     set
 }
@@ -33,9 +40,7 @@ pub(crate) fn registers(links: &[Link]) -> VertexSet
 {
     let mut set = VertexSet::new();
     for v in 0..links.len() {
-        if links[v].stored {
-            set.insert(v as u8);
-        }
+        insert_if(&mut set, v as u8, links[v].stored);
     }
     set
 }

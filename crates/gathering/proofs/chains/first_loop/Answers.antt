@@ -1,6 +1,6 @@
 use Rattle.std.proofs.Common.{length}
 use Rattle.gathering.proofs.Common.{link_reads}
-use Rattle.gathering.proofs.SameChains.{loop_of_sets, no_loop_of_sets}
+use Rattle.gathering.proofs.LinkSets.{loop_of_sets, no_loop_of_sets}
 use Rattle.gathering.proofs.chains.first_loop.Goals as goal
 
 pub returns-in-Ok-clause-none : goal.returns-in-Ok-clause-none

@@ -1,6 +1,6 @@
 use Rattle.std.proofs.Common.{length, Option, Some, None, IfSome, IfNone}
 use Rattle.gathering.proofs.Common.{is_on, link_reads, is_read_by, is_stored_in}
-use Rattle.gathering.proofs.SameChains.{path_of_sets, no_path_of_sets}
+use Rattle.gathering.proofs.LinkSets.{path_of_sets, no_path_of_sets}
 use Rattle.gathering.proofs.chains.path_to_register.Goals as goal
 
 if_some : {A : Type 0} (P Q : A → Type 0) (o : Option A) → ((a : A) → P a → Q a) → IfSome o P → IfSome o Q

@@ -1,6 +1,6 @@
 use Rattle.std.proofs.Common.{length}
 use Rattle.gathering.proofs.Common.{link_reads}
-use Rattle.gathering.proofs.SameChains.{order_of_sets, loop_of_sets}
+use Rattle.gathering.proofs.LinkSets.{order_of_sets, loop_of_sets}
 use Rattle.gathering.proofs.chains.read_order.Goals as goal
 
 pub returns : goal.returns
