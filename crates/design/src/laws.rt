@@ -5,11 +5,13 @@ ghost use Rattle.design.specs.{UnrefusedIsTakeable, TargetsNameAlike, AssignedAr
 use design_checks::uses_have_columns;
 
 /// The names that are declared of a module are accepted as those of its design. Does nothing.
+#[tactic(auto, using(crate::proofs::SoundModules::names_accepted))]
 pub fn names_are_accepted()
     ensures { NamesAreAccepted }
 {}
 
 /// The signals that a target names by its names alone are those of its term that have no extension. Does nothing.
+#[tactic(auto, using(crate::proofs::NamedTerms::same_signals))]
 pub fn targets_name_alike()
     ensures { TargetsNameAlike }
 {}
@@ -21,6 +23,7 @@ pub fn assigned_are_given()
 {}
 
 /// Where nothing is refused of the sections, each pin that is assigned is that of a cell. Does nothing.
+#[tactic(auto, using(crate::proofs::SoundModules::on_cells))]
 pub fn assigned_have_cells()
     ensures { AssignedHaveCells }
 {}
@@ -28,12 +31,14 @@ pub fn assigned_have_cells()
 /// A module is accepted for a device where nothing is refused of its sections, and its declarations are sound: no two
 /// names are one pin, nodes are few, and no register follows Q, or may, where the device can't complement behind it. Does
 /// nothing.
+#[tactic(auto, using(crate::proofs::SoundModules::all_accepted))]
 pub fn sound_modules_are_accepted()
     ensures { SoundModulesAreAccepted }
 {}
 
 /// Where nothing is refused of a design whose names and sections are accepted, the device can take its netlist. Does
 /// nothing.
+#[tactic(auto, using(crate::proofs::Takes::takes))]
 pub fn unrefused_is_takeable()
     ensures { UnrefusedIsTakeable }
 {

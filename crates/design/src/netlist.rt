@@ -55,18 +55,12 @@ pub fn gather<D: Device>(
     netlist_is_sound();
     netlist_means_the_same();
     let names = scope.scope().names();
-    match check_signals::<D>(alloc, source, scope, &found) {
-        Err(fault) => Err(fault),
-        Ok(()) => {
-            let Gathered {
-                net,
-                signals,
-                links,
-            } = gather_up::<D>(alloc, names, found)?;
-            match check_chains(alloc, names, &net, signals.as_slice(), links.as_slice()) {
-                Err(fault) => Err(fault),
-                Ok(()) => Ok(net),
-            }
-        }
-    }
+    check_signals::<D>(alloc, source, scope, &found)?;
+    let Gathered {
+        net,
+        signals,
+        links,
+    } = gather_up::<D>(alloc, names, found)?;
+    check_chains(alloc, names, &net, signals.as_slice(), links.as_slice())?;
+    Ok(net)
 }

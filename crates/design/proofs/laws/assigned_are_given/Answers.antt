@@ -1,5 +1,6 @@
-use Rattle.design.proofs.SoundModules.{all_given}
+use Rattle.design.proofs.AssignedNames.{signal_there}
+use Rattle.design.proofs.SoundModules.{data_there}
 use Rattle.design.proofs.laws.assigned_are_given.Goals as goal
 
 pub returns : goal.returns
-returns c = all_given
+returns c t m = record { signals = signal_there t m; data_given = data_there t m }

@@ -1,5 +1,0 @@
-use Rattle.design.proofs.NamedTerms.{same_signals}
-use Rattle.design.proofs.laws.targets_name_alike.Goals as goal
-
-pub returns : goal.returns
-returns c = same_signals
