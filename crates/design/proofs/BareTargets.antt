@@ -1,6 +1,6 @@
 -- A target of which nothing is refused is a signal's bare name, or a set of such.
-use Rattle.std.proofs.Common.{◌≡◌, ℕ, Bool, true, false, ◌&&◌, Option, None, List, [], ◌∷◌, ◌++◌, if◌then◌else◌, length, map, refl, sym, ap, ap₂, ◌∙◌}
-use Rattle.design.proofs.Common.{and_parts, map-append, Place, without_extension, find, range_names, Tree, AName, ASet, AParen, OneMember, SpanMember, Members, NoMember, MoreMembers, Context, targets_of, all_targets, some_signals, Term, Terms, Read, Set, NoTerm, Before, term_named, term_of, terms_of, named_before, SignalUse, term_uses, all_term_uses, NotAnOutput, found_use, name_found, names_found, too_wide, names_signals, all_name_signals, no_signals, target_name, target_range, target_member, target_members, left_side, start_of, left_empty, right_empty, some_append, bare_signals, all_bare_signals}
+use Rattle.std.proofs.Common.{◌≡◌, ℕ, true, ◌&&◌, Option, None, List, [], ◌∷◌, ◌++◌, length, map, refl, sym, ap, ap₂, ◌∙◌}
+use Rattle.design.proofs.Common.{and_parts, true_from_ne_false, map-append, Place, without_extension, find, range_names, Tree, AName, ASet, AParen, OneMember, SpanMember, Members, NoMember, MoreMembers, Context, targets_of, all_targets, some_signals, Term, Terms, Read, Set, NoTerm, Before, term_named, term_of, terms_of, named_before, SignalUse, term_uses, all_term_uses, NotAnOutput, found_use, name_found, names_found, too_wide, names_signals, all_name_signals, no_signals, target_name, target_range, target_member, target_members, left_side, start_of, left_empty, right_empty, some_append, bare_signals, all_bare_signals}
 use Rattle.design.proofs.GivenBlocks.{bare}
 
 -- ---- of which nothing is refused
@@ -10,11 +10,8 @@ module _ (d : Context) where
   name_bare p q w e =
       let f = found_use p (name_found (names_found d.names) w) in
       let t = term_named d.known w in
-      alone (names_signals t) (right_empty f.specials (no_signals q (find d.names w) t) (right_empty f.refusals (f.specials ++ no_signals q (find d.names w) t) e))
-    where
-      alone : (b : Bool) → (if b then [] else NotAnOutput q (find d.names w) ∷ []) ≡ [] → b ≡ true
-      alone true e = refl
-      alone false e = absurd cc
+      let none : no_signals q (find d.names w) t ≡ [] = right_empty f.specials (no_signals q (find d.names w) t) (right_empty f.refusals (f.specials ++ no_signals q (find d.names w) t) e) in
+      true_from_ne_false (names_signals t) (λ other. let bad : NotAnOutput q (find d.names w) ∷ [] ≡ [] = rw other at none in cc)
 
   range_bare : (p : Place) (names : List (List ℕ)) (ts : Terms) → all_name_signals ts ≡ true → (target_range d p names).refusals ≡ [] → all_name_signals (named_before d.known names ts) ≡ true
   range_bare p [] ts h e = h

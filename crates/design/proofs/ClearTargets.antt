@@ -1,7 +1,7 @@
 -- Where nothing is refused of several units, of an assignment, of a table or of a diagram, nothing is refused of their
 -- parts, and the signals of their targets are nodes and pins of cells.
-use Rattle.std.proofs.Common.{◌≡◌, ℕ, ◌==◌, Bool, true, false, ◌&&◌, ◌||◌, if◌then◌else◌, Option, Some, List, [], ◌∷◌, ◌++◌, inl, inr, refl, ap, subst, None, sym, ◌∙◌, length}
-use Rattle.design.proofs.Common.{list_any, and_parts, eqb-true, or_cases, Place, Extension, is_data, Context, name_at, some_signals, NotAnOutput, Manner, manner_of, is_output_kind, is_output, may_be_assigned, no_output, mixed, aims_refused, left_empty, right_empty, positions_of, among, Named, signals_of, assigned_each, is_assigned, Tree, RowTree, term_of, expression_found, CountedUnit, units_refused, is_clocked, StateTree, Found, TargetFound, target_member, refused_append, unless_any, assigned_aims, taken_refused, assign_refused, registers_refused, register_manners, units_of_states, units_behind, units_of_diagram, if_none}
+use Rattle.std.proofs.Common.{◌≡◌, ℕ, ◌==◌, Bool, true, false, ◌&&◌, ◌||◌, Option, Some, List, [], ◌∷◌, ◌++◌, inl, inr, refl, ap, subst, None, sym, ◌∙◌, length}
+use Rattle.design.proofs.Common.{list_any, and_parts, true_from_ne_false, eqb-true, or_cases, Place, Extension, is_data, Context, name_at, some_signals, NotAnOutput, Manner, manner_of, is_output_kind, is_output, may_be_assigned, no_output, mixed, aims_refused, left_empty, right_empty, positions_of, among, Named, signals_of, assigned_each, is_assigned, Tree, RowTree, term_of, expression_found, CountedUnit, units_refused, is_clocked, StateTree, Found, TargetFound, target_member, refused_append, unless_any, assigned_aims, taken_refused, assign_refused, registers_refused, register_manners, units_of_states, units_behind, units_of_diagram, if_none}
 use Rattle.section_targets.specs.declared.aim.Aim.{Aim}
 use Rattle.set_expr.specs.declared.fault.SectionFault.{SectionFault}
 use Rattle.abel_meaning.specs.CountedBlocks.{table_units}
@@ -68,11 +68,10 @@ module _ (d : Context) (s : ℕ) where
   IsOutput = is_output_kind d.device (name_at d s).kind ≡ true
 
   output_there : (j : ℕ) (p : Place) (m : Manner) → no_output d.device (name_at d j) p m ≡ [] → j ≡ s → IsOutput
-  output_there j p m h e = subst (λ n. is_output_kind d.device (name_at d n).kind ≡ true) e (and_parts (is_output_kind d.device (name_at d j).kind) (may_be_assigned m.extension && (is_data m.extension || (name_at d j).assigned)) (holds (is_output d.device (name_at d j) m.extension) h)).0
-    where
-      holds : (b : Bool) → (if b then [] else NotAnOutput p (Some m.signal) ∷ []) ≡ [] → b ≡ true
-      holds true e = refl
-      holds false e = absurd cc
+  output_there j p m h e =
+      let output = true_from_ne_false (is_output d.device (name_at d j) m.extension) (λ other. let bad : NotAnOutput p (Some m.signal) ∷ [] ≡ [] = rw other at h in cc) in
+      subst (λ n. is_output_kind d.device (name_at d n).kind ≡ true) e
+      (and_parts (is_output_kind d.device (name_at d j).kind) (may_be_assigned m.extension && (is_data m.extension || (name_at d j).assigned)) output).0
 
   -- each signal of a target that isn't refused is an output
   pub aimed_output : (before : List Manner) (e : Option Extension) (c k : Bool) (aims : List Aim) → aims_refused d before e c k aims ≡ [] → is_aimed s aims ≡ true → IsOutput

@@ -1,16 +1,15 @@
 -- Where nothing is refused of the sections, the polarity of a free register may be chosen.
-use Rattle.std.proofs.Common.{◌≡◌, ℕ, ◌==◌, Bool, true, false, not, ◌&&◌, if◌then◌else◌, Option, None, Some, List, [], ◌∷◌, inl, inr, refl, sym, ap, ◌∙◌}
-use Rattle.design.proofs.Common.{AllByRecursion, list_any, and_parts, cases_Bool, not-true, or_parts, true≢false, list_any-append, Formula, Flip, Table, Extension, signals_of, target_extension, without_extension, is_assigned, is_clocked_target, Entry, is_signal, is_stored, Tree, ModuleTree, is_data, is_raw, Contribution, is_the_control, is_control, control_by, declared_names, Design, design_of, name_at, formulas, is_data_to, is_raw_signal, Part, ATarget, AValue, sections_parts, read_in, part_reads, parts_read, held_by, held_of, is_shared, part_shares, is_held, is_buffer_by_default, is_registered, is_buffer, is_open, stays_free, words_with_kind, with_kind, given_formulas, term_of, HasNoEquation, among, FreeMayChoose, HaveBareHeaders}
+use Rattle.std.proofs.Common.{◌≡◌, ℕ, ◌==◌, Bool, true, false, not, ◌&&◌, if◌then◌else◌, Option, None, Some, List, [], ◌∷◌, refl, sym, ap, ◌∙◌}
+use Rattle.design.proofs.Common.{AllByRecursion, list_any, and_parts, false_from_ne_true, not-true, or_parts, true≢false, list_any-append, Formula, Flip, Table, Extension, signals_of, target_extension, without_extension, is_assigned, is_clocked_target, Entry, is_signal, is_stored, Tree, ModuleTree, is_data, is_raw, Contribution, is_the_control, is_control, control_by, declared_names, Design, design_of, name_at, formulas, is_data_to, is_raw_signal, Part, ATarget, AValue, sections_parts, read_in, part_reads, parts_read, held_by, held_of, is_shared, part_shares, is_held, is_buffer_by_default, is_registered, is_buffer, is_open, stays_free, with_kind, given_formulas, term_of, HasNoEquation, among, FreeMayChoose, HaveBareHeaders}
 use Rattle.std.proofs.Math.Bool.{and-false}
 use Rattle.pld_device.specs.declared.flip.Flip.TheVariants.{AfterRegister}
 use Rattle.abel_tree.specs.declared.words.Extension.TheVariants as extension
 use Rattle.abel_meaning.specs.Choices.{is_free}
-use Rattle.design.proofs.AssignedNames.{own_names, own_held, own_assigned, same_targets, declared_there, signal_there}
+use Rattle.design.proofs.AssignedNames.{is_read, own_names, own_held, own_assigned, same_targets, declared_there, signal_there}
 use Rattle.design.proofs.BareTargets.{bare_alike}
 use Rattle.design.proofs.Each.{each_always, each_weaker, Misses, any_none, none_any, none_filtered}
 use Rattle.design.proofs.GivenSections.{IsBare, MayGive}
 use Rattle.design.proofs.GivenSignals.{EachOwn, own_given, control_extension}
-use Rattle.design.proofs.HeldTargets.{is_read}
 use Rattle.design.proofs.NamedTerms.{signals_in, without_alike}
 
 -- ---- what is free
@@ -29,10 +28,7 @@ by_default _ h = absurd cc
 
 shared_control : (e : Extension) → is_shared (Some e) ≡ true → (o : Option Extension) → is_shared o ≡ false → is_the_control e o ≡ false
 shared_control e shared o other =
-    elim (cases_Bool (is_the_control e o)) [
-      | inl is ↦ absurd (true≢false (sym shared ∙ ap is_shared (sym (control_extension e o is)) ∙ other))
-      | inr differs ↦ differs
-    ]
+    false_from_ne_true (is_the_control e o) (λ is. true≢false (sym shared ∙ ap is_shared (sym (control_extension e o is)) ∙ other))
 
 -- ---- a module
 
@@ -66,18 +62,8 @@ module _ (t : Table) (m : ModuleTree) (bare : AllByRecursion (IsBare (design_of 
     abbrev NotRaw : Option Extension → ℕ → Type 0
     NotRaw e j = (((j == s) && is_data e) && is_raw e) ≡ false
 
-    raw_plain : (j : ℕ) → NotRaw None j
-    raw_plain j = and-false ((j == s) && true)
-
     abbrev held : List ℕ → Bool → List ℕ
     held = held_by (held_of (declared_names m))
-
-    not_among : (xs ys : List ℕ) → (among s xs ≡ true → among s ys ≡ true) → among s ys ≡ false → among s xs ≡ false
-    not_among xs ys more none =
-        elim (cases_Bool (among s xs)) [
-          | inl there ↦ absurd (true≢false (sym (more there) ∙ none))
-          | inr other ↦ other
-        ]
 
     -- the target of a raw input names nothing that isn't held
     target_free : (x : Tree) → IsBare d.context (ATarget x) → (raw : Bool) → is_raw (target_extension x) ≡ raw → among s (if raw then read_in held true (without_extension x) else []) ≡ false
@@ -90,7 +76,7 @@ module _ (t : Table) (m : ModuleTree) (bare : AllByRecursion (IsBare (design_of 
         let own = without_extension x in
         let named = signals_of (own_names t m) own in
         let same : signals_in (term_of d.context.known x) ≡ named = without_alike d.context.known x ∙ ((bare_alike (term_of d.context.known own) clear).0 ∙ sym (same_targets t m own)) in
-        let none = not_among named (read_in held true own) (is_read s (declared_names m) own) free in
+        let none = false_from_ne_true (among s named) (λ there. true≢false (sym (is_read s (declared_names m) own there) ∙ free)) in
         each_weaker (Misses (λ j. j == s)) (NotRaw e) (λ j other. ap (λ b. (b && is_data e) && is_raw e) other) (signals_in (term_of d.context.known x))
         (any_none (λ j. j == s) (signals_in (term_of d.context.known x)) (ap (among s) same ∙ none))
 
@@ -108,27 +94,18 @@ module _ (t : Table) (m : ModuleTree) (bare : AllByRecursion (IsBare (design_of 
     named : is_held (own_held t m) s ≡ false → is_raw_signal (given_formulas d) s ≡ false
     named free =
         none_any (λ (c : Contribution Formula). is_data_to s c && is_raw c.extension) (given_formulas d)
-        (each_own NotRaw raw_plain (parts_free (sections_parts m.sections) bare (or_parts (own_held t m).all (list_any (λ h. h == s) (own_held t m).signals) free).1))
+        (each_own NotRaw (λ j. and-false ((j == s) && true)) (parts_free (sections_parts m.sections) bare (or_parts (own_held t m).all (list_any (λ h. h == s) (own_held t m).signals) free).1))
 
   -- ---- what is free
 
   stays : (s : ℕ) (x : Entry) → is_signal x.kind ≡ true → is_free (with_kind t.flip (own_held t m) (own_assigned t m) s x) ≡ true
       → (t.flip ≡ AfterRegister) × (is_held (own_held t m) s ≡ false)
-  stays s x signal h = by (is_signal x.kind) signal h
-    where
-      registered : Bool
-      registered = is_registered x.words (is_clocked_target (own_assigned t m) s)
-
-      by : (b : Bool) → b ≡ true
-          → (((if b then words_with_kind t.flip (own_held t m) s x.words registered else x.words).registered && is_assigned (own_assigned t m) s)
-          && (not (if b then words_with_kind t.flip (own_held t m) s x.words registered else x.words).buffer && not (if b then words_with_kind t.flip (own_held t m) s x.words registered else x.words).invert)) ≡ true
-          → (t.flip ≡ AfterRegister) × (is_held (own_held t m) s ≡ false)
-      by true here free =
-          let is = must_be_free (registered && is_assigned (own_assigned t m) s) (is_buffer t.flip x.words) (stays_free t.flip (own_held t m) s x.words registered) free in
-          let kept = and_parts (is_open t.flip x.words) (not (is_held (own_held t m) s)) (and_parts registered (is_open t.flip x.words && not (is_held (own_held t m) s)) is).1 in
-          let default = (and_parts (not x.words.invert) (is_buffer_by_default t.flip) (and_parts (not x.words.buffer) (not x.words.invert && is_buffer_by_default t.flip) kept.0).1).1 in
-          (by_default t.flip default, not-true (is_held (own_held t m) s) kept.1)
-      by false here free = absurd cc
+  stays s x signal h =
+      let registered = is_registered x.words (is_clocked_target (own_assigned t m) s) in
+      let is = must_be_free (registered && is_assigned (own_assigned t m) s) (is_buffer t.flip x.words) (stays_free t.flip (own_held t m) s x.words registered) (rw signal at h) in
+      let kept = and_parts (is_open t.flip x.words) (not (is_held (own_held t m) s)) (and_parts registered (is_open t.flip x.words && not (is_held (own_held t m) s)) is).1 in
+      let default = (and_parts (not x.words.invert) (is_buffer_by_default t.flip) (and_parts (not x.words.buffer) (not x.words.invert && is_buffer_by_default t.flip) kept.0).1).1 in
+      (by_default t.flip default, not-true (is_held (own_held t m) s) kept.1)
 
   pub free_may_choose : FreeMayChoose d
   free_may_choose s free =

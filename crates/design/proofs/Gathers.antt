@@ -35,12 +35,11 @@ module _ (t : Table) (laws : IsDevice t) (source : Module) (n : Names) (found : 
 
   -- ---- targets
 
-  signal_inside : (s : ℕ) → IsSignalOf d.context s → s < length d.context.names
-  signal_inside s signal = inside d.context s (λ device. true≢false (sym signal ∙ ap is_signal device))
-
   each_inside : (cs : List Contribution) → EachSignal (IsSignalOf d.context) (map (view_contribution (arena found.exprs)) cs) → AreToNames (length d.context.names) cs
   each_inside [] each = All-nil (λ (c : Contribution). c.target.signal < length d.context.names)
-  each_inside (c ∷ cs) each = All-cons (λ (c : Contribution). c.target.signal < length d.context.names) c cs (signal_inside c.target.signal each.0) (each_inside cs each.1)
+  each_inside (c ∷ cs) each =
+      All-cons (λ (c : Contribution). c.target.signal < length d.context.names) c cs
+      (inside d.context c.target.signal (λ device. true≢false (sym each.0 ∙ ap is_signal device))) (each_inside cs each.1)
 
   -- each contribution is to a name
   pub to_names : AreToNames (length (entries_of n)) found.list

@@ -1,13 +1,13 @@
 -- Each contribution to a design is to a signal, and each control is one that its signal has.
-use Rattle.std.proofs.Common.{◌≡◌, ℕ, ◌==◌, Bool, true, false, not, ◌||◌, cond, Option, None, Some, List, [], ◌∷◌, map, refl, sym, ap, subst, ◌∙◌, IsSome, filter, is_none}
-use Rattle.design.proofs.Common.{AllByRecursion, list_any, and_parts, eqb-true, Table, Formula, Extension, Kind, APin, Entry, is_signal, is_stored, Tree, Contribution, Evaluator, is_control, is_the_control, control_by, control_of, Design, name_at, formulas, is_data_to, Part, ATarget, AValue, sections_parts, given_formulas, targets_of, some_signals, known_of, term_of, view_contribution, lacking_controls, lacks_by, lacks_control, pin_lacks, SignalUse, given_uses, PlacedUse, design_uses, HaveBareHeaders, EachTarget, IsSignalOf, signal_targets}
+use Rattle.std.proofs.Common.{◌≡◌, ℕ, ◌==◌, Bool, true, false, not, ◌||◌, Option, None, Some, List, [], ◌∷◌, map, refl, sym, ap, subst, ◌∙◌, IsSome, filter, is_none}
+use Rattle.design.proofs.Common.{AllByRecursion, true_from_ne_false, list_any, and_parts, eqb-true, Table, Formula, Extension, Kind, APin, Entry, is_signal, is_stored, Tree, Contribution, Evaluator, is_control, is_the_control, control_by, control_of, Design, name_at, formulas, is_data_to, Part, ATarget, AValue, sections_parts, given_formulas, targets_of, some_signals, known_of, term_of, view_contribution, lacking_controls, lacks_by, lacks_control, pin_lacks, SignalUse, given_uses, PlacedUse, design_uses, HaveBareHeaders, EachTarget, IsSignalOf, signal_targets}
 use Rattle.abel_tree.specs.declared.words.Extension.TheVariants as extension
 use Rattle.abel_meaning.specs.Follows.{seen}
 use Rattle.set_expr.specs.declared.contributions.Contribution as code
 use Rattle.netlist_laws.proofs.SourcedFormulas.{Sourced, sourced_contributions, formulas_are, uses_are}
 use Rattle.design.proofs.AssignedData.{has_data}
-use Rattle.design.proofs.Each.{each_always, each_weaker, some_of}
-use Rattle.design.proofs.GivenBlocks.{IsGood}
+use Rattle.design.proofs.Each.{each_always, each_weaker, some_of, any_none, none_filtered}
+use Rattle.design.proofs.GivenBlocks.{IsGood, EachGood}
 use Rattle.design.proofs.GivenSections.{MayGive, sections_part}
 use Rattle.design.proofs.NamedTerms.{signals_in}
 use Rattle.design.proofs.Unlisted.{HasControl, controls_there}
@@ -52,12 +52,8 @@ module _ (d : Design) where
 
 -- a control that is there is given by some contribution
 control_given : (ev : Evaluator Formula) (test : Contribution Formula → Bool) (cs : List (Contribution Formula)) (f : Formula) → control_by ev (filter test cs) ≡ Some f → list_any test cs ≡ true
-control_given ev test [] f e = absurd cc
-control_given ev test (c ∷ cs) f e = by (test c) (λ g. control_given ev test cs f g) e
-  where
-    by : (b : Bool) → (control_by ev (filter test cs) ≡ Some f → list_any test cs ≡ true) → control_by ev (cond b (c ∷ filter test cs) (filter test cs)) ≡ Some f → (b || list_any test cs) ≡ true
-    by true more e = refl
-    by false more e = more e
+control_given ev test cs f e =
+    true_from_ne_false (list_any test cs) (λ none. let bad : None ≡ Some f = sym (ap (control_by ev) (none_filtered test cs (any_none test cs none))) ∙ e in cc)
 
 -- a control is given by its own extension
 pub control_extension : (e : Extension) (o : Option Extension) → is_the_control e o ≡ true → o ≡ Some e
@@ -80,9 +76,8 @@ pub record IsRowed (x : Entry) (row : Option ℕ) : Type 0 where
   pub there : IsSome row
 
 stored_row : (stored : Bool) (row : Option ℕ) → (not stored || is_none row) ≡ false → (stored ≡ true) × IsSome row
-stored_row true None has = absurd cc
 stored_row true (Some r) has = (refl, refl)
-stored_row false row has = absurd cc
+stored_row _ _ has = absurd cc
 
 -- so is a signal that has the control
 rowed : (t : Table) (x : Entry) (e : Extension) (row : Option ℕ) → ((stored : Bool) → pin_lacks t stored (Some e) ≡ (not stored || is_none row)) → (kind : Kind) → x.kind ≡ kind → is_signal kind ≡ true → lacks_by t (is_stored x) kind (Some e) ≡ false → IsRowed x row
@@ -91,43 +86,48 @@ rowed t x e row own (APin pin negated) is signal has =
     record { pin = pin; negated = negated; kind = is; stored = at.0; there = at.1 }
 rowed t x e row own _ is signal has = absurd cc
 
-module _ (d : Design) (known : d.context.known ≡ known_of d.context.names) (headers : HaveBareHeaders d.context d.sections) where
+module _ (d : Design) (known : d.context.known ≡ known_of d.context.names) where
   abbrev ToSignal : Option Extension → ℕ → Type 0
   ToSignal e s = IsSignalOf d.context s
 
-  targets : (t : Tree) → AllByRecursion (IsSignalOf d.context) (signals_in (term_of d.context.known t))
+  pub targets : (t : Tree) → AllByRecursion (IsSignalOf d.context) (signals_in (term_of d.context.known t))
   targets t = each_some (IsSignalOf d.context) (targets_of (term_of d.context.known t)) (signal_targets d.context known t)
 
   may_give : (p : Part) → MayGive d.context ToSignal p
   may_give (ATarget t) = targets t
   may_give (AValue t) = tt
 
+  all_give : AllByRecursion (MayGive d.context ToSignal) (sections_parts d.sections)
+  all_give = each_always (MayGive d.context ToSignal) may_give (sections_parts d.sections)
+
+module _ (d : Design) (known : d.context.known ≡ known_of d.context.names) (headers : HaveBareHeaders d.context d.sections) where
   -- each contribution is to a signal
   pub given_signals : EachSignal (IsSignalOf d.context) (given_formulas d)
-  given_signals = own_given d ToSignal (λ e s is. is) targets headers (each_always (MayGive d.context ToSignal) may_give (sections_parts d.sections))
+  given_signals = own_given d (ToSignal d known) (λ e s is. is) (targets d known) headers (all_give d known)
+
+  -- and reads what the uses do
+  pub good_signals : (P : SignalUse → Type 0) → AllByRecursion (λ (u : PlacedUse). P u.read) (design_uses d) → EachGood d.context P (λ e s. IsSignalOf d.context s) (λ e s is. is) (given_uses d)
+  good_signals P reads =
+      (sections_part d.context P (λ e s. IsSignalOf d.context s) (λ e s is. is) 0 [] (targets d known) d.starts_dontcare 0 [] d.sections).good headers reads (all_give d known)
 
   module _ (fs : List Formula) (cs : List code.Contribution) (same : map (view_contribution fs) cs ≡ given_formulas d) (controls : lacking_controls d.context.device d.context.names cs ≡ []) where
-    -- a control with an equation is one that its signal has
-    had_by : (e : Extension) (s : ℕ) (f : Formula) → control_of (formulas d.context) (given_formulas d) s e ≡ Some f
-        → (lacks_control d.context.device (name_at d.context s) (Some e) ≡ false) × IsSignalOf d.context s
-    had_by e s f is =
-        let some = control_given (formulas d.context) (is_control s e) (given_formulas d) f is in
-        let there = subst (AllByRecursion (HasControl d.context fs)) same (controls_there d.context fs cs controls) in
-        let c = some_of (HasControl d.context fs) (is_control s e) (given_formulas d) there some in
-        let k = some_of (λ (x : Contribution Formula). IsSignalOf d.context x.signal) (is_control s e) (given_formulas d) given_signals some in
+    -- what holds of each signal and extension that something is given to holds of those of a control with an equation
+    of_control : (Q : ℕ → Option Extension → Type 0) → AllByRecursion (λ (c : Contribution Formula). Q c.signal c.extension) (given_formulas d) → (e : Extension) (s : ℕ) (f : Formula)
+        → control_of (formulas d.context) (given_formulas d) s e ≡ Some f → Q s (Some e)
+    of_control Q all e s f is =
+        let c = some_of (λ (c : Contribution Formula). Q c.signal c.extension) (is_control s e) (given_formulas d) all (control_given (formulas d.context) (is_control s e) (given_formulas d) f is) in
         let parts = and_parts (c.0.signal == s) (is_the_control e c.0.extension) c.2 in
-        let to_same : c.0.signal ≡ s = eqb-true c.0.signal s parts.0 in (
-          sym (ap (λ o. lacks_control d.context.device (name_at d.context s) o) (control_extension e c.0.extension parts.1))
-              ∙ sym (ap (λ n. lacks_control d.context.device (name_at d.context n) c.0.extension) to_same) ∙ c.1,
-          subst (IsSignalOf d.context) (eqb-true k.0.signal s (and_parts (k.0.signal == s) (is_the_control e k.0.extension) k.2).0) k.1,
-        )
+        subst (λ n. Q n (Some e)) (eqb-true c.0.signal s parts.0) (subst (Q c.0.signal) (control_extension e c.0.extension parts.1) c.1)
+
+    had : (e : Extension) (row : Option ℕ) → ((stored : Bool) → pin_lacks d.context.device stored (Some e) ≡ (not stored || is_none row)) → (s : ℕ) (f : Formula)
+        → control_of (formulas d.context) (given_formulas d) s e ≡ Some f → IsRowed (name_at d.context s) row
+    had e row own s f is =
+        let there = subst (AllByRecursion (HasControl d.context fs)) same (controls_there d.context fs cs controls) in
+        rowed d.context.device (name_at d.context s) e row own (name_at d.context s).kind refl (of_control (λ n o. IsSignalOf d.context n) given_signals e s f is)
+        (of_control (λ n o. lacks_control d.context.device (name_at d.context n) o ≡ false) there e s f is)
 
     pub reset_had : (s : ℕ) (f : Formula) → control_of (formulas d.context) (given_formulas d) s extension.Ar ≡ Some f → IsRowed (name_at d.context s) d.context.device.reset
-    reset_had s f is =
-        let own = had_by extension.Ar s f is in
-        rowed d.context.device (name_at d.context s) extension.Ar d.context.device.reset (λ stored. refl) (name_at d.context s).kind refl own.1 own.0
+    reset_had = had extension.Ar d.context.device.reset (λ stored. refl)
 
     pub preset_had : (s : ℕ) (f : Formula) → control_of (formulas d.context) (given_formulas d) s extension.Sp ≡ Some f → IsRowed (name_at d.context s) d.context.device.preset
-    preset_had s f is =
-        let own = had_by extension.Sp s f is in
-        rowed d.context.device (name_at d.context s) extension.Sp d.context.device.preset (λ stored. refl) (name_at d.context s).kind refl own.1 own.0
+    preset_had = had extension.Sp d.context.device.preset (λ stored. refl)

@@ -5,13 +5,11 @@ mod CellResets
 pub mod ClearTargets
 pub mod Common
 pub mod Each
-mod Firsts
 pub mod FreeRegisters
 mod Gathers
 pub mod GivenBlocks
 pub mod GivenSections
 pub mod GivenSignals
-pub mod HeldTargets
 mod LinkSizes
 pub mod NamedTerms
 pub mod SoundModules

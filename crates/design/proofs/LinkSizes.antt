@@ -1,6 +1,6 @@
 -- The links of a design are few, and each leaf has a number that leaves may have.
 use Rattle.std.proofs.Common.{◌≡◌, ◌≢◌, ℕ, zero, suc, ◌+◌, ◌<◌, ◌≤◌, Bool, true, false, ◌||◌, eqb, List, [], ◌∷◌, length, map, get_or, Option, Some, None, refl, sym, ap, ◌∙◌, subst, inl, inr, arith, if◌then◌else◌, is_some}
-use Rattle.design.proofs.Common.{IsDistinct, option_map, cases_lt, eqb-true, eq-eqb, ne_eqb, get_or-map, length-map, position-Some, none-some, same_Some, has, few, place_of, IsDevice, Table, cell_at, no_cell, Leaf, IsLeaf, Kind, APin, ANode, Entry, is_stored, cell_on, is_pin, Design, name_at, no_name, given_formulas, settles, leaf_by, PinsApart, NodesAreFew, cell_by, Link, is_linked, IsLinkOf, AreLinks, AreSignals, is_node_kind}
+use Rattle.design.proofs.Common.{IsDistinct, option_map, cases_lt, eqb-true, eq-eqb, ne_eqb, get_or-map, length-map, position-Some, slice_get_past, same_Some, has, few, place_of, IsDevice, Table, cell_at, no_cell, Leaf, IsLeaf, Kind, APin, ANode, Entry, is_stored, cell_on, is_pin, Design, name_at, no_name, given_formulas, settles, leaf_by, PinsApart, NodesAreFew, cell_by, Link, is_linked, IsLinkOf, AreLinks, AreSignals, is_node_kind}
 use Rattle.std.proofs.lemmas.Map.Keys.{IsDistinct-from_apart}
 use Rattle.bit_expr.specs.declared.node.Leaf.TheVariants as leaf
 use Rattle.netlist_laws.proofs.CellsFound.{has_pin}
@@ -44,11 +44,6 @@ number_of _ = 0
 abbrev is_linked_by : Table → Entry → Kind → Bool
 is_linked_by t x kind = is_node_kind kind || is_some (cell_by t x kind)
 
-leaf_past : (ls : List Link) (v : ℕ) → length ls ≤ v → leaf_in ls v ≡ None
-leaf_past [] v far = refl
-leaf_past (l ∷ ls) zero far = absurd (omega (arith, far))
-leaf_past (l ∷ ls) (suc v) far = leaf_past ls v (omega (arith, far))
-
 module _ (d : Design) (laws : IsDevice d.context.device) (nodes : NodesAreFew d.context) where
   cell_small : (pin c : ℕ) → cell_on d.context.device pin ≡ Some c → (c < 32) × (pin < 32)
   cell_small pin c on =
@@ -62,8 +57,7 @@ module _ (d : Design) (laws : IsDevice d.context.device) (nodes : NodesAreFew d.
     where
       by : (b : Bool) (o : Option ℕ) → cell_on d.context.device pin ≡ o → is_some (if b then o else None) ≡ true → pin < 32
       by true (Some c) on is = (cell_small pin c on).1
-      by true None on is = absurd cc
-      by false o on is = absurd cc
+      by _ _ on is = absurd cc
 
   leaf_of_pin : (x : Entry) (pin : ℕ) (l : Leaf) (stored settled : Bool) (o : Option ℕ) → cell_on d.context.device pin ≡ o → pin < 32 → (if stored then option_map leaf.Q o else if settled then Some (leaf.Pin pin) else None) ≡ Some l → IsLeaf l
   leaf_of_pin x pin l true settled (Some c) on low is = subst IsLeaf (same_Some (leaf.Q c) l is) (cell_small pin c on).0
@@ -117,7 +111,7 @@ module _ (d : Design) (laws : IsDevice d.context.device) (nodes : NodesAreFew d.
       are_leaves v l is =
           elim (cases_lt v (length ls)) [
             | inl low ↦ leaf_by_link v l low is
-            | inr far ↦ absurd (none-some l (sym (leaf_past ls v far) ∙ is))
+            | inr far ↦ absurd (let bad : None ≡ Some l = rw (slice_get_past ls v far) at is in cc)
           ]
 
       -- ---- how many

@@ -1,33 +1,25 @@
 -- A module is accepted whose declarations and sections are, and so are the names that are declared of it.
-use Rattle.std.proofs.Common.{◌≡◌, ℕ, ◌+◌, ◌==◌, Bool, true, false, ◌||◌, cond, Option, None, Some, List, [], ◌∷◌, ◌++◌, length, refl, sym, subst, ◌∙◌, ◌<◌, take, get_or, ap, inl, inr, IsSome, slice_get}
-use Rattle.design.proofs.Common.{AllByRecursion, list_any, position_from, Cell, Table, arena, Extension, Tree, SectionTree, ADiagram, ModuleTree, cell_on, Context, Design, design_of, sections_parts, term_of, SignalUse, given_uses, constants_refused, Manner, is_cell_pin, is_output_kind, units_refused, all_refused, limit_refused, right_empty, section_manners, units_of_section, units_of_sections, AssignedAreOnCells, AssignedHaveData, HasBareHeader, HaveBareHeaders, IsAccepted, AreGiven, HasSoundSections, HasSoundDeclarations, cases_lt, get_or_past, slice_get-get_or, ANode, ADeviceName, Entry, no_name, names_of, NamesAreAccepted}
-use Rattle.std.proofs.lemmas.Iterator.Adapters.{position_from-zero}
-use Rattle.std.specs.List.{flat_map}
-use Rattle.name_uses.specs.Parts.{parts_in_section}
+use Rattle.std.proofs.Common.{◌≡◌, ℕ, ◌==◌, true, Some, List, [], ◌∷◌, ◌++◌, length, refl, sym, subst, ◌∙◌, ◌<◌, take, get_or, ap, inl, inr, IsSome, slice_get}
+use Rattle.design.proofs.Common.{Cell, Table, arena, SectionTree, ADiagram, ModuleTree, cell_on, Context, Design, design_of, sections_parts, given_uses, design_uses, constants_refused, Manner, is_cell_pin, is_output_kind, units_refused, all_refused, limit_refused, right_empty, section_manners, units_of_section, units_of_sections, AssignedAreOnCells, AssignedHaveData, HasBareHeader, HaveBareHeaders, IsAccepted, HasSoundSections, HasSoundDeclarations, cases_lt, get_or_past, slice_get-get_or, ANode, ADeviceName, Entry, no_name, names_of, NamesAreAccepted, IsSignalOf}
+use Rattle.std.proofs.lemmas.List.Folds.{Any-from_list_any}
+use Rattle.netlist_laws.proofs.SoundLeaves.{some_place}
 use Rattle.source_sections.specs.SectionAnswers.{source_units}
 use Rattle.design.proofs.AssignedNames.{own_names, own_assigned, names_within, by_sections, signal_there}
 use Rattle.design.proofs.BareTargets.{member_bare}
-use Rattle.design.proofs.Each.{each_always}
 use Rattle.design.proofs.FreeRegisters.{free_may_choose}
 use Rattle.design.proofs.GivenSections.{IsPart, sections_part}
-use Rattle.design.proofs.GivenSignals.{data_formulas}
-use Rattle.design.proofs.NamedTerms.{signals_in}
+use Rattle.design.proofs.GivenSignals.{AnyUse, data_formulas, targets}
 use Rattle.design.proofs.ClearTargets.{first_units, last_units, diagram_clear}
 use Rattle.abel_tree.specs.SoundNames.{IsSoundKind}
 use Rattle.declared_names.specs.AcceptedNames.{PinsAreApart, BuffersAreAllowed}
 
 -- ---- cells
 
-some_from : (test : Cell → Bool) (i : ℕ) (cs : List Cell) → list_any test cs ≡ true → IsSome (position_from test i cs)
-some_from test i [] h = absurd cc
-some_from test i (c ∷ cs) h = by (test c) h (some_from test (i + 1) cs)
-  where
-    by : (b : Bool) → (b || list_any test cs) ≡ true → (list_any test cs ≡ true → IsSome (position_from test (i + 1) cs)) → IsSome (cond b (Some i) (position_from test (i + 1) cs))
-    by true h more = refl
-    by false h more = more h
-
 cell_there : (t : Table) (pin : ℕ) → is_cell_pin t pin ≡ true → IsSome (cell_on t pin)
-cell_there t pin h = subst IsSome (sym (position_from-zero (λ (c : Cell). c.pin == pin) t.cells)) (some_from (λ (c : Cell). c.pin == pin) 0 t.cells h)
+cell_there t pin h =
+    let test = λ (c : Cell). c.pin == pin in
+    let at = Any-from_list_any test t.cells h in
+    subst IsSome (sym (some_place test at.1 t.cells at.0 at.2 (ap test at.3 ∙ at.4)).1) refl
 
 -- ---- sections
 
@@ -53,30 +45,15 @@ module _ (t : Table) (m : ModuleTree) where
   abbrev d : Design
   d = design_of t m
 
-  abbrev AnyUse : SignalUse → Type 0
-  AnyUse u = Unit {0}
+  part : (s : ℕ) → IsPart d.context AnyUse (λ e j. IsSignalOf d.context j) (λ e j is. is) s (own_names t m) (targets d refl) (HaveBareHeaders d.context m.sections) (source_units d) (design_uses d) (sections_parts m.sections) (own_assigned t m) (given_uses d)
+  part s = sections_part d.context AnyUse (λ e j. IsSignalOf d.context j) (λ e j is. is) s (own_names t m) (targets d refl) d.starts_dontcare 0 [] m.sections
 
-  abbrev AnyOwn : Option Extension → ℕ → Type 0
-  AnyOwn e j = Unit {0}
-
-  named : (x : Tree) → AllByRecursion (AnyOwn None) (signals_in (term_of d.context.known x))
-  named x = each_always (AnyOwn None) (λ j. tt) (signals_in (term_of d.context.known x))
-
-  part : (s : ℕ) → IsPart d.context AnyUse AnyOwn (λ e j k. tt) s (own_names t m) named (HaveBareHeaders d.context m.sections) (source_units d) (flat_map parts_in_section m.sections) (sections_parts m.sections) (own_assigned t m) (given_uses d)
-  part s = sections_part d.context AnyUse AnyOwn (λ e j k. tt) s (own_names t m) named d.starts_dontcare 0 [] m.sections
-
-  data_there : AssignedHaveData d
+  pub data_there : AssignedHaveData d
   data_there s h = data_formulas d s ∙ (part s).given (names_within t m s) (by_sections t m s h)
 
-  on_cells : HasSoundSections d → AssignedAreOnCells d.context
+  pub on_cells : HasSoundSections d → AssignedAreOnCells d.context
   on_cells r s pin negated kind h =
       cell_there t pin (subst (λ k. is_output_kind t k ≡ true) kind ((part s).output (names_within t m s) (units_clear d r) (by_sections t m s h)))
-
-pub all_given : (t : Table) (m : ModuleTree) → AreGiven (design_of t m)
-all_given t m = record { signals = signal_there t m; data_given = data_there t m }
-
-pub all_on_cells : (t : Table) (m : ModuleTree) → HasSoundSections (design_of t m) → AssignedAreOnCells (design_of t m).context
-all_on_cells t m = on_cells t m
 
 pub all_accepted : (t : Table) (m : ModuleTree) → HasSoundDeclarations (design_of t m).context → HasSoundSections (design_of t m) → IsAccepted (design_of t m)
 all_accepted t m n r =
@@ -91,15 +68,12 @@ all_accepted t m n r =
 
 -- ---- names
 
-no_node : (n : ℕ) → ADeviceName ≡ ANode n → ⊥
-no_node n e = absurd cc
-
 -- the number of a node that is sound
 node_below : (pins : ℕ) (es : List Entry) → ((k : ℕ) (e : Entry) → slice_get es k ≡ Some e → IsSoundKind pins (take k es) e.kind) → (s n : ℕ) → (get_or es s no_name).kind ≡ ANode n → n < 128
 node_below pins es sound s n kind =
     elim (cases_lt s (length es)) [
       | inl within ↦ subst (IsSoundKind pins (take s es)) kind (sound s (get_or es s no_name) (slice_get-get_or es s no_name within))
-      | inr past ↦ absurd (no_node n (sym (ap (λ (e : Entry). e.kind) (get_or_past es s no_name past)) ∙ kind))
+      | inr past ↦ absurd (let bad : ADeviceName ≡ ANode n = sym (ap (λ (e : Entry). e.kind) (get_or_past es s no_name past)) ∙ kind in cc)
     ]
 
 pub names_accepted : NamesAreAccepted

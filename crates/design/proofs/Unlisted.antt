@@ -51,12 +51,11 @@ mapped_empty f [] e = refl
 mapped_empty f (x ∷ xs) e = absurd cc
 
 module _ (d : Design) (fs : List Formula) (cs : List Contribution) where
-  controls_empty : HasSoundSignals d fs cs → target_controls d.context.device fs d.context.names cs ≡ []
-  controls_empty sound = left_empty (target_controls d.context.device fs d.context.names cs) (unwritten d ++ map told (missing_uses d)) sound.uses.controls.controls
-
   -- no target names what its signal doesn't have
   pub had : HasSoundSignals d fs cs → lacking_controls d.context.device d.context.names cs ≡ []
-  had sound = left_empty (lacking_controls d.context.device d.context.names cs) (other_levels d.context.device fs d.context.names cs) (controls_empty sound)
+  had sound =
+      left_empty (lacking_controls d.context.device d.context.names cs) (other_levels d.context.device fs d.context.names cs)
+      (left_empty (target_controls d.context.device fs d.context.names cs) (unwritten d ++ map told (missing_uses d)) sound.uses.controls.controls)
 
   pub unrefused : HasNoRefusal d fs cs → IsUnrefused d cs
   unrefused none = record {

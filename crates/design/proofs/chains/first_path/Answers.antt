@@ -1,10 +1,7 @@
 use Rattle.std.proofs.Common.{subst, take, sym, ◌+◌}
 use Rattle.design.proofs.Common.{take_all, arena, IsFirstFound}
-use Rattle.design.proofs.Firsts.{first_more, none_yet}
+use Rattle.design.proofs.CellResets.{first_more}
 use Rattle.design.proofs.chains.first_path.Goals as goal
-
-pub loop-wanted-init : goal.loop-wanted-init
-loop-wanted-init c = none_yet (arena c.args.exprs.now) c.args.signals.now c.args.links.now
 
 pub loop-wanted-preserved : goal.loop-wanted-preserved
 loop-wanted-preserved c =
