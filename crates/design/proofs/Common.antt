@@ -35,7 +35,7 @@ pub use Rattle.abel_tree.specs.Assigned.{Assigned, Named, assigned_by, assigned_
 pub use Rattle.abel_tree.specs.Assigned.{is_assigned, is_clocked, is_clocked_target, list_assigns, meant, named_after, named_of, other_assigns, section_assigns}
 pub use Rattle.abel_tree.specs.Assigned.{sections_assign, signals_of, signals_of_member, signals_of_members, signals_of_name, signals_of_names}
 pub use Rattle.abel_tree.specs.Assigned.{statement_assigns, statements_assign, states_assign, target_extension, with_assigns, without_extension}
-pub use Rattle.abel_tree.specs.Entries.{AConstant, ADeviceName, ANode, APin, Entry, Kind, entries_of, find, is_signal, is_stored}
+pub use Rattle.abel_tree.specs.Entries.{AConstant, ADeviceName, ANode, APin, Entry, Kind, entries_of, find, is_signal, is_stored, view_declared}
 pub use Rattle.abel_tree.specs.Extensions.{is_data, is_raw}
 pub use Rattle.abel_tree.specs.Ranges.{range_names}
 pub use Rattle.abel_tree.specs.Tree.{ABranch, ACase, ADiagram, ADontCare, AGoal, AGroup, AName, AParen, ASet, ASpecial, ATable, AWhen, AnAssign, AnElse, AnIf}

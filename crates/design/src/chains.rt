@@ -77,15 +77,6 @@ fn first_path(
     Ok(first)
 }
 
-/// Where the first name of a chain is declared.
-fn declared_at(names: &Names, chain: &[u32]) -> Place
-    requires some { 0 < length chain.now }
-    requires inside { get_or chain.now 0 0 < length (entries_of names.now) }
-    ensures { result ≡ (get_or (entries_of names.now) (get_or chain.now 0 0) no_name).place }
-{
-    names.list.as_slice()[chain[0] as usize].place
-}
-
 /// Refused for a loop of signals that begins with the earliest declared on any, at its declaration; else for the reset
 /// that stands first, of those from which a path leads to a register.
 pub(crate) fn check_chains(
@@ -108,7 +99,8 @@ pub(crate) fn check_chains(
 {
     match signal_loop(alloc, signals, links)? {
         Some(chain) => {
-            let place = declared_at(names, chain.as_slice());
+            let first = chain.as_slice()[0];
+            let place = names.list.as_slice()[first as usize].place;
             Err(DesignFault::Loop(place, ListOf::from_vec(chain)))
         }
         None => match first_path(alloc, &net.exprs, signals, links, net.cells.as_slice())? {

@@ -1,21 +1,24 @@
 -- A loop has a first name, which is one of the design's.
-use Rattle.std.proofs.Common.{ℕ, ◌<◌, List, [], ◌∷◌, ◌==◌, length, get_or, refl, sym, subst, arith}
-use Rattle.design.proofs.Common.{or_left, has, eqb_same, arena, entries_of, Design, given_formulas, HasNoSignalLoop, IsSignalLoop, AreLinks, AssignedHaveCells, AllLeadNowhere, IsFirstOf}
+use Rattle.std.proofs.Common.{◌≡◌, ap, ℕ, ◌<◌, List, [], ◌∷◌, ◌==◌, length, get_or, refl, subst, arith}
+use Rattle.design.proofs.Common.{length-map, Entry, view_declared, or_left, has, eqb_same, arena, Design, given_formulas, HasNoSignalLoop, IsSignalLoop, AreLinks, AssignedHaveCells, AllLeadNowhere, IsFirstOf}
 use Rattle.design.proofs.chains.check_chains.Goals as goal
 
-first_inside : (d : Design) (chain : List ℕ) → IsSignalLoop d chain → (0 < length chain) × (get_or chain 0 0 < length d.context.names)
-first_inside d [] is = absurd (is.is_loop.some refl)
-first_inside d (x ∷ xs) is = (omega arith, is.is_loop.inside x (or_left (x == x) (has xs x) (eqb_same x)))
+first_inside : (d : Design) (chain : List ℕ) → IsSignalLoop d chain → (now : List ℕ) → now ≡ chain → (0 < length now) × (get_or now 0 0 < length d.context.names)
+first_inside d [] is now same = absurd (is.is_loop.some refl)
+first_inside d (x ∷ xs) is now same = rw same (omega arith, is.is_loop.inside x (or_left (x == x) (has xs x) (eqb_same x)))
 
-pub declared_at-place-requires : goal.declared_at-place-requires
-declared_at-place-requires c =
+pub bounds-as_slice-0 : goal.bounds-as_slice-0
+bounds-as_slice-0 c =
     let of = c.requires.linked in
-    let found : (d : Design) → AssignedHaveCells d.context → AreLinks d.context (given_formulas d) c.args.signals.now c.args.links.now → IsSignalLoop d c.in-Some.chain.items = rw c.in-Some.is at c.in_ok-chain.ensures.found in
-    let first = first_inside of.0 c.in-Some.chain.items (found of.0 of.1.cells of.1.links) in
-    record {
-      some = subst (λ xs. 0 < length xs) (sym c.as_slice.ensures.value) first.0;
-      inside = subst (λ xs. get_or xs 0 0 < length (entries_of c.args.names.now)) (sym c.as_slice.ensures.value) (subst (λ es. get_or c.in-Some.chain.items 0 0 < length es) of.1.names first.1);
-    }
+    let found = rw c.in-Some.is at c.in_ok-chain.ensures.found in
+    (first_inside of.0 c.in-Some.chain.items (found of.0 of.1.cells of.1.links) c.as_slice.result.now c.as_slice.ensures.value).0
+
+pub bounds-as_slice-first : goal.bounds-as_slice-first
+bounds-as_slice-first c =
+    let of = c.requires.linked in
+    let found = rw c.in-Some.is at c.in_ok-chain.ensures.found in
+    let first = first_inside of.0 c.in-Some.chain.items (found of.0 of.1.cells of.1.links) c.as_slice.result.now c.as_slice.ensures.value in
+    rw c.as_slice-in-Some.ensures (omega (arith, first.1, ap (λ (es : List Entry). length es) of.1.names, length-map c.args.names.now.list view_declared))
 
 pub returns-in-None-2-clause-no_path : goal.returns-in-None-2-clause-no_path
 returns-in-None-2-clause-no_path c =

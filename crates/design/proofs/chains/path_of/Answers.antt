@@ -1,12 +1,10 @@
-use Rattle.std.proofs.Common.{ℕ, Some, length, sym, ap, subst, ◌∙◌}
-use Rattle.design.proofs.Common.{arena, Design, plain_control, given_formulas, names_if_any, HasNoSignalPath, IsControlIn, AreLinks, AssignedHaveCells, reset_names}
+use Rattle.std.proofs.Common.{ℕ, sym, ap, subst, ◌∙◌}
+use Rattle.design.proofs.Common.{arena, Design, plain_control, given_formulas, names_if_any, HasNoSignalPath, AreLinks, AssignedHaveCells, reset_names}
 use Rattle.bit_expr.specs.Reading.{AreReads}
 use Rattle.design.proofs.chains.path_of.Goals as goal
 
 pub reads-requires : goal.reads-requires
-reads-requires c =
-    let within : IsControlIn (length (arena c.args.exprs.now)) (Some c.in-Some.reset) = rw c.in-Some.is at c.requires.inside.reset in
-    within
+reads-requires c = rw c.in-Some.is at c.requires.inside.reset
 
 pub returns-in-None-2 : goal.returns-in-None-2
 returns-in-None-2 c k is any d of =
