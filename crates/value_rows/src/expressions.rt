@@ -185,6 +185,27 @@ fn put_constants(alloc: Global, names: &Found, text: &str, found: &mut Found) ->
     Some(())
 }
 
+/// Puts what is asked of the expression of a module.
+fn put_asked(
+    alloc: Global,
+    question: &str,
+    module: &Module,
+    names: &DeviceScope<'_, Sample>,
+    found: &mut Found,
+) -> Option<()> {
+    if let Some(width) = question.strip_prefix("ids in positions, ") {
+        return put_met(alloc, module, names, width.parse::<usize>().ok()?, found);
+    }
+    match question {
+        "shapes" => put_checked(alloc, module, names.scope(), found),
+        "refusals" => put_checked(alloc, module, names.scope(), found),
+        "sums that double" => put_checked(alloc, module, names.scope(), found),
+        "first X" => put_special(alloc, module, names.scope(), found),
+        "widths of bits" => put_width(alloc, module, names, found),
+        _ => put_value(alloc, module, names, found),
+    }
+}
+
 /// Puts what is asked of an expression.
 pub(crate) fn ask(
     alloc: Global,
@@ -199,17 +220,5 @@ pub(crate) fn ask(
     let source = source_of::<Sample>(alloc, names, FRONT, text, ";")?;
     let known = Scope::new(alloc, &source.names).ok()?;
     let names = DeviceScope::new(alloc, known).ok()?;
-    let scope = names.scope();
-    let module = &source.module;
-    if let Some(width) = question.strip_prefix("ids in positions, ") {
-        return put_met(alloc, module, &names, width.parse::<usize>().ok()?, found);
-    }
-    match question {
-        "shapes" => put_checked(alloc, module, scope, found),
-        "refusals" => put_checked(alloc, module, scope, found),
-        "sums that double" => put_checked(alloc, module, scope, found),
-        "first X" => put_special(alloc, module, scope, found),
-        "widths of bits" => put_width(alloc, module, &names, found),
-        _ => put_value(alloc, module, &names, found),
-    }
+    put_asked(alloc, question, &source.module, &names, found)
 }

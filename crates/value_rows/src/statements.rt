@@ -1,7 +1,10 @@
 //! Statements: their first refusals, and what they contribute.
 
+ghost use Rattle.abel_tree.specs.Entries.{entries_of};
+ghost use Rattle.set_expr.specs.Scopes.{AreInOrder, ArePlaced};
+
 use crate::places::{put_blank, put_fault, put_place};
-use crate::sources::source_of;
+use crate::sources::{Source, source_of};
 use abel_tree::{Module, Section, Stmt};
 use bit_expr::ExprId;
 use equations::walk_statements;
@@ -53,6 +56,19 @@ fn put_both(list: &[Contribution], found: &mut Found) -> Option<()> {
     Some(())
 }
 
+/// What is found of the statements of a source.
+fn walked_of(alloc: Global, source: &Source) -> Option<Walked>
+    requires order { AreInOrder (entries_of source.now.names) }
+    requires placed { ArePlaced source.now.names }
+{
+    let known = Scope::new(alloc, &source.names).ok()?;
+    let scope = SectionScope::new(alloc, known).ok()?;
+    let stmts = statements_of(&source.module)?;
+    let mut walked = Walked::new(alloc);
+    walk_statements::<Sample>(alloc, &scope, ALWAYS, stmts, &mut walked).ok()?;
+    Some(walked)
+}
+
 /// Puts what is asked of statements: their first refusal, or what their two contributions are.
 pub(crate) fn ask(
     alloc: Global,
@@ -62,11 +78,7 @@ pub(crate) fn ask(
     found: &mut Found,
 ) -> Option<()> {
     let source = source_of::<Sample>(alloc, names, "equations", text, "")?;
-    let known = Scope::new(alloc, &source.names).ok()?;
-    let scope = SectionScope::new(alloc, known).ok()?;
-    let stmts = statements_of(&source.module)?;
-    let mut walked = Walked::new(alloc);
-    walk_statements::<Sample>(alloc, &scope, ALWAYS, stmts, &mut walked).ok()?;
+    let walked = walked_of(alloc, &source)?;
     match question {
         "refusals" => {
             put_fault(walked.fault, found);

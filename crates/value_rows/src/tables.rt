@@ -1,7 +1,10 @@
 //! Truth tables: their first refusals, and what they contribute.
 
+ghost use Rattle.abel_tree.specs.Entries.{entries_of};
+ghost use Rattle.set_expr.specs.Scopes.{AreInOrder, ArePlaced};
+
 use crate::places::{put_blank, put_fault, put_place};
-use crate::sources::source_of;
+use crate::sources::{Source, source_of};
 use abel_tree::{Module, Section, Table};
 use bit_expr::ExprId;
 use devices::Pal16L8;
@@ -52,6 +55,19 @@ fn put_given(walked: &Walked, found: &mut Found) -> Option<()> {
     Some(())
 }
 
+/// What is found of the table of a source.
+fn walked_of(alloc: Global, source: &Source) -> Option<Walked>
+    requires order { AreInOrder (entries_of source.now.names) }
+    requires placed { ArePlaced source.now.names }
+{
+    let known = Scope::new(alloc, &source.names).ok()?;
+    let scope = SectionScope::new(alloc, known).ok()?;
+    let table = table_of(&source.module)?;
+    let mut walked = Walked::new(alloc);
+    walk_table::<Pal16L8>(alloc, &scope, FIRST, table, &mut walked).ok()?;
+    Some(walked)
+}
+
 /// Puts what is asked of a table.
 pub(crate) fn ask(
     alloc: Global,
@@ -61,11 +77,7 @@ pub(crate) fn ask(
     found: &mut Found,
 ) -> Option<()> {
     let source = source_of::<Pal16L8>(alloc, names, "", text, "")?;
-    let known = Scope::new(alloc, &source.names).ok()?;
-    let scope = SectionScope::new(alloc, known).ok()?;
-    let table = table_of(&source.module)?;
-    let mut walked = Walked::new(alloc);
-    walk_table::<Pal16L8>(alloc, &scope, FIRST, table, &mut walked).ok()?;
+    let walked = walked_of(alloc, &source)?;
     match question {
         "refusals" => {
             put_fault(walked.fault, found);

@@ -117,6 +117,24 @@ fn around(question: &str) -> (&'static str, &'static str) {
     }
 }
 
+/// Puts what is asked of the vectors of a module.
+fn put_asked(
+    alloc: Global,
+    question: &str,
+    module: &Module,
+    scope: &Scope<'_>,
+    found: &mut Found,
+) -> Option<()> {
+    if let Some(count) = question.strip_prefix("behind ") {
+        return put_chars(alloc, module, scope, count.parse::<u32>().ok()?, found);
+    }
+    match question {
+        "entries" => put_entry(alloc, module, scope, found),
+        "headers" => put_side(alloc, module, scope, found),
+        _ => put_chars(alloc, module, scope, 0, found),
+    }
+}
+
 /// Puts what is asked of vectors.
 pub(crate) fn ask(
     alloc: Global,
@@ -128,13 +146,5 @@ pub(crate) fn ask(
     let (front, back) = around(question);
     let source = source_of::<Sample>(alloc, names, front, text, back)?;
     let scope = Scope::new(alloc, &source.names).ok()?;
-    let module = &source.module;
-    if let Some(count) = question.strip_prefix("behind ") {
-        return put_chars(alloc, module, &scope, count.parse::<u32>().ok()?, found);
-    }
-    match question {
-        "entries" => put_entry(alloc, module, &scope, found),
-        "headers" => put_side(alloc, module, &scope, found),
-        _ => put_chars(alloc, module, &scope, 0, found),
-    }
+    put_asked(alloc, question, &source.module, &scope, found)
 }

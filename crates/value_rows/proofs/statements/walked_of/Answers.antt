@@ -1,7 +1,7 @@
 -- The constant 1 stands in every arena.
 use Rattle.std.proofs.Common.{refl}
 use Rattle.section_targets.proofs.MetWords.{high_bit}
-use Rattle.value_rows.proofs.statements.ask.Goals as goal
+use Rattle.value_rows.proofs.statements.walked_of.Goals as goal
 
 pub walk_statements-requires : goal.walk_statements-requires
 walk_statements-requires c = record { guard = (high_bit c.new-walked.result.exprs (record { 0 = 1 }) refl).0 }
