@@ -1,7 +1,6 @@
 -- More that is found, behind what was found before; and the first of what is refused of sections and of vectors.
 use Rattle.std.proofs.Common.{◌≡◌, ◌≢◌, ℕ, Option, None, Some, List, [], ◌∷◌, ◌++◌, Result, Ok, Err, IfOk, refl, sym, ap, ap₂, ◌∙◌, subst, append_assoc, append-nil, IfErr}
-use Rattle.abel_vectors.proofs.Common.{map-append, Vector, Table, all_chars, chars_of, first_refusal, earlier, earlier_assoc, earlier_none, first_append, none_refused, SectionFault, section_order, IsTold, told_of, Found, fault_in, Finds, IsFound, IsReadAs, NothingFound, if_none}
-use Rattle.set_expr.specs.declared.fault.SectionFault.TheVariants.{OutOfMemory}
+use Rattle.abel_vectors.proofs.Common.{map-append, Vector, Table, all_chars, chars_of, first_refusal, earlier, earlier_assoc, earlier_none, first_append, none_refused, SectionFault, section_order, IsTold, told_of, Found, fault_in, Finds, IsFound, IsReadAs, NothingFound, if_none, OutOfMemory}
 
 -- where nothing is refused now, nothing was before
 both_none : (a : Option SectionFault) (rs : List SectionFault) → earlier section_order a (first_refusal section_order rs) ≡ None → (a ≡ None) × (rs ≡ [])

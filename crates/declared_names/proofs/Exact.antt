@@ -1,7 +1,6 @@
 -- What is answered where nothing is refused.
 use Rattle.std.proofs.Common.{◌≡◌, Bool, true, false, ◌&&◌, if◌then◌else◌, Option, List, [], ◌∷◌, ◌++◌, map, refl, sym, ap, ap₂, subst, ◌∙◌}
-use Rattle.declared_names.proofs.Common.{list_any, append-nil, or_parts, Flip, Table, Names, named_of, sections_assign, Entry, entries_of, first_refusal, IsNamed, are_named, module_uses, Declaration, SomePins, SomeNodes, SomeAttributes, ModuleTree, GivenName, all_said, declared_names, holds_of, names_of, with_assigned, NameFault, Buffered, all_declarations, name_order, always_inverts, all_buffered, buffered, buffers_refused, first_name_refusal, name_refusals, module_buffers_refused, names_once, read_refusals, names_behind, buffered_names, kept, none_left, AreDeclaredFor, NumbersAreApart, BuffersAreAllowed, refused_for, Accepted, module_accepted, AreSound, sound_alike, sound_at}
-use Rattle.decls.specs.Buffers.{says_buffer, registers_wait}
+use Rattle.declared_names.proofs.Common.{list_any, append-nil, or_parts, Flip, Table, Names, named_of, sections_assign, Entry, entries_of, first_refusal, IsNamed, are_named, module_uses, Declaration, SomePins, SomeNodes, SomeAttributes, ModuleTree, GivenName, all_said, declared_names, holds_of, names_of, with_assigned, NameFault, Buffered, all_declarations, name_order, always_inverts, all_buffered, buffered, buffers_refused, first_name_refusal, name_refusals, module_buffers_refused, names_once, read_refusals, names_behind, buffered_names, kept, none_left, AreDeclaredFor, NumbersAreApart, BuffersAreAllowed, refused_for, Accepted, module_accepted, AreSound, sound_alike, sound_at, says_buffer, registers_wait}
 use Rattle.declared_names.proofs.Buffers.{refused_same}
 use Rattle.decls.proofs.NamesAlike.{alike_settled, extends_alike, named_more}
 use Rattle.declared_names.proofs.Behind.{module_buffers}

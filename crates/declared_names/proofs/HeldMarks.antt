@@ -1,9 +1,8 @@
 -- What sections hold is what their parts give, and marks find which registers are held.
 use Rattle.std.proofs.Common.{◌≡◌, ℕ, Bool, Option, Some, None, List, ◌++◌, refl, sym, ap, ap₂, ◌∙◌, true, false, ◌||◌, if◌then◌else◌, [], ◌∷◌, map, ◌==◌, ◌&&◌, slice_get}
-use Rattle.declared_names.proofs.Common.{append-nil, flat_map-append, asks_q, read_in, read_in_member, read_in_members, read_names, range_names, Tree, AName, ASet, AParen, AUnary, ABinary, SetMember, OneMember, SpanMember, Members, NoMember, MoreMembers, Extension, use_reads, uses_read, innermost, UsedName, member_used, members_used, names_used, flat_map, list_any, list_any-append, Part, part_reads, part_shares, parts_read, sections_parts, target_extension, without_extension, is_raw, SectionTree, Reads, part_gives, sections_give, section_shares, shares_all, PartedSection, with_parts, and-false, and-true, Kind, AConstant, ADeviceName, Entry, is_signal, held_after, held_by, held_meant, held_of, holds_of, value_of, all_marks, value_uses, PartTree}
+use Rattle.declared_names.proofs.Common.{append-nil, flat_map-append, asks_q, read_in, read_in_member, read_in_members, read_names, range_names, Tree, AName, ASet, AParen, AUnary, ABinary, SetMember, OneMember, SpanMember, Members, NoMember, MoreMembers, Extension, use_reads, uses_read, innermost, UsedName, member_used, members_used, names_used, flat_map, list_any, list_any-append, Part, part_reads, part_shares, parts_read, sections_parts, target_extension, without_extension, is_raw, SectionTree, Reads, part_gives, sections_give, section_shares, shares_all, PartedSection, with_parts, and-false, and-true, Kind, AConstant, ADeviceName, Entry, is_signal, held_after, held_by, held_meant, held_of, holds_of, value_of, all_marks, value_uses, PartTree, view_part, view_section_parts}
 use Rattle.abel_tree.specs.declared.words.Extension.TheVariants.{Q}
 use Rattle.name_uses.proofs.HoldingParts.{sections_followed}
-use Rattle.name_uses.specs.Viewed.{view_part, view_section_parts}
 use Rattle.name_uses.specs.declared.part.Part.{Part as SourcePart}
 use Rattle.name_uses.specs.declared.source.SectionParts.{SectionParts}
 use Rattle.abel_meaning.specs.Held.{Held}

@@ -1,7 +1,6 @@
 -- The names by what is marked and held are the names with their kinds.
-use Rattle.std.specs.List.{enumerate_from}
+use Rattle.declared_names.proofs.Common.{enumerate_from, list_any, Flip, Assigned, is_assigned, is_clocked_target, named_of, sections_assign, Words, Entry, is_signal, SectionTree, holds_of, is_held, part_shares, sections_parts, is_registered, with_kind, with_kinds, with_assigned, words_with_kind, Reads, Targets, Held, Mark, all_marks, is_held_at, kind_by, kinds_by, words_by, Declared, view_declared}
 use Rattle.std.proofs.Common.{◌≡◌, add-one, ℕ, suc, ◌+◌, Bool, true, false, ◌||◌, if◌then◌else◌, Some, List, [], ◌∷◌, refl, sym, ap, ap₂, subst, ◌∙◌, add-zero, suc-add, add-suc, zero-add, map, slice_get}
-use Rattle.declared_names.proofs.Common.{list_any, Flip, Assigned, is_assigned, is_clocked_target, named_of, sections_assign, Words, Entry, is_signal, SectionTree, holds_of, is_held, part_shares, sections_parts, is_registered, with_kind, with_kinds, with_assigned, words_with_kind, Reads, Targets, Held, Mark, all_marks, is_held_at, kind_by, kinds_by, words_by, Declared, view_declared}
 use Rattle.declared_names.proofs.AssignedMarks.{is_clocked, is_found}
 use Rattle.declared_names.proofs.HeldMarks.{is_read}
 use Rattle.declared_names.proofs.Passing.{at}

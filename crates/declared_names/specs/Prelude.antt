@@ -1,5 +1,5 @@
 -- The words of the crates below that the clauses of this crate are said in, passed on from one place. Declares nothing.
-pub use Rattle.std.specs.List.{flat_map, list_any}
+pub use Rattle.std.specs.List.{enumerate_from, flat_map, list_any}
 pub use Rattle.abel_meaning.specs.Declarations.{are_numbered, is_unnumbered}
 pub use Rattle.abel_meaning.specs.Held.{asks_q, is_shared, part_shares, read_names, sections_parts}
 pub use Rattle.abel_meaning.specs.Kinds.{is_buffer, is_open, is_registered, names_of, settled_words, with_assigned}

@@ -1,8 +1,7 @@
 -- Names with their kinds, by the marks of what is assigned and what is held; and the registers among them that are declared
 -- `buffer` (this project's rule).
-use Rattle.std.specs.List.{enumerate_from}
+use Rattle.declared_names.specs.Prelude.{enumerate_from, Words, Entry, view_declared, is_signal, is_registered, is_buffer, is_open, settled_words, flat_map, Table, NameFault, always_inverts}
 use Rattle.std.specs.Prelude.{ℕ, Bool, map, not, ◌&&◌, ◌||◌, List, [], ◌∷◌, if◌then◌else◌, get_or, false, Option, None, Some, slice_get}
-use Rattle.declared_names.specs.Prelude.{Words, Entry, view_declared, is_signal, is_registered, is_buffer, is_open, settled_words, flat_map, Table, NameFault, always_inverts}
 use Rattle.abel_tree.specs.declared.names.Declared.{Declared}
 use Rattle.pld_device.specs.declared.flip.Flip.{Flip}
 use Rattle.declared_names.specs.declared.held.Held.{Held}

@@ -1,12 +1,12 @@
 -- The words that the proofs of this crate are said in, passed on from one place. Declares nothing.
 pub use Rattle.std.proofs.lemmas.Bool.{and_from, and_parts, and_right, cases_Bool, cases_lt, eqb-false, le-ltb, lt-ltb, ltb-false, ne_eqb, not-true, or_cases}
 pub use Rattle.std.proofs.lemmas.Bool.{or_from, or_left, or_right, true≢false}
+pub use Rattle.std.proofs.lemmas.Grind.{flat_map-append}
 pub use Rattle.std.proofs.lemmas.List.{get_or_past, length-map, map-append}
-pub use Rattle.std.proofs.lemmas.List.Elements.{All-from_recursion, filter-append}
 pub use Rattle.std.proofs.lemmas.List.FromFn.{get_or-map-range_with_len, length-range_with_len, map-range_with_len_more}
 pub use Rattle.std.proofs.lemmas.Option.{same_Some, slice_get-get_or}
 pub use Rattle.std.proofs.lemmas.Slice.Eq.{bytes_eq-Decides}
-pub use Rattle.std.specs.List.{All, AllByRecursion, find, list_any, position_from, range_with_len}
+pub use Rattle.std.specs.List.{All, AllByRecursion, find, flat_map, list_any, position_from, range_with_len}
 unfoldable pub use Rattle.std.specs.List.{IsDistinct}
 pub use Rattle.std.specs.Option.{option_map}
 pub use Rattle.abel_meaning.specs.BitWords.{Word, each_not, word_by_position}
@@ -31,8 +31,8 @@ pub use Rattle.abel_meaning.specs.Values.{binary_value, constant_of, plain_value
 pub use Rattle.abel_tree.specs.Assigned.{Assigned, named_of, sections_assign, target_extension}
 pub use Rattle.abel_tree.specs.Entries.{AConstant, ADeviceName, ANode, APin, Entry, Kind, Words, follows_q, is_stored, is_value, kind_of, names_any}
 pub use Rattle.abel_tree.specs.Extensions.{is_data, is_raw}
-pub use Rattle.abel_tree.specs.Tree.{ABinary, ADevice, AName, ANumber, AUnary, AnAssign, Declaration, Equations, ModuleTree, SomePins, Statement, Tree}
-pub use Rattle.abel_tree.specs.Tree.{statements_of}
+pub use Rattle.abel_tree.specs.Tree.{ABinary, ADevice, AName, ANumber, AUnary, AnAssign, Declaration, Equations, ModuleTree, SectionTree, SomePins, Statement}
+pub use Rattle.abel_tree.specs.Tree.{Tree, statements_of}
 pub use Rattle.abel_tree.specs.Uses.{Use, list_uses, statement_uses, uses}
 pub use Rattle.abel_tree.specs.declared.words.Extension.{Extension}
 pub use Rattle.bit_expr.specs.Arena.{MOST, constants, formula_at, formula_of, formulas_from}

@@ -1,6 +1,7 @@
 -- There is what a decompiled source contributes: its lines, each at its target, over an arena of their formulas.
 use Rattle.std.proofs.Common.{◌≡◌, ℕ, ◌<◌, Bool, false, None, List, [], ◌∷◌, length, map, refl, sym, ap, ap₂, ◌∙◌, arith, append-nil}
-use Rattle.decompiler.proofs.Common.{AllByRecursion, All-from_recursion, Place, IsDevice, Table, ExprId, Leaf, arena, formula_at, Formula, IsHeld, ModuleTree, Design, design_of, Contribution, Contributions, view_contribution, units_nodes, AreContributed, source_units, sections_places, statements_places, statements_of, PinLiteral, SumLine, IsSourceTree, line_gives, sum_formula, lines_of, source_of, leaf_of, signal_of, given_is}
+use Rattle.decompiler.proofs.Common.{AllByRecursion, Place, IsDevice, Table, ExprId, Leaf, arena, formula_at, Formula, IsHeld, ModuleTree, Design, design_of, Contribution, Contributions, view_contribution, units_nodes, AreContributed, source_units, sections_places, statements_places, statements_of, PinLiteral, SumLine, IsSourceTree, line_gives, sum_formula, lines_of, source_of, leaf_of, signal_of, given_is}
+use Rattle.std.proofs.lemmas.List.Elements.{All-from_recursion}
 use Rattle.decompiler.proofs.Holding.{arenas_there}
 use Rattle.abel_meaning.specs.Contributions as meant
 use Rattle.set_expr.specs.declared.contributions.Gives.TheVariants as gives

@@ -1,7 +1,6 @@
 -- Lists that are made over a range, number by number.
 use Rattle.std.proofs.Common.{◌≡◌, ℕ, suc, ◌+◌, ◌-◌, ◌<◌, ◌≤◌, Bool, true, false, if◌then◌else◌, Some, None, List, [], ◌∷◌, ◌++◌, filter, flat_map, map, refl, ap, sym, ◌∙◌, arith, append-nil, map-id}
-use Rattle.decompiler.proofs.Common.{find, range_with_len, map-range_with_len_more}
-use Rattle.std.proofs.lemmas.Grind.{flat_map-append}
+use Rattle.decompiler.proofs.Common.{find, range_with_len, map-range_with_len_more, flat_map-append}
 
 -- ---- one number more
 

@@ -1,13 +1,10 @@
 -- Nothing is refused of what the lines of a decompiled source read: each signal has what is asked of it, and a pair of
 -- columns carries it.
 use Rattle.std.proofs.Common.{◌≡◌, ℕ, ◌+◌, ◌<◌, inl, inr, Bool, true, false, not, is_some, if◌then◌else◌, Option, Some, None, List, [], ◌∷◌, ◌++◌, length, filter, map, refl, sym, ap, subst, ◌∙◌, append-nil, eq-eqb, eqb-true, ◌==◌, ◌&&◌, ◌||◌, position}
-use Rattle.decompiler.proofs.Common.{AllByRecursion, each_append, list_any, position_from, and_from, and_right, cases_Bool, or_right, true≢false, Carry, Cell, Kinds, Combinational, Registered, Either, IsDevice, pair_pins, pin_carried, cell_on, carries_cell, says, stores, stores_by, Table, cell_at, no_cell, registered_at, own_pins, Extension, target_extension, Kind, APin, Entry, is_stored, Tree, Statement, ModuleTree, Equations, statements_of, must_register, Design, design_of, name_at, Term, extended_if, term_named, term_of, carries_level, carries_q, has_by, has_extension, has_read_path, is_missing, is_unread, missing_uses, reads_by, unread_uses, design_uses, is_compared, part_uses, TargetFound, left_side, is_compared_of, Written, aims_refused, is_written_at, narrow, statement_refused, statements_refused, unwritten, written_if, RefusedUse, PinLiteral, SumLine, name_text, q_if, AreLines, IsLine, IsSourceTree, lines_of, named_by, source_of, signal_of, HasNoCell, cell_name, free_plain, kind_is, name, known_is, IsDeclared, IsDeclaredLiteral, cell_here}
-use Rattle.std.specs.List.{flat_map}
-use Rattle.std.proofs.lemmas.Grind.{flat_map-append}
+use Rattle.decompiler.proofs.Common.{AllByRecursion, each_append, list_any, position_from, and_from, and_right, cases_Bool, or_right, true≢false, Carry, Cell, Kinds, Combinational, Registered, Either, IsDevice, pair_pins, pin_carried, cell_on, carries_cell, says, stores, stores_by, Table, cell_at, no_cell, registered_at, own_pins, Extension, target_extension, Kind, APin, Entry, is_stored, Tree, Statement, ModuleTree, Equations, statements_of, must_register, Design, design_of, name_at, Term, extended_if, term_named, term_of, carries_level, carries_q, has_by, has_extension, has_read_path, is_missing, is_unread, missing_uses, reads_by, unread_uses, design_uses, is_compared, part_uses, TargetFound, left_side, is_compared_of, Written, aims_refused, is_written_at, narrow, statement_refused, statements_refused, unwritten, written_if, RefusedUse, PinLiteral, SumLine, name_text, q_if, AreLines, IsLine, IsSourceTree, lines_of, named_by, source_of, signal_of, HasNoCell, cell_name, free_plain, kind_is, name, known_is, IsDeclared, IsDeclaredLiteral, cell_here, flat_map, flat_map-append, SectionTree}
 use Rattle.pld_device.specs.declared.carry.Carry.TheVariants as carry
 use Rattle.abel_tree.specs.declared.words.Extension.TheVariants as extension
 use Rattle.abel_meaning.specs.Terms.{Read}
-use Rattle.abel_tree.specs.Tree.{SectionTree}
 use Rattle.name_uses.specs.Parts.{PartTree, parts_in_section, parts_in_statement}
 use Rattle.netlist_laws.specs.SignalUses.{SignalUse, term_uses}
 use Rattle.netlist_laws.proofs.CellsFound.{first_place}

@@ -1,8 +1,7 @@
 -- What is assigned, and the data that are given to it.
 use Rattle.std.proofs.Common.{◌≡◌, ℕ, ◌==◌, Bool, true, ◌&&◌, ◌||◌, Option, None, Some, List, [], ◌∷◌, ◌++◌, length, inl, inr, refl, sym, ap, ap₂, ◌∙◌, replicate}
-use Rattle.design.proofs.Common.{list_any, or_left, or_right, or_cases, list_any-append, Extension, Assigned, assigned_each, assigned_by, is_assigned, is_data, Contribution, Gives, Guard, Context, is_data_to, given_each, no_matches, some_signals, SignalUse, reads_of_terms, among}
+use Rattle.design.proofs.Common.{list_any, or_left, or_right, or_cases, list_any-append, Extension, Assigned, assigned_each, assigned_by, is_assigned, is_data, Contribution, Gives, Guard, Context, is_data_to, given_each, no_matches, some_signals, SignalUse, reads_of_terms, among, and-true}
 use Rattle.abel_tree.specs.declared.words.Extension.TheVariants as extension
-use Rattle.std.proofs.Math.Bool.{and-true}
 
 -- one of what is assigned to the signal
 pub assigned_among : (s : ℕ) (c : Bool) (ss : List ℕ) → is_assigned (assigned_each c ss) s ≡ among s ss

@@ -1,6 +1,8 @@
 -- The first path from the resets of several cells; these resets are those of a design's signals.
 use Rattle.std.proofs.Common.{◌≡◌, ℕ, zero, suc, ◌+◌, ◌<◌, Bool, true, List, [], ◌∷◌, length, map, get_or, Option, Some, None, refl, sym, ap, ◌∙◌, subst, inl, inr, arith, All, IsSome, false, if◌then◌else◌, ◌++◌, take}
-use Rattle.design.proofs.Common.{option_map, cases_Bool, and_parts, get_or-map, length-map, All-map, same_Some, Place, CellWanted, Control, Leaf, Formula, APin, ADeviceName, Entry, is_stored, control_of, control_if_stored, Context, Design, name_at, no_name, formulas, Wanted, plain_control, plain_wanted, given_formulas, leaf_of, names_if_any, is_one_of, HasNoSignalPath, Link, wanted_for, cell_of, and_cell, cells_from, inside, AreLinks, IsPlaced, AssignedHaveCells, is_sooner, IsResetAt, IsFirstPath, IsResetOf, LeadsNowhereAt, AnyPlace, IsFirstOf, AllLeadNowhere, true≢false, take_more, All-weaker, IsPathOf, IsFoundOf, IsFirstFound, path_order, All-push, Contains-push, Contains-append_left}
+use Rattle.design.proofs.Common.{option_map, cases_Bool, and_parts, get_or-map, length-map, All-map, same_Some, Place, Leaf, Formula, APin, ADeviceName, Entry, is_stored, control_of, control_if_stored, Context, Design, name_at, no_name, formulas, Wanted, plain_control, plain_wanted, given_formulas, leaf_of, names_if_any, is_one_of, HasNoSignalPath, Link, wanted_for, cell_of, and_cell, cells_from, inside, AreLinks, IsPlaced, AssignedHaveCells, is_sooner, IsResetAt, IsFirstPath, IsResetOf, LeadsNowhereAt, AnyPlace, IsFirstOf, AllLeadNowhere, true≢false, take_more, All-weaker, IsPathOf, IsFoundOf, IsFirstFound, path_order, All-push, Contains-push, Contains-append_left}
+use Rattle.bit_expr.specs.declared.netlist.CellWanted.{CellWanted}
+use Rattle.bit_expr.specs.declared.netlist.Control.{Control}
 use Rattle.std.proofs.lemmas.Bool.Decides.{nat_tests}
 use Rattle.abel_tree.specs.FirstRefusal.{is_before, earlier, place_order}
 use Rattle.abel_tree.specs.declared.words.Extension.TheVariants as extension

@@ -1,12 +1,13 @@
 -- The words that the proofs of this crate are said in, passed on from one place. Declares nothing.
-pub use Rattle.std.proofs.lemmas.Bool.{and_from, and_parts, cases_Bool, cases_lt, eq-eqb, eqb-true, false_from_ne_true, ne_eqb, not-true, or_cases, or_left, or_parts, or_right, true_from_ne_false}
-pub use Rattle.std.proofs.lemmas.Bool.{true≢false}
+pub use Rattle.std.proofs.Math.Bool.{and-false, and-true}
+pub use Rattle.std.proofs.lemmas.Bool.{and_from, and_parts, cases_Bool, cases_lt, eq-eqb, eqb-true, false_from_ne_true, ne_eqb, not-true, or_cases, or_left}
+pub use Rattle.std.proofs.lemmas.Bool.{or_parts, or_right, true_from_ne_false, true≢false}
 pub use Rattle.std.proofs.lemmas.List.{get_or-map, get_or_past, length-map, map-append, take_all, take_more}
 pub use Rattle.std.proofs.lemmas.List.Elements.{All-cons, All-get_or, All-map, All-nil, All-push, All-weaker, Contains-append_left, Contains-push}
-pub use Rattle.std.proofs.lemmas.List.Folds.{list_any-append, list_any_at}
+pub use Rattle.std.proofs.lemmas.List.Folds.{Any-from_list_any, list_any-append, list_any_at}
 pub use Rattle.std.proofs.lemmas.List.Quantifiers.{position-Some}
-pub use Rattle.std.proofs.lemmas.Option.{get_or_from_slice_get, none-some, same_Some, slice_get-get_or, slice_get_past}
-pub use Rattle.std.specs.List.{AllByRecursion, IsDistinct, list_all, list_any, position_from}
+pub use Rattle.std.proofs.lemmas.Option.{get_or_from_slice_get, same_Some, slice_get-get_or, slice_get_past}
+pub use Rattle.std.specs.List.{AllByRecursion, IsDistinct, flat_map, list_all, list_any}
 pub use Rattle.std.specs.Option.{option_map}
 pub use Rattle.abel_meaning.specs.Contributions.{Contribution, Evaluator, Gives, Guard, condition, guarded}
 pub use Rattle.abel_meaning.specs.Controls.{control_by, control_if_stored, control_of, is_control, is_pin, is_the_control}
@@ -20,11 +21,10 @@ pub use Rattle.abel_meaning.specs.Held.{ATarget, AValue, Held, Holds, Part, bran
 pub use Rattle.abel_meaning.specs.Held.{held_meant, held_of, holds_of, is_held, is_shared, list_parts, other_parts, part_reads, part_shares, parts_read}
 pub use Rattle.abel_meaning.specs.Held.{read_in, read_in_member, read_in_members, read_names, section_parts, sections_parts, statement_parts, statements_parts}
 pub use Rattle.abel_meaning.specs.Held.{states_parts, with_parts}
-pub use Rattle.abel_meaning.specs.Kinds.{is_buffer, is_buffer_by_default, is_open, is_registered, names_of, stays_free, with_kind, with_kinds, words_with_kind}
+pub use Rattle.abel_meaning.specs.Kinds.{is_buffer, is_buffer_by_default, is_open, is_registered, names_of, stays_free, with_kind, with_kinds}
 pub use Rattle.abel_meaning.specs.Netlists.{PlainNetlist, Wanted, plain_control, plain_netlist, plain_wanted}
 pub use Rattle.abel_meaning.specs.SignalReads.{HasNoSignalLoop, HasNoSignalPath, IsSignalLoop, given_formulas, is_one_of, leaf_by, leaf_of, names_if_any}
 pub use Rattle.abel_meaning.specs.SignalReads.{settles}
-pub use Rattle.abel_meaning.specs.SoundIds.{IsControlIn, IsSoundNetlist, no_pair, pair_of_cell, pair_of_pin}
 pub use Rattle.abel_meaning.specs.Soundness.{IsSound, MayRegister}
 pub use Rattle.abel_meaning.specs.Statements.{else_gives, given_each, sign_gives, statement_gives, statements_give}
 pub use Rattle.abel_meaning.specs.Tables.{agrees, literal, match_of, no_matches, outputs_given, row_matches, rows_give}
@@ -47,11 +47,9 @@ pub use Rattle.abel_tree.specs.declared.words.Extension.{Extension}
 pub use Rattle.bit_expr.specs.Arena.{IsLeaf}
 unfoldable pub use Rattle.bit_expr.specs.Arena.{arena}
 pub use Rattle.bit_expr.specs.Formulas.{Const, Formula}
-pub use Rattle.bit_expr.specs.declared.netlist.CellWanted.{CellWanted}
-pub use Rattle.bit_expr.specs.declared.netlist.Control.{Control}
 pub use Rattle.bit_expr.specs.declared.node.Leaf.{Leaf}
 pub use Rattle.declared_names.proofs.AmongNumbers.{among}
-pub use Rattle.design_checks.specs.LocatedUses.{PlacedUse}
+pub use Rattle.design_checks.specs.LocatedUses.{PlacedUse, located}
 pub use Rattle.design_checks.specs.Refused.{is_lacking, is_wrong_target, lacking_controls, other_levels, target_controls, targets_refused, wrong_kinds}
 pub use Rattle.design_checks.specs.RefusedUses.{is_missing, is_unread, missing_uses, unread_uses}
 pub use Rattle.design_checks.specs.SectionUses.{design_uses, is_by_pin, is_cell_by_pin, is_compared, is_compared_by, is_enabled_by_pin, part_uses}
@@ -64,7 +62,9 @@ pub use Rattle.gathering.specs.Linked.{AreLinks, IsLinkOf, is_linked, is_node_ki
 pub use Rattle.gathering.specs.Placed.{AreIdsIn, IsPlaced}
 pub use Rattle.gathering.specs.Resets.{AssignedHaveCells, reset_names}
 pub use Rattle.gathering.specs.declared.link.Link.{Link}
-pub use Rattle.netlist_laws.proofs.SoundLeaves.{inside}
+pub use Rattle.name_uses.specs.Parts.{Outputs, PartTree, Value, part, parts_in_branch, parts_in_choices, parts_in_else, parts_in_other, parts_in_row}
+pub use Rattle.name_uses.specs.Parts.{parts_in_section, parts_in_state, parts_in_statement, parts_in_statements, parts_in_with}
+pub use Rattle.netlist_laws.proofs.SoundLeaves.{inside, some_place}
 pub use Rattle.netlist_laws.specs.Gathered.{and_cell, cell_by, cell_of, cells_from, gathered_from, netlist_of, wanted_for}
 pub use Rattle.netlist_laws.specs.SignalUses.{SignalUse, all_term_uses, given_uses, reads_of_terms, term_uses, use_reads, uses_read}
 pub use Rattle.netlist_laws.specs.Takeable.{ControlIsThere, HasColumns, HasNoEquation, IsAllowedOn, IsTakeable, NodesAreFew, PinsApart, is_enabled_by_row}
@@ -94,7 +94,7 @@ pub use Rattle.source_sections.specs.SectionUnits.{section_manners, units_of_sec
 pub use Rattle.state_diagrams.specs.DiagramUnits.{branch_manners, register_manners, registers_refused, state_guard, state_manners, units_behind}
 pub use Rattle.state_diagrams.specs.DiagramUnits.{units_of_branch, units_of_branches, units_of_choices, units_of_diagram, units_of_other, units_of_states}
 pub use Rattle.state_diagrams.specs.StateValues.{if_none, listed_after}
-pub use Rattle.design.specs.{AllLeadNowhere, AnyPlace, AreGiven, AreSignals, AssignedAreOnCells, AssignedHaveData, FreeMayChoose, HasBareHeader, HasNoRefusal}
+pub use Rattle.design.specs.{AllLeadNowhere, AnyPlace, AreSignals, AssignedAreOnCells, AssignedHaveData, FreeMayChoose, HasBareHeader, HasNoRefusal}
 pub use Rattle.design.specs.{HasSoundDeclarations, HasSoundSections, HaveBareHeaders, IsAccepted, IsChainTold, IsDesignRefused, IsFirstFound, IsFirstOf}
 pub use Rattle.design.specs.{IsFirstPath, IsFoundOf, IsLinkedDesign, IsPathOf, IsResetAt, IsResetOf, IsUnrefused, LeadsNowhereAt, NamesAreAccepted}
 pub use Rattle.design.specs.{UnrefusedIsTakeable, all_bare_signals, bare_signals, is_sooner, path_order}

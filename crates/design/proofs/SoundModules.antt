@@ -1,8 +1,6 @@
 -- A module is accepted whose declarations and sections are, and so are the names that are declared of it.
 use Rattle.std.proofs.Common.{◌≡◌, ℕ, ◌==◌, true, Some, List, [], ◌∷◌, ◌++◌, length, refl, sym, subst, ◌∙◌, ◌<◌, take, get_or, ap, inl, inr, IsSome, slice_get}
-use Rattle.design.proofs.Common.{Cell, Table, arena, SectionTree, ADiagram, ModuleTree, cell_on, Context, Design, design_of, sections_parts, given_uses, design_uses, constants_refused, Manner, is_cell_pin, is_output_kind, units_refused, all_refused, limit_refused, right_empty, section_manners, units_of_section, units_of_sections, AssignedAreOnCells, AssignedHaveData, HasBareHeader, HaveBareHeaders, IsAccepted, HasSoundSections, HasSoundDeclarations, cases_lt, get_or_past, slice_get-get_or, ANode, ADeviceName, Entry, no_name, names_of, NamesAreAccepted, IsSignalOf}
-use Rattle.std.proofs.lemmas.List.Folds.{Any-from_list_any}
-use Rattle.netlist_laws.proofs.SoundLeaves.{some_place}
+use Rattle.design.proofs.Common.{Cell, Table, arena, SectionTree, ADiagram, ModuleTree, cell_on, Context, Design, design_of, sections_parts, given_uses, constants_refused, Manner, is_cell_pin, is_output_kind, units_refused, all_refused, limit_refused, right_empty, section_manners, units_of_section, units_of_sections, AssignedAreOnCells, AssignedHaveData, HasBareHeader, HaveBareHeaders, IsAccepted, HasSoundSections, HasSoundDeclarations, cases_lt, get_or_past, slice_get-get_or, ANode, ADeviceName, Entry, no_name, names_of, NamesAreAccepted, IsSignalOf, Any-from_list_any, flat_map, parts_in_section, some_place}
 use Rattle.source_sections.specs.SectionAnswers.{source_units}
 use Rattle.design.proofs.AssignedNames.{own_names, own_assigned, names_within, by_sections, signal_there}
 use Rattle.design.proofs.BareTargets.{member_bare}
@@ -45,7 +43,7 @@ module _ (t : Table) (m : ModuleTree) where
   abbrev d : Design
   d = design_of t m
 
-  part : (s : ℕ) → IsPart d.context AnyUse (λ e j. IsSignalOf d.context j) (λ e j is. is) s (own_names t m) (targets d refl) (HaveBareHeaders d.context m.sections) (source_units d) (design_uses d) (sections_parts m.sections) (own_assigned t m) (given_uses d)
+  part : (s : ℕ) → IsPart d.context AnyUse (λ e j. IsSignalOf d.context j) (λ e j is. is) s (own_names t m) (targets d refl) (HaveBareHeaders d.context m.sections) (source_units d) (flat_map parts_in_section m.sections) (sections_parts m.sections) (own_assigned t m) (given_uses d)
   part s = sections_part d.context AnyUse (λ e j. IsSignalOf d.context j) (λ e j is. is) s (own_names t m) (targets d refl) d.starts_dontcare 0 [] m.sections
 
   pub data_there : AssignedHaveData d

@@ -1,9 +1,7 @@
 -- What is refused first of several, one behind another.
 use Rattle.std.proofs.Common.{◌≡◌, ℕ, ◌+◌, ◌<◌, Bool, true, false, cond, if◌then◌else◌, Option, Some, None, List, [], ◌∷◌, ◌++◌, length, map, take, get_or, refl, sym, ap, ◌∙◌, arith, append-nil, filter}
-use Rattle.design_checks.proofs.Common.{option_or, flat_map, nat_tests, flat_map-append, map-append, Place, earlier, first_refusal, sooner, before_by, first_append, Context, name_at, SignalUse, front_more, first_read, first_refused, first_signal, PlacedUse, all_at, is_refused, part_uses, refuses_use, first_use, told, use_at, use_order, RefusedUse, UseRule}
+use Rattle.design_checks.proofs.Common.{option_or, flat_map, nat_tests, flat_map-append, map-append, Place, earlier, first_refusal, sooner, before_by, first_append, Context, name_at, SignalUse, front_more, first_read, first_refused, first_signal, PlacedUse, all_at, is_refused, part_uses, refuses_use, first_use, told, use_at, use_order, RefusedUse, UseRule, PartTree, PartedSection}
 use Rattle.std.proofs.lemmas.List.Elements.{filter-append}
-use Rattle.name_uses.specs.Parts.{PartTree}
-use Rattle.name_uses.specs.Viewed.{PartedSection}
 
 -- ---- signals
 

@@ -1,7 +1,6 @@
 -- What is kept of names, by their places.
 use Rattle.std.proofs.Common.{◌≡◌, ℕ, zero, suc, ◌+◌, Option, None, Some, List, [], ◌∷◌, ◌++◌, length, map, get_or, slice_get, refl, sym, ap, ◌∙◌, subst, append-nil, zero-add}
-use Rattle.design_checks.proofs.Common.{map-append, Entry, find, Known, Number, Term, known_of, term_meant, term_named, known_more, known_names, AreOfNames, values_of}
-use Rattle.section_targets.proofs.NameTerms.{placed, term_at, term_or}
+use Rattle.design_checks.proofs.Common.{map-append, Entry, find, Known, Number, Term, known_of, term_meant, term_named, known_more, known_names, AreOfNames, values_of, placed, term_at, term_or}
 
 module _ {V : Type 0} (of : Term → V) where
   abbrev pub value_in : List V → Option ℕ → V

@@ -1,6 +1,7 @@
 -- The uses of an expression, each at its place, are what its term reads.
 use Rattle.std.proofs.Common.{◌≡◌, ℕ, Bool, true, false, List, [], ◌∷◌, ◌++◌, map, Option, Some, None, refl, sym, ap, ap₂, ◌∙◌, append_assoc, append-nil, if◌then◌else◌, bytes_eq, codes}
-use Rattle.design_checks.proofs.Common.{flat_map, flat_map-append, map-append, Place, Extension, innermost, range_names, Tree, ANumber, ASpecial, AName, ASet, AParen, AUnary, ABinary, SetMember, OneMember, SpanMember, Members, NoMember, MoreMembers, Term, Terms, X, Pulse, Release, Read, Set, UnaryOf, BinaryOf, NoTerm, Before, Known, term_named, term_of, terms_of, member_before, named_before, extended, extended_each, extended_if, special_term, SignalUse, term_uses, all_term_uses, UsesAreRead, PlacedUse, all_at, names_read, reads_used, uses_used}
+use Rattle.design_checks.proofs.Common.{flat_map, flat_map-append, map-append, Place, Extension, range_names, Tree, ANumber, ASpecial, AName, ASet, AParen, AUnary, ABinary, SetMember, OneMember, SpanMember, Members, NoMember, MoreMembers, Term, Terms, X, Pulse, Release, Read, Set, UnaryOf, BinaryOf, NoTerm, Before, Known, term_named, term_of, terms_of, member_before, named_before, extended, extended_each, extended_if, special_term, SignalUse, term_uses, all_term_uses, UsesAreRead, PlacedUse, all_at, names_read, reads_used, uses_used}
+use Rattle.abel_tree.specs.Extensions.{innermost}
 use Rattle.name_uses.specs.NamesUsed.{UsedName, member_used, members_used, names_used}
 
 -- ---- extensions

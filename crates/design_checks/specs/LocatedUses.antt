@@ -1,7 +1,8 @@
 -- Where an expression reads signals: a signal that a constant brings stands at the constant's name, and each name of a
 -- range at its first end (this project's rule).
 use Rattle.std.specs.Prelude.{ℕ, Option, None, Some, List, [], ◌∷◌}
-use Rattle.design_checks.specs.Prelude.{flat_map, Place, Extension, range_names, Tree, Known, term_named, extended_if, innermost, SignalUse, term_uses}
+use Rattle.design_checks.specs.Prelude.{flat_map, Place, Extension, Tree, Known, term_named, extended_if, innermost, SignalUse, term_uses}
+use Rattle.abel_tree.specs.Ranges.{range_names}
 use Rattle.abel_tree.specs.declared.words.Word.{Word}
 use Rattle.name_uses.specs.NamesUsed.{UsedName, names_used}
 

@@ -9,11 +9,9 @@ pub use Rattle.abel_tree.specs.Assigned.{target_extension}
 pub use Rattle.abel_tree.specs.Entries.{AConstant, ANode, APin, Entry, Kind, entries_of, is_stored, view_declared, view_meaning}
 pub use Rattle.abel_tree.specs.Extensions.{innermost, is_data}
 pub use Rattle.abel_tree.specs.FirstRefusal.{Ranks, first_refusal}
-pub use Rattle.abel_tree.specs.Ranges.{range_names}
-pub use Rattle.abel_tree.specs.Tree.{ABinary, ABranch, ACase, ADiagram, ADontCare, AGoal, AGroup, AName, ANumber, AParen, ASet, ASpecial, ATable, AUnary, AWhen}
-pub use Rattle.abel_tree.specs.Tree.{AnAssign, AnElse, AnIf, Branch, Choices, Declarations, DontCareSection, Equations, Members, MoreChoices, MoreMembers}
-pub use Rattle.abel_tree.specs.Tree.{MoreStatements, NoBranch, NoChoice, NoElse, NoMember, NoStatement, OneMember, OtherBranch, Otherwise, SectionTree}
-pub use Rattle.abel_tree.specs.Tree.{SetMember, SomeVectors, SpanMember, StateTree, Statement, Statements, Tree, statements_of}
+pub use Rattle.abel_tree.specs.Tree.{ABinary, ADiagram, ADontCare, AGroup, AName, ASet, ATable, AUnary, AWhen, AnAssign, AnElse, Declarations, DontCareSection}
+pub use Rattle.abel_tree.specs.Tree.{Equations, MoreMembers, MoreStatements, NoElse, NoMember, NoStatement, OneMember, Otherwise, SectionTree, SomeVectors}
+pub use Rattle.abel_tree.specs.Tree.{Statement, Statements, Tree, statements_of}
 pub use Rattle.abel_tree.specs.View.{view, view_member, view_section, view_stmt}
 pub use Rattle.abel_tree.specs.declared.names.Names.{Names}
 pub use Rattle.abel_tree.specs.declared.words.Extension.{Extension}
@@ -21,7 +19,7 @@ pub use Rattle.bit_expr.specs.Arena.{formula_at}
 unfoldable pub use Rattle.bit_expr.specs.Arena.{arena}
 pub use Rattle.bit_expr.specs.Formulas.{And, Const, Formula, Not, Or, Read, Xor}
 pub use Rattle.bit_expr.specs.declared.node.Leaf.{Leaf}
-pub use Rattle.name_uses.specs.Viewed.{PartedSection, view_part, view_role, view_use}
+pub use Rattle.name_uses.specs.Viewed.{view_part, view_role, view_use}
 pub use Rattle.netlist_laws.specs.Gathered.{cell_of}
 pub use Rattle.netlist_laws.specs.SignalUses.{SignalUse, term_uses, use_reads}
 pub use Rattle.pld_base.specs.declared.place.Place.{Place}

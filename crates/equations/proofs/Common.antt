@@ -13,8 +13,8 @@ pub use Rattle.abel_tree.proofs.FirstRefusals.{first_append, none_refused}
 pub use Rattle.abel_tree.specs.Assigned.{is_clocked, target_extension}
 pub use Rattle.abel_tree.specs.Entries.{AConstant, ANode, APin, Entry, Kind, entries_of}
 pub use Rattle.abel_tree.specs.FirstRefusal.{earlier, first_refusal}
-pub use Rattle.abel_tree.specs.Tree.{ABinary, ADontCare, AGroup, AName, ANumber, AParen, ASet, ASpecial, AUnary, AWhen, AnAssign, AnElse, MoreStatements}
-pub use Rattle.abel_tree.specs.Tree.{NoElse, NoStatement, OneMember, Otherwise, SetMember, Statement, Statements, Tree, members_of, otherwise_of, statements_of}
+pub use Rattle.abel_tree.specs.Tree.{ABinary, AGroup, AName, ANumber, AParen, ASet, ASpecial, AUnary, AWhen, AnAssign, AnElse, MoreStatements, NoElse}
+pub use Rattle.abel_tree.specs.Tree.{NoStatement, OneMember, Otherwise, SetMember, Statement, Statements, Tree, members_of, otherwise_of, statements_of}
 pub use Rattle.abel_tree.specs.View.{view, view_stmt}
 pub use Rattle.abel_tree.specs.declared.names.Names.{Names}
 pub use Rattle.abel_tree.specs.declared.statements.Stmt.{Stmt, the_lemmas}

@@ -7,19 +7,18 @@ pub use Rattle.std.proofs.lemmas.List.{length-map, length-replicate, length-reve
 pub use Rattle.std.proofs.lemmas.Option.{get_or_from_slice_get, slice_get-get_or, slice_get-map, slice_get_past, slice_get_within}
 pub use Rattle.std.proofs.lemmas.Result.{IfOk-weaker, err_from_is_err_and}
 pub use Rattle.std.specs.Global.{Vec}
-pub use Rattle.std.specs.List.{list_any, position_from, position_or_len}
+pub use Rattle.std.specs.List.{list_any, position_or_len}
 pub use Rattle.abel_meaning.specs.BitWords.{Word, difference_bits, each_not, less_bit, next_carry, operator_bits, relation_bit, sum_bit, sum_bits, unary_word}
 pub use Rattle.abel_meaning.specs.BitWords.{word_by_position}
 pub use Rattle.abel_meaning.specs.Designs.{Context, name_at, no_name}
 pub use Rattle.abel_meaning.specs.FormulaBits.{bits_of, bits_of_all, kept_bits, make_source, met_by, met_word, operator_word, resized}
-pub use Rattle.abel_meaning.specs.Numbers.{Number, Set, Shape, Single, Value, digits_low_first, either_unknown, meeting, member_width, met_number, met_unknown}
+pub use Rattle.abel_meaning.specs.Numbers.{Number, Set, Shape, Single, Value, digits_low_first, either_unknown, meeting, member_width, met_unknown}
 pub use Rattle.abel_meaning.specs.Numbers.{met_unknown_by, width_of}
 pub use Rattle.abel_meaning.specs.Sources.{Held, Source, Zero, source_of, source_value}
 pub use Rattle.abel_meaning.specs.Terms.{Before, Known, NoTerm, Read, Term, Terms, extended, extended_each, extended_if, known_after, known_of, member_before}
 pub use Rattle.abel_meaning.specs.Terms.{named_before, special_term, term_meant, term_named, term_of, terms_of}
-pub use Rattle.abel_meaning.specs.Values.{binary_by, binary_value, bit_value, constant_of, is_relation, nowhere, operator_number, plain_value, set_value}
-pub use Rattle.abel_meaning.specs.Values.{unary_number, unary_value}
-pub use Rattle.abel_tree.specs.Entries.{AConstant, ADeviceName, ANode, APin, Entry, Kind, entries_of, find, view_declared, view_meaning}
+pub use Rattle.abel_meaning.specs.Values.{binary_by, binary_value, bit_value, constant_of, is_relation, nowhere, plain_value, set_value, unary_value}
+pub use Rattle.abel_tree.specs.Entries.{AConstant, ADeviceName, Entry, Kind, entries_of, find, view_declared, view_meaning}
 pub use Rattle.abel_tree.specs.Extensions.{innermost}
 pub use Rattle.abel_tree.specs.Ranges.{range_names}
 pub use Rattle.abel_tree.specs.Tree.{ABinary, AName, ANumber, AParen, ASet, ASpecial, AUnary, Members, MoreMembers, NoMember, OneMember, SetMember, SpanMember}
@@ -50,14 +49,14 @@ pub use Rattle.set_expr.specs.FoundNames.{found_of, found_use, found_value, is_p
 pub use Rattle.set_expr.specs.FoundNames.{range_found, refused_there}
 pub use Rattle.set_expr.specs.declared.fault.SectionFault.{SectionFault}
 pub use Rattle.set_expr.specs.declared.shaped.Shaped.{Shaped}
-pub use Rattle.expr_bits.specs.{ALeaf, ASignal, AllIn, AreParts, Asked, inside, told_by, AreRows, AreStacked, ComesTo, Do, Finds, HasForm, HasUnknown, IsBits, IsBlank, IsKept, IsKeptIf, IsMade}
-pub use Rattle.expr_bits.specs.{IsPart, IsPast, IsReads, IsRow, Makes, MakesBits, MeetsAs, Part, Precedes, Push, ShowsAll, ShowsItems, ShowsOne, ShowsStack}
-pub use Rattle.expr_bits.specs.{ShowsTwo, Standing, Task, after_all, after_task, along, any_reads_leaf, as_set, below, bit_id, both_part, computed_part}
-pub use Rattle.expr_bits.specs.{computed_value, digit_ids, each_extended, here_term, is_last, is_leaf, joined_part, kept_ids, leaf_under, left_by, list_of}
-pub use Rattle.expr_bits.specs.{made_by, named_answer, named_term, names_to, no_part, no_reads, number_part, or_and_of, place_of, places_of}
+pub use Rattle.expr_bits.specs.{ALeaf, ASignal, AllIn, AreParts, AreRows, AreStacked, Asked, ComesTo, Do, Finds, HasForm, HasUnknown, IsBits, IsBlank, IsKept}
+pub use Rattle.expr_bits.specs.{IsKeptIf, IsMade, IsPart, IsReads, IsRow, Makes, MakesBits, MeetsAs, Part, Precedes, Push, ShowsAll, ShowsItems, ShowsOne}
+pub use Rattle.expr_bits.specs.{ShowsStack, ShowsTwo, Task, after_all, after_task, along, any_reads_leaf, as_set, below, bit_id, both_part, computed_part}
+pub use Rattle.expr_bits.specs.{computed_value, digit_ids, each_extended, here_term, inside, is_last, is_leaf, joined_part, kept_ids, leaf_under, left_by}
+pub use Rattle.expr_bits.specs.{list_of, made_by, named_answer, named_term, names_to, no_part, no_reads, number_part, or_and_of, place_of, places_of}
 pub use Rattle.expr_bits.specs.{positions_of, pushed, reads_at, reads_leaf, reads_of_row, reads_signal, related_part, relation_of, relation_step}
 pub use Rattle.expr_bits.specs.{relation_steps, resized_ids, set_by, shape_of, some_of_read, some_read, start_id, start_of, step_by, step_of, sum_step, task_of}
-pub use Rattle.expr_bits.specs.{tasks_of, term_part, top, under_of, under_part, upto_of, used_answer, width_of_two, with_value, word_at, word_in}
+pub use Rattle.expr_bits.specs.{tasks_of, term_part, told_by, top, under_of, under_part, upto_of, used_answer, width_of_two, with_value, word_at, word_in}
 pub use Rattle.expr_bits.specs.declared.forms.Bits.{Bits}
 pub use Rattle.expr_bits.specs.declared.forms.Form.{Form}
 pub use Rattle.expr_bits.specs.declared.reads.Reads.{Reads}

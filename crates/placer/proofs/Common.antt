@@ -8,7 +8,7 @@ pub use Rattle.std.proofs.lemmas.Iterator.Consumers.{YieldsList-end}
 pub use Rattle.std.proofs.lemmas.List.{append-nil, drop_all, get_or-map, get_or-take, get_or_past, get_or_read, length-append, length-map, length-take}
 pub use Rattle.std.proofs.lemmas.List.{map-append, map-id, take-append-le, take-map, take_all, take_more}
 pub use Rattle.std.proofs.lemmas.List.Elements.{All-from_get_or, All-get_or, All-take, filter-append}
-pub use Rattle.std.proofs.lemmas.List.Folds.{list_any-append}
+pub use Rattle.std.proofs.lemmas.List.Folds.{flat_map-map, list_any-append}
 pub use Rattle.std.proofs.lemmas.List.Sums.{fold-append}
 pub use Rattle.std.proofs.lemmas.Option.{get_or_from_slice_get, slice_get-get_or}
 pub use Rattle.std.proofs.lemmas.Result.{IfOk-weaker}
@@ -19,23 +19,17 @@ pub use Rattle.abel_meaning.specs.Declarations.{GivenName, all_said, are_numbere
 pub use Rattle.abel_meaning.specs.Declarations.{is_unnumbered, no_words, node_count, node_entries, pin_entries, said_by_either, said_words}
 pub use Rattle.abel_meaning.specs.Declarations.{section_declarations, with_words, words_of}
 pub use Rattle.abel_meaning.specs.Designs.{Context, no_name}
-pub use Rattle.abel_meaning.specs.Held.{ATarget, AValue, Holds, Part, branch_parts, branches_parts, choices_parts, else_parts, holds_of, list_parts}
-pub use Rattle.abel_meaning.specs.Held.{other_parts, statement_parts, statements_parts, states_parts, with_parts}
+pub use Rattle.abel_meaning.specs.Held.{ATarget, AValue, Holds, Part, holds_of}
 pub use Rattle.abel_meaning.specs.Kinds.{is_buffer_by_default, is_registered, names_of, with_kind, with_kinds, words_with_kind}
-pub use Rattle.abel_meaning.specs.Terms.{Before, BinaryOf, Known, NoTerm, Pulse, Read, Release, Set, Term, Terms, UnaryOf, X, extended, extended_each}
-pub use Rattle.abel_meaning.specs.Terms.{extended_if, known_after, known_of, member_before, named_before, special_term, term_meant, term_named, term_of}
-pub use Rattle.abel_meaning.specs.Terms.{terms_of}
 pub use Rattle.abel_tree.specs.Assigned.{Assigned, Named, is_assigned, is_clocked_target, list_assigns, meant, named_after, named_of, section_assigns}
 pub use Rattle.abel_tree.specs.Assigned.{sections_assign, signals_of, signals_of_name, signals_of_names, target_extension, without_extension}
 pub use Rattle.abel_tree.specs.Entries.{AConstant, ADeviceName, ANode, APin, Entry, Kind, Words, find, is_signal, is_stored, is_value, kind_of, names_any}
 pub use Rattle.abel_tree.specs.Entries.{passes, view_declared, view_meaning}
 pub use Rattle.abel_tree.specs.Extensions.{innermost}
 pub use Rattle.abel_tree.specs.Ranges.{count_numbers, ends_agree, is_bad, names_between, numbers_of, range_names, span_count, span_numbers}
-pub use Rattle.abel_tree.specs.Tree.{ABinary, ABranch, ACase, ADevice, ADiagram, ADontCare, AGoal, AGroup, AName, ANumber, AParen, ASet, ASpecial, ATable}
-pub use Rattle.abel_tree.specs.Tree.{AUnary, AWhen, AnAssign, AnElse, AnIf, Branch, Choices, Declaration, Declarations, DontCareFor, DontCareSection, Equations}
-pub use Rattle.abel_tree.specs.Tree.{Members, ModuleTree, MoreChoices, MoreMembers, MoreStatements, NoBranch, NoChoice, NoElse, NoMember, NoStatement}
-pub use Rattle.abel_tree.specs.Tree.{OneMember, OtherBranch, Otherwise, SectionTree, SetMember, SomeAttributes, SomeConstants, SomeNodes, SomeOptions, SomePins}
-pub use Rattle.abel_tree.specs.Tree.{SomeVectors, SpanMember, StateTree, Statement, Statements, Tree, statements_of}
+pub use Rattle.abel_tree.specs.Tree.{ABinary, ADevice, ADiagram, AName, ANumber, AParen, ASet, ASpecial, ATable, AUnary, Declaration, Declarations, DontCareFor}
+pub use Rattle.abel_tree.specs.Tree.{DontCareSection, Equations, Members, ModuleTree, MoreMembers, NoMember, OneMember, SectionTree, SetMember, SomeAttributes}
+pub use Rattle.abel_tree.specs.Tree.{SomeConstants, SomeNodes, SomeOptions, SomePins, SomeVectors, SpanMember, Statement, Tree}
 pub use Rattle.abel_tree.specs.Uses.{OneName, Range, Use, all_uses, list_uses, member_uses, one_member_uses, section_uses, uses}
 pub use Rattle.abel_tree.specs.View.{view, view_decl, view_module, view_section, view_stmt}
 pub use Rattle.abel_tree.specs.declared.declarations.Decl.{Decl}
@@ -66,12 +60,12 @@ pub use Rattle.decls.specs.Refused.{counts_differ, counts_refused, declaration_r
 pub use Rattle.decls.specs.Refused.{is_device, is_signal_pin, items_refused, name_refused, names_refused, node_limit, number_refused, parts_refused}
 pub use Rattle.decls.specs.Refused.{ranges_refused, refused_if, use_refused, uses_refused}
 pub use Rattle.decls.specs.Shown.{view_given}
-pub use Rattle.design_checks.specs.LocatedUses.{PlacedUse, all_at}
 pub use Rattle.design_checks.specs.RefusedUses.{has_read_path, has_read_path_on, reads_by}
 pub use Rattle.design_checks.specs.SignalsRefused.{has_wrong_kind, has_wrong_kind_by, has_wrong_kind_on, is_registered_by, is_registered_node}
-pub use Rattle.name_uses.specs.Parts.{PartTree, Registers, part, parts_in_section}
+pub use Rattle.name_uses.specs.NamesUsed.{UsedName, member_used, members_used, names_used}
+pub use Rattle.name_uses.specs.Parts.{PartRole, PartTree, Read, Registers, Value, part, parts_in_section}
 pub use Rattle.name_uses.specs.RangeParts.{name_items}
-pub use Rattle.name_uses.specs.Viewed.{view_part, view_section_parts, view_use}
+pub use Rattle.name_uses.specs.Viewed.{view_part, view_section_parts, view_use, with_parts}
 pub use Rattle.pin_matching.specs.Assignments.{CanPlace, CannotPlace, IsAssignment, IsCrowded, IsKept, IsLeastCrowded, IsTaken, wish_of}
 pub use Rattle.pin_matching.specs.Refusals.{IsRefusal}
 pub use Rattle.pld_base.proofs.BitLemmas.{is_on-bits, is_on-zero, length-bits}
@@ -91,7 +85,7 @@ pub use Rattle.placer.specs.Given.{AreKnown, declaration_given, declarations_giv
 pub use Rattle.placer.specs.Given.{section_given}
 pub use Rattle.placer.specs.Marks.{AreMarks, AreSeen, HasMark, HasMarks, HasSameMark, IsMarkOf, IsUnion, numbers_named}
 pub use Rattle.placer.specs.NamedSignals.{read_after, read_names_of, signals_in, signals_used, stands_for}
-pub use Rattle.placer.specs.PartReads.{enabled_in, parts_of, read_in, signals_at}
+pub use Rattle.placer.specs.PartReads.{enabled_in, parts_of, read_in, reads_as, signals_at}
 pub use Rattle.placer.specs.PlacedModule.{Pinned, item_at, node_alone, node_declaration, node_pinned, numbers_for, placed_declaration, placed_declarations}
 pub use Rattle.placer.specs.PlacedModule.{placed_module, placed_section, register_string, released, span_at, spans_for, unpinned, unpinned_items}
 pub use Rattle.placer.specs.PlacedModule.{with_equations}

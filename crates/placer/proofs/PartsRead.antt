@@ -1,7 +1,6 @@
 -- What the parts of sections read, and whose enable they assign, is what the sections do.
 use Rattle.std.proofs.Common.{◌≡◌, ℕ, ◌==◌, Bool, true, false, ◌||◌, Option, None, Some, List, [], ◌∷◌, ◌++◌, if◌then◌else◌, map, refl, sym, ap, ap₂, ◌∙◌}
-use Rattle.placer.proofs.Common.{list_any, flat_map, flat_map-append, list_any-append, Part, ATarget, AValue, Named, signals_of, target_extension, without_extension, Tree, SectionTree, Declarations, Equations, ATable, ADiagram, SomeVectors, DontCareSection, PartTree, Registers, part, parts_in_section, signals_in, enabled_in, parts_of, read_in, enables, is_enable, read_parts, reads}
-use Rattle.name_uses.specs.Viewed.{with_parts}
+use Rattle.placer.proofs.Common.{list_any, flat_map, flat_map-append, list_any-append, Part, ATarget, AValue, Named, signals_of, target_extension, without_extension, Tree, SectionTree, Declarations, Equations, ATable, ADiagram, SomeVectors, DontCareSection, PartTree, Registers, part, parts_in_section, signals_in, enabled_in, parts_of, read_in, enables, is_enable, read_parts, reads, with_parts}
 use Rattle.name_uses.proofs.HoldingParts.{Follows, in_list, in_rows, in_states}
 use Rattle.placer.proofs.UsedSignals.{names_signals}
 

@@ -1,17 +1,12 @@
 -- Every use of a design is a read.
 use Rattle.std.proofs.Common.{◌≡◌, ℕ, suc, Bool, true, false, not, ◌||◌, ◌==◌, inl, inr, Option, None, Some, List, [], ◌∷◌, ◌++◌, if◌then◌else◌, map, refl, ap, ap₂, sym, ◌∙◌, append-nil, bytes_eq}
-use Rattle.placer.proofs.Common.{list_any, flat_map, or_cases, or_left, or_right, list_any-append, Place, Extension, Named, signals_of_name, signals_of_names, Kind, APin, ANode, AConstant, ADeviceName, Entry, innermost, range_names, Tree, SectionTree, Context, Known, term_named, extended_if, term_of, term_meant, known_after, known_of, PartTree, parts_in_section, PlacedUse, all_at, signals_at, signals_in, signals_used, parts_of, read_in, read_parts, reads, stands_for, read_after, read_names_of}
-use Rattle.std.proofs.lemmas.List.Folds.{flat_map-map}
-use Rattle.abel_tree.specs.declared.words.Word.{Word}
+use Rattle.placer.proofs.Common.{list_any, flat_map, or_cases, or_left, or_right, list_any-append, Place, Extension, Named, signals_of_name, signals_of_names, Kind, APin, ANode, AConstant, ADeviceName, Entry, innermost, range_names, Tree, SectionTree, Context, PartTree, parts_in_section, signals_at, signals_in, signals_used, parts_of, read_in, read_parts, reads, stands_for, read_after, read_names_of, flat_map-map, Word, UsedName, names_used, PartRole, Read, Registers, Value, with_parts, reads_as}
+use Rattle.abel_meaning.specs.Terms.{Known, term_named, extended_if, term_of, term_meant, known_after, known_of}
+use Rattle.design_checks.specs.LocatedUses.{PlacedUse, all_at, names_read, names_to, reads_used, uses_used}
 use Rattle.decls.specs.PartUses.{use_to}
-use Rattle.name_uses.specs.NamesUsed.{UsedName, names_used}
-use Rattle.name_uses.specs.Parts.{PartRole, Read, Registers, Value}
-use Rattle.name_uses.specs.Viewed.{with_parts}
 use Rattle.netlist_laws.specs.SignalUses.{SignalUse, term_uses}
-use Rattle.design_checks.specs.LocatedUses.{names_read, names_to, reads_used, uses_used}
 use Rattle.design_checks.specs.SectionUses.{is_compared, is_read, part_uses}
 use Rattle.design_checks.proofs.UsesRead.{extended_uses, names_are_read, under}
-use Rattle.placer.specs.PartReads.{reads_as}
 use Rattle.placer.proofs.PartsRead.{sections_read}
 use Rattle.placer.proofs.UsedSignals.{names_signals}
 

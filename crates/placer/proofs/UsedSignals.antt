@@ -1,7 +1,6 @@
 -- The signals of the names that an expression uses are those that it names.
 use Rattle.std.proofs.Common.{◌≡◌, ℕ, Option, List, ◌++◌, refl, sym, ap₂, ◌∙◌}
-use Rattle.placer.proofs.Common.{flat_map, flat_map-append, Extension, Named, Tree, ANumber, ASpecial, AName, ASet, AParen, AUnary, ABinary, SetMember, OneMember, SpanMember, Members, NoMember, MoreMembers, Use, uses, member_uses, one_member_uses, innermost, signals_in, signals_used, signals_at}
-use Rattle.name_uses.specs.NamesUsed.{UsedName, names_used, members_used, member_used}
+use Rattle.placer.proofs.Common.{flat_map, flat_map-append, Extension, Named, Tree, ANumber, ASpecial, AName, ASet, AParen, AUnary, ABinary, SetMember, OneMember, SpanMember, Members, NoMember, MoreMembers, Use, uses, member_uses, one_member_uses, innermost, signals_in, signals_used, signals_at, UsedName, names_used, members_used, member_used}
 
 module _ (ks : List Named) where
   abbrev at : List UsedName → List ℕ

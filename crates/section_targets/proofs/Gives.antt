@@ -1,7 +1,6 @@
 -- What is given by one unit, signal after signal.
 use Rattle.std.proofs.Common.{◌≡◌, ℕ, ◌+◌, ◌<◌, ◌≤◌, List, [], ◌∷◌, ◌++◌, Result, Ok, Err, map, length, drop, get_or, refl, sym, ap, subst, subst₂, arith, append-nil}
-use Rattle.std.proofs.lemmas.List.Elements.{All-cons, All-nil}
-use Rattle.section_targets.proofs.Common.{Place, ExprId, Node, arena, formula_at, Formula, Contribution, Contributions, SectionFault, Keeps, view_contribution, Context, Aim, one_given, one_part, each_given, each_part, places_of, drop_all, Leaves, NoMemory, StopsWith, IsBuilt, Builds, CountedUnit}
+use Rattle.section_targets.proofs.Common.{All-cons, All-nil, Place, ExprId, Node, arena, formula_at, Formula, Contribution, Contributions, SectionFault, Keeps, view_contribution, Context, Aim, one_given, one_part, each_given, each_part, places_of, drop_all, Leaves, NoMemory, StopsWith, IsBuilt, Builds, CountedUnit}
 use Rattle.abel_meaning.specs.Contributions as meant
 use Rattle.set_expr.specs.declared.fault.SectionFault.TheVariants as fault
 use Rattle.section_targets.specs.declared.giving.Giving.{Giving}

@@ -1,7 +1,6 @@
 -- The targets of a design are signals.
 use Rattle.std.proofs.Common.{◌≡◌, ℕ, suc, true, Option, None, Some, List, [], ◌∷◌, ◌++◌, length, get_or, refl, sym, ap, subst, ◌∙◌, arith, append_assoc, length-append, if◌then◌else◌, bytes_eq, codes}
-use Rattle.std.proofs.lemmas.Bool.{cond_both}
-use Rattle.section_targets.proofs.Common.{get_or-append_seam, Extension, Kind, AConstant, ADeviceName, Entry, is_signal, range_names, Tree, ASpecial, AName, ASet, AParen, SetMember, OneMember, SpanMember, Members, NoMember, MoreMembers, Context, name_at, no_name, targets_of, all_targets, Term, Terms, X, Pulse, Release, Set, Known, term_named, extended_if, named_before, member_before, special_term, term_of, terms_of, term_meant, known_after, known_of}
+use Rattle.section_targets.proofs.Common.{cond_both, get_or-append_seam, Extension, Kind, AConstant, ADeviceName, Entry, is_signal, range_names, Tree, ASpecial, AName, ASet, AParen, SetMember, OneMember, SpanMember, Members, NoMember, MoreMembers, Context, name_at, no_name, targets_of, all_targets, Term, Terms, X, Pulse, Release, Set, Known, term_named, extended_if, named_before, member_before, special_term, term_of, terms_of, term_meant, known_after, known_of}
 use Rattle.section_targets.proofs.SignalLists.{extended_targets}
 
 module _ (Q : ℕ → Type 0) where

@@ -1,9 +1,7 @@
 -- Look-ups from the front.
 use Rattle.std.proofs.Common.{◌≡◌, ℕ, ◌+◌, ◌-◌, ◌<◌, ◌≤◌, Bool, true, ◌||◌, List, [], ◌∷◌, ◌++◌, Option, None, Some, length, map, get_or, drop, refl, sym, ap, ap₂, ◌∙◌, subst, arith, add-one, position}
-use Rattle.std.proofs.lemmas.Bool.{cond_both}
-use Rattle.std.proofs.lemmas.List.Elements.{All-cons, All-nil}
+use Rattle.section_targets.proofs.Common.{cond_both, All-cons, All-nil, list_any, position_from, is_some, option_or, position_from-zero, drop-cons, drop_all, Aim, Manner, AreNamed, nat_tests, first_manner, is_same_part, part_of, AreFirsts}
 use Rattle.std.proofs.lemmas.List.Folds.{find-append}
-use Rattle.section_targets.proofs.Common.{list_any, position_from, is_some, option_or, position_from-zero, drop-cons, drop_all, Aim, Manner, AreNamed, nat_tests, first_manner, is_same_part, part_of, AreFirsts}
 
 -- what is left from k on
 pub next_of : {X : Type 0} (xs : List X) (k : ℕ) (d : X) → k < length xs → drop k xs ≡ get_or xs k d ∷ drop (k + 1) xs

@@ -1,7 +1,6 @@
 -- The bits of a value, position after position.
 use Rattle.std.proofs.Common.{◌≡◌, ℕ, ◌<◌, false, true, List, [], ◌∷◌, All, Option, None, Some, length, get_or, replicate, unwrap_or, refl, ap, ap₂, ◌∙◌, subst, sym, arith}
-use Rattle.std.proofs.lemmas.List.Elements.{All-cons, All-nil}
-use Rattle.section_targets.proofs.Common.{length-map, ExprId, Node, arena, formula_at, Formula, Const, met_by, met_word, Value, IsShaped, AreIn, bits_at, positions, digit_ids, resized_ids, AreBits, IsBit, known_ids}
+use Rattle.section_targets.proofs.Common.{All-cons, All-nil, length-map, ExprId, Node, arena, formula_at, Formula, Const, met_by, met_word, Value, IsShaped, AreIn, bits_at, positions, digit_ids, resized_ids, AreBits, IsBit, known_ids}
 use Rattle.bit_expr.proofs.ArenaLists.{arena_count, first_formula}
 use Rattle.abel_meaning.specs.Numbers as number
 use Rattle.set_expr.specs.Shapes.{HasShape}

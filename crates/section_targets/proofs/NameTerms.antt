@@ -1,7 +1,7 @@
 -- What names stand for, and the members of sets one at a time.
 use Rattle.std.proofs.Common.{◌≡◌, ℕ, inl, inr, zero, suc, ◌+◌, ◌≤◌, Bool, true, false, Option, None, Some, List, [], ◌∷◌, ◌++◌, if◌then◌else◌, length, map, get_or, slice_get, cond, bytes_eq, refl, sym, ap, ◌∙◌, subst, arith, append_assoc, append-nil, length-append}
-use Rattle.std.proofs.lemmas.Bool.{cases_cond}
-use Rattle.section_targets.proofs.Common.{position_from, position_from-zero, map-append, slice_get_past, slice_get-get_or, get_or-append_seam, Entry, find, range_names, SetMember, OneMember, SpanMember, members_of, targets_of, all_targets, Term, Terms, Number, NoTerm, Known, term_named, term_meant, term_of, terms_of, member_before, named_before, known_after, known_of, NamedSignals, IsOfTerm, AreOfTerms, StandFor}
+use Rattle.section_targets.proofs.Common.{cases_cond, position_from, position_from-zero, map-append, slice_get_past, slice_get-get_or, get_or-append_seam, Entry, find, range_names, SetMember, OneMember, SpanMember, members_of, targets_of, all_targets, Term, Terms, NoTerm, Known, term_named, term_meant, term_of, terms_of, member_before, named_before, known_after, known_of, NamedSignals, IsOfTerm, AreOfTerms, StandFor}
+use Rattle.abel_meaning.specs.Terms.{Number}
 
 -- ---- names by place
 

@@ -1,7 +1,6 @@
 -- What is refused of the signals of a target, one more.
 use Rattle.std.proofs.Common.{◌≡◌, ℕ, Bool, true, false, List, [], ◌∷◌, ◌++◌, Option, Some, ◌||◌, if◌then◌else◌, length, map, take, get_or, refl, sym, ap, ap₂, ◌∙◌, subst, append_assoc, append-nil, ◌<◌, ◌+◌, arith}
-use Rattle.std.proofs.lemmas.Bool.{cond_both}
-use Rattle.section_targets.proofs.Common.{nat_tests, Place, take_more, map-append, get_or_from_slice_get, Extension, sooner, is_before, earlier, first_refusal, before_by, first_append, Entry, entries_of, view_declared, IsContextOf, Context, name_at, no_name, SectionFault, section_order, Aim, Manner, NotAnOutput, MixedAssignment, is_output, no_output, mixed, first_manner, manner_of, aims_refused, AreFirsts, part_of, differs_from, is_against_kind}
+use Rattle.section_targets.proofs.Common.{cond_both, nat_tests, Place, take_more, map-append, get_or_from_slice_get, Extension, sooner, is_before, earlier, first_refusal, before_by, first_append, Entry, entries_of, view_declared, IsContextOf, Context, name_at, no_name, SectionFault, section_order, Aim, Manner, NotAnOutput, MixedAssignment, is_output, no_output, mixed, first_manner, manner_of, aims_refused, AreFirsts, part_of, differs_from, is_against_kind}
 use Rattle.abel_tree.specs.declared.names.Declared.{Declared}
 use Rattle.abel_tree.specs.declared.names.Names.{Names}
 use Rattle.pld_device.specs.Table.{Table}

@@ -1,7 +1,6 @@
 -- The signals of a target that isn't refused are those of its term, position by position.
 use Rattle.std.proofs.Common.{◌≡◌, ℕ, Bool, true, false, Option, None, Some, List, [], ◌∷◌, ◌++◌, if◌then◌else◌, length, map, append_assoc, refl, sym, ap, ap₂, ◌∙◌}
-use Rattle.std.proofs.lemmas.Bool.{and_parts}
-use Rattle.section_targets.proofs.Common.{map-append, Place, Extension, find, range_names, Tree, AName, ASet, AParen, OneMember, SpanMember, Members, NoMember, MoreMembers, Context, targets_of, all_targets, some_signals, Term, Terms, Read, Set, NoTerm, Before, extended_if, term_named, term_of, terms_of, named_before, NotAnOutput, found_use, name_found, names_found, too_wide, Aim, TargetFound, aims_at, names_signals, all_name_signals, no_signals, target_name, target_range, target_member, target_members, left_side, start_of}
+use Rattle.section_targets.proofs.Common.{and_parts, map-append, Place, Extension, find, range_names, Tree, AName, ASet, AParen, OneMember, SpanMember, Members, NoMember, MoreMembers, Context, targets_of, all_targets, some_signals, Term, Terms, Read, Set, NoTerm, Before, extended_if, term_named, term_of, terms_of, named_before, NotAnOutput, found_use, name_found, names_found, too_wide, Aim, TargetFound, aims_at, names_signals, all_name_signals, no_signals, target_name, target_range, target_member, target_members, left_side, start_of}
 use Rattle.section_targets.proofs.Built.{left_empty, right_empty}
 use Rattle.section_targets.proofs.SignalLists.{some_append, extended_targets}
 

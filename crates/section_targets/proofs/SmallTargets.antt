@@ -1,7 +1,6 @@
 -- A target that isn't refused has at most 32 signals.
 use Rattle.std.proofs.Common.{◌≡◌, ℕ, ◌+◌, ◌≤◌, nat_lt, Option, None, Some, List, [], ◌++◌, length, refl, sym, ap, ◌∙◌, subst, arith, length-append}
-use Rattle.section_targets.proofs.Common.{ltb-false, length-map, Place, find, Tree, AName, ASet, AParen, none_refused, Context, Shape, Value, member_width, width_of, targets_of, all_targets, some_signals, Term, Terms, NoTerm, Before, term_named, known_of, SectionFault, BadWidth, name_found, found_use, names_found, too_wide, section_order, Side, IsSide, TargetFound, aim_at, target_name, target_set, target_member, target_members, left_side, no_signals, start_of}
-use Rattle.abel_meaning.specs.Numbers.{Number}
+use Rattle.section_targets.proofs.Common.{ltb-false, length-map, Place, find, Tree, AName, ASet, AParen, none_refused, Context, Shape, Value, member_width, width_of, targets_of, all_targets, some_signals, Term, Terms, NoTerm, Before, term_named, known_of, SectionFault, BadWidth, name_found, found_use, names_found, too_wide, section_order, Side, IsSide, TargetFound, aim_at, target_name, target_set, target_member, target_members, left_side, no_signals, start_of, Number}
 use Rattle.abel_meaning.specs.Terms as term
 use Rattle.abel_meaning.specs.Values.{constant_of, set_value, nowhere}
 use Rattle.expr_bits.proofs.Linked.{IsLinkedIf, expression_linked}

@@ -1,8 +1,6 @@
 -- Walks one after another, and the walk over one unit.
 use Rattle.std.proofs.Common.{◌≡◌, ℕ, ◌+◌, Bool, true, false, Option, None, Some, List, [], ◌∷◌, ◌++◌, Result, Ok, Err, length, refl, sym, ap, ap₂, ◌∙◌, subst, append_assoc, append-nil}
-use Rattle.std.proofs.lemmas.Bool.{cond_both}
-use Rattle.std.proofs.lemmas.Option.{none-some}
-use Rattle.section_targets.proofs.Common.{is_some, Place, arena, Formula, is_before, earlier, first_refusal, earlier_assoc, first_append, none_refused, SectionFault, Keeps, section_order, Manner, Contributed, Stops, NoMemory, AtLimit, Builds, AreFirsts, CountedUnit, is_past, limit_at, limit_refused, units_refused, units_nodes, all_refused, AfterMaking, Walks, fault_behind, standing}
+use Rattle.section_targets.proofs.Common.{cond_both, none-some, is_some, Place, arena, Formula, is_before, earlier, first_refusal, earlier_assoc, first_append, none_refused, SectionFault, Keeps, section_order, Manner, Contributed, Stops, NoMemory, AtLimit, Builds, AreFirsts, CountedUnit, is_past, limit_at, limit_refused, units_refused, units_nodes, all_refused, AfterMaking, Walks, fault_behind, standing}
 use Rattle.abel_meaning.specs.Contributions as meant
 use Rattle.section_targets.specs.declared.walked.Walked.{Walked}
 use Rattle.section_targets.proofs.Built.{left_empty, right_empty, both_empty, refused_append, nodes_append, limit_append, limit_stays, keeps_on, made_then, builds_none}

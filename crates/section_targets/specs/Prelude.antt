@@ -1,10 +1,11 @@
 -- The words of the crates below that the clauses of this crate are said in, passed on from one place. Declares nothing.
+pub use Rattle.std.specs.Option.{is_some, option_to_list}
 pub use Rattle.abel_meaning.specs.Contributions.{contribution, is_dontcare}
-pub use Rattle.abel_meaning.specs.Designs.{Context, name_at}
+pub use Rattle.abel_meaning.specs.Designs.{Context, name_at, no_name}
 pub use Rattle.abel_meaning.specs.Numbers.{Set, Shape, Value}
 pub use Rattle.abel_meaning.specs.Targets.{all_targets, some_signals, targets_of}
 pub use Rattle.abel_meaning.specs.Terms.{Known, Term, Terms, extended_if, known_of, member_before, term_meant, term_named, term_of}
-pub use Rattle.abel_tree.specs.Entries.{AConstant, ADeviceName, ANode, APin, Entry, Kind, entries_of, find, view_declared, view_meaning}
+pub use Rattle.abel_tree.specs.Entries.{AConstant, ADeviceName, ANode, APin, Entry, Kind, entries_of, find, is_signal, view_declared, view_meaning}
 pub use Rattle.abel_tree.specs.FirstRefusal.{earlier, first_refusal}
 pub use Rattle.abel_tree.specs.Tree.{ABinary, AName, AParen, ASet, ASpecial, Members, MoreMembers, NoMember, OneMember, SetMember, SpanMember, Tree, members_of}
 pub use Rattle.abel_tree.specs.View.{view, view_member}

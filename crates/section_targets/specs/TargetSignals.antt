@@ -1,10 +1,8 @@
 -- The signals of a target with their places, and what is no target (ABEL-HDL Reference Manual, equations and sets).
 use Rattle.std.specs.Prelude.{ℕ, get_or, Bool, true, false, ◌&&◌, Option, None, Some, List, [], ◌∷◌, ◌++◌, length, map, if◌then◌else◌}
-use Rattle.section_targets.specs.Prelude.{Place, Entry, find, Tree, ASpecial, AName, ASet, AParen, ABinary, SetMember, OneMember, SpanMember, Members, NoMember, MoreMembers, Context, targets_of, some_signals, Term, Terms, term_named, SectionFault, MisplacedSpecial, NotAnOutput, first_place, Found, too_wide}
+use Rattle.section_targets.specs.Prelude.{Place, Entry, find, Tree, ASpecial, AName, ASet, AParen, ABinary, SetMember, OneMember, SpanMember, Members, NoMember, MoreMembers, Context, targets_of, some_signals, Term, Terms, term_named, SectionFault, MisplacedSpecial, NotAnOutput, first_place, Found, too_wide, is_signal, no_name}
 use Rattle.abel_tree.specs.declared.words.Word.{Word}
 use Rattle.abel_tree.specs.Ranges.{range_names}
-use Rattle.abel_tree.specs.Entries.{is_signal}
-use Rattle.abel_meaning.specs.Designs.{no_name}
 use Rattle.abel_meaning.specs.Terms as term
 use Rattle.set_expr.specs.FoundNames.{name_found, names_found, found_use}
 use Rattle.section_targets.specs.declared.aim.Aim.{Aim}

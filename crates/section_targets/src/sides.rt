@@ -1,8 +1,7 @@
 //! The signals of targets with their places, and what is no target.
 
 ghost use Rattle.std.specs.Prelude.{◌≡◌, ℕ, Bool, min, if◌then◌else◌, List, [], ◌∷◌, IfOk, length};
-ghost use Rattle.section_targets.specs.Prelude.{entries_of, find, first_refusal, Context, NotAnOutput, too_wide, section_order};
-ghost use Rattle.std.specs.Option.{option_to_list};
+ghost use Rattle.section_targets.specs.Prelude.{entries_of, find, first_refusal, Context, NotAnOutput, too_wide, section_order, option_to_list};
 ghost use Rattle.section_targets.specs.{AreSignals, IsSide, AreTargets, TargetFound, aims_at, targets_both, target_name, start_at, is_signal_number};
 
 use crate::aim::Aim;

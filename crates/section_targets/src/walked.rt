@@ -1,8 +1,7 @@
 //! What a walk over the sections of a source leaves.
 
 ghost use Rattle.std.specs.Prelude.{◌≡◌, [], None, OnOk};
-ghost use Rattle.section_targets.specs.Prelude.{section_order};
-ghost use Rattle.std.specs.Option.{is_some};
+ghost use Rattle.section_targets.specs.Prelude.{section_order, is_some};
 ghost use Rattle.abel_tree.specs.FirstRefusal as first;
 ghost use Rattle.section_targets.specs.{AfterMaking};
 

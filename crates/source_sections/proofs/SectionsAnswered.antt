@@ -1,10 +1,8 @@
 -- The answer for a source from that for its units.
 use Rattle.std.proofs.Common.{◌≡◌, Option, None, Some, List, [], length, map, sym, ap, ◌∙◌, subst, append-nil}
-use Rattle.source_sections.proofs.Common.{arena, earlier, first_refusal, Design, given_formulas, Contribution, view_contribution, section_order, units_nodes, both_clear, at, AreContributed, IsTold, sections_refused, source_units, sections_places}
+use Rattle.source_sections.proofs.Common.{arena, earlier, first_refusal, Design, given_formulas, Contribution, view_contribution, section_order, units_nodes, both_clear, at, AreContributed, IsTold, sections_refused, source_units, sections_places, none_refused, SectionFault}
 use Rattle.std.specs.Option.{is_some}
-use Rattle.abel_tree.proofs.FirstRefusals.{none_refused}
 use Rattle.set_expr.specs.declared.contributions.Contributions.{Contributions}
-use Rattle.set_expr.specs.declared.fault.SectionFault.{SectionFault}
 use Rattle.set_expr.specs.declared.fault.SectionFault.TheVariants as fault
 use Rattle.section_targets.specs.Appending.{Contributed}
 use Rattle.gathering.specs.Parts.{AllLieIn}

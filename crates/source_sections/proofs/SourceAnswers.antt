@@ -1,14 +1,10 @@
 -- The answer for the units of a source, by its module.
 use Rattle.std.proofs.Common.{◌≡◌, Bool, false, Option, None, Some, List, [], Result, Ok, Err, OnOk, IfErr, length, map, sym, ap, ap₂, subst, ◌∙◌}
-use Rattle.source_sections.proofs.Common.{Table, Names, entries_of, view_decl, view_module, Design, after_declarations, design_for, given_formulas, Walked, Walks, WalksSections, view_sections, source_units, sections_manners, sections_places, arena, earlier, first_refusal, section_order, all_refused, fault_behind, sections_refused}
+use Rattle.source_sections.proofs.Common.{Table, Names, entries_of, view_decl, view_module, Design, after_declarations, design_for, given_formulas, Walked, Walks, WalksSections, view_sections, source_units, sections_manners, sections_places, arena, earlier, first_refusal, section_order, all_refused, fault_behind, sections_refused, Entry, first_append, constants_refused, SectionFault}
 use Rattle.abel_tree.specs.declared.declarations.Decl.{Decl}
 use Rattle.abel_tree.specs.declared.sections.Module.{Module}
 use Rattle.abel_tree.specs.declared.sections.Section.{Section}
 use Rattle.std.specs.Result.{result_err}
-use Rattle.abel_tree.specs.Entries.{Entry}
-use Rattle.abel_tree.proofs.FirstRefusals.{first_append}
-use Rattle.set_expr.specs.FoundNames.{constants_refused}
-use Rattle.set_expr.specs.declared.fault.SectionFault.{SectionFault}
 
 -- the design of a module with these names
 abbrev pub designed : Table → Names → Module → Design

@@ -1,6 +1,7 @@
 -- What is refused of state diagrams, by computation. a is a pin, Q and R are registers on cells, Y a combinational
 -- output, s is the constant 2; each column has one token that counts.
-use Rattle.state_diagrams.proofs.Common.{APin, Entry, Tree, ABinary, AnAssign, Branch, AGoal, AnIf, ACase, NoBranch, ABranch, NoChoice, MoreChoices, StateTree, Context, context_of, SectionFault, MisplacedSpecial, BadWidth, NotAnOutput, MixedAssignment, BadState, units_refused, units_of_diagram}
+use Rattle.state_diagrams.proofs.Common.{APin, Entry, Tree, ABinary, AnAssign, Branch, AGoal, AnIf, ACase, NoBranch, ABranch, NoChoice, MoreChoices, StateTree, Context, context_of, SectionFault, units_refused, units_of_diagram}
+use Rattle.set_expr.specs.declared.fault.SectionFault.TheVariants.{MisplacedSpecial, BadWidth, NotAnOutput, MixedAssignment, BadState}
 use Prim.Native.String.{String}
 use Rattle.std.proofs.Common.{◌≡◌, ℕ, true, false, None, Some, List, [], ◌∷◌, refl}
 use Rattle.pld_device.specs.SampleTable.{sample}

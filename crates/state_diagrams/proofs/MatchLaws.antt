@@ -1,11 +1,8 @@
 -- What is pushed is what is meant.
 use Rattle.std.proofs.Common.{◌≡◌, ℕ, ◌<◌, ◌==◌, Bool, true, false, not, ◌&&◌, ◌||◌, cond, None, Some, List, [], ◌∷◌, ◌++◌, All, map, drop, get_or, length, refl, sym, ap, ap₂, ◌∙◌, subst, arith, filter, if◌then◌else◌}
-use Rattle.state_diagrams.proofs.Common.{map-append, All-append, All-map, Place, ExprId, formula_at, Formula, formulas, StateTree, Context, first_of_each, is_other, other_matches, state_matches, Contribution, view_contribution, AreBits, other_signal, other_places, regarded, is_among, pushed_beside, pushed_if, seen_if, pushed_for, state_bit, signals_of, Aim}
-use Rattle.std.proofs.Math.Bool.{or_comm, or-false}
+use Rattle.state_diagrams.proofs.Common.{map-append, All-append, All-map, Place, ExprId, formula_at, Formula, formulas, StateTree, Context, first_of_each, is_other, other_matches, state_matches, Contribution, view_contribution, AreBits, other_signal, other_places, regarded, is_among, pushed_beside, pushed_if, seen_if, pushed_for, state_bit, signals_of, Aim, or_comm, or-false, eqb-true, map-map, splat_is_map}
 use Rattle.std.proofs.Math.ListN.{replicate}
-use Rattle.std.proofs.lemmas.Bool.{eqb-true}
 use Rattle.std.proofs.lemmas.List.Folds.{list_any-append}
-use Rattle.std.proofs.lemmas.Simd.{map-map, splat_is_map}
 use Rattle.abel_meaning.specs.Contributions as meant
 use Rattle.abel_tree.specs.Extensions.{is_data}
 

@@ -1,8 +1,7 @@
 -- The bit of a state: bits in an arena that grows, a bit that is made in parts, and the literals of registers, one after
 -- another, which are where the present state has the value.
 use Rattle.std.proofs.Common.{◌≡◌, suc, ◌<◌, false, List, [], ◌∷◌, ◌++◌, length, map, get_or, refl, sym, ap, ap₂, ◌∙◌, subst, arith, ℕ, Bool, true, None, ◌/◌, ◌%◌, Result, Ok, Err, subst₂, add-one, length-append, ◌==◌}
-use Rattle.state_diagrams.proofs.Common.{get_or-map, length-map, map-append, All-append, AreIn, ExprId, formula_at, Formula, Const, StateTree, Context, Keeps, Aim, IsBit, AreBits, kept_formula, kept_inside, state_bit, state_bits, make_not, make_and, condition, register_literals, registers_equal, is_state, formulas, digits, Term, constant_of, number_guard, length-reverse, Place, Node, arena, Made, free, ◌>>=◌, digits_low_first, length_digits, SectionFault, high_bit, two_parts, NoMemory, built_nodes, leaves_nodes, limit_here, stops_longer, MakesBit, bare_read, register_literal, signals_of, make_literal, reverse-append}
-use Rattle.std.proofs.lemmas.List.Elements.{All-cons, All-nil}
+use Rattle.state_diagrams.proofs.Common.{get_or-map, length-map, map-append, All-append, AreIn, ExprId, formula_at, Formula, Const, StateTree, Context, Keeps, Aim, IsBit, AreBits, kept_formula, kept_inside, state_bit, state_bits, make_not, make_and, condition, register_literals, registers_equal, is_state, formulas, digits, Term, constant_of, number_guard, length-reverse, Place, Node, arena, Made, free, ◌>>=◌, digits_low_first, length_digits, SectionFault, high_bit, two_parts, NoMemory, built_nodes, leaves_nodes, limit_here, stops_longer, MakesBit, bare_read, register_literal, signals_of, make_literal, reverse-append, All-cons, All-nil}
 use Rattle.abel_meaning.specs.Terms as term
 use Rattle.set_expr.specs.declared.fault.SectionFault.TheVariants as fault
 use Rattle.expr_bits.specs.Making.{ShowsOne, IsMade, IsPast}

@@ -1,8 +1,6 @@
 -- The walk over a whole diagram, part by part: no match for each register, states with the matches of other signals.
 use Rattle.std.proofs.Common.{◌≡◌, false, true, Option, None, Some, List, [], ◌∷◌, ◌++◌, Result, Ok, length, map, drop, option_map, refl, sym, ap, ap₂, ◌∙◌, subst, subst₂, arith, append-nil, filter, append_assoc}
-use Rattle.state_diagrams.proofs.Common.{drop-append_seam, Place, ExprId, arena, Formula, StateTree, Context, first_of_each, is_other, other_matches, states_give, formulas, no_matches, Contribution, Contributions, SectionFault, view_contribution, Aim, Manner, Walked, AreBits, IsBuilt, Builds, AreFirsts, Walks, standing, walks_made, walks_then, places_of, signals_of, DoesWork, is_among, other_places, other_signal, pushed_for, regarded, no_block, WalksWork, header_work, others_work, state_bits, states_work, is_some, earlier, first_refusal, Tree, view, view_state, registers_given, some_signals, targets_of, term_of, Guard, section_order, view_guard, target_member, CountedUnit, walks_refused, aims_places, diagram_manners, manners_behind, register_manners, registers_refused, states_manners, units_behind, units_of_states, given_by, places_by, units_of, if_none, before, some_refused, not_clear}
-use Rattle.std.proofs.Math.Bool.{or-false}
-use Rattle.std.proofs.lemmas.Simd.{map-map}
+use Rattle.state_diagrams.proofs.Common.{drop-append_seam, Place, ExprId, arena, Formula, StateTree, Context, first_of_each, is_other, other_matches, states_give, formulas, no_matches, Contribution, Contributions, SectionFault, view_contribution, Aim, Manner, Walked, AreBits, IsBuilt, Builds, AreFirsts, Walks, standing, walks_made, walks_then, places_of, signals_of, DoesWork, is_among, other_places, other_signal, pushed_for, regarded, no_block, WalksWork, header_work, others_work, state_bits, states_work, is_some, earlier, first_refusal, Tree, view, view_state, registers_given, some_signals, targets_of, term_of, Guard, section_order, view_guard, target_member, CountedUnit, walks_refused, aims_places, diagram_manners, manners_behind, register_manners, registers_refused, states_manners, units_behind, units_of_states, given_by, places_by, units_of, if_none, before, some_refused, not_clear, or-false, map-map}
 use Rattle.abel_meaning.specs.Contributions as meant
 use Rattle.truth_tables.specs.TableUnits as tables
 use Rattle.truth_tables.specs.Gives as header

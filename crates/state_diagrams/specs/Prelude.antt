@@ -3,8 +3,8 @@ pub use Rattle.std.specs.List.{list_any}
 pub use Rattle.abel_meaning.specs.CountedBlocks.{choices_nodes, has_other, make_literal, register_literals}
 pub use Rattle.abel_meaning.specs.CountedNodes.{choice_nodes, condition_of, guard_else, guard_then, value_nodes}
 pub use Rattle.abel_meaning.specs.Designs.{Context, name_at}
-pub use Rattle.abel_meaning.specs.Diagrams.{branch_gives, branches_give, choices_give, diagram_gives, first_of_each, goal_gives, in_state, is_other, is_state}
-pub use Rattle.abel_meaning.specs.Diagrams.{registers_given, state_gives, states_give, with_others, with_statements}
+pub use Rattle.abel_meaning.specs.Diagrams.{branch_gives, branches_give, choices_give, diagram_gives, goal_gives, in_state, is_other, is_state, state_gives}
+pub use Rattle.abel_meaning.specs.Diagrams.{states_give, with_others, with_statements}
 pub use Rattle.abel_meaning.specs.FormulaBits.{formulas, make_source}
 pub use Rattle.abel_meaning.specs.Numbers.{digits, number_with}
 pub use Rattle.abel_meaning.specs.Terms.{known_of, term_of}

@@ -2,7 +2,7 @@
 pub use Rattle.std.proofs.Math.Bool.{and-false, and-true, beq, or-false, or_assoc}
 pub use Rattle.std.proofs.Math.Seq.{drop-cons, take-length}
 pub use Rattle.std.proofs.lemmas.Grind.{common_steps, flat_map-append}
-pub use Rattle.std.proofs.lemmas.List.{get_or_past, length-append, map-append, replicate-append-replicate, reverse-append}
+pub use Rattle.std.proofs.lemmas.List.{at_drop_all, drop_all, get_or_past, length-append, length-drop, map-append, replicate-append-replicate, reverse-append}
 pub use Rattle.std.proofs.lemmas.List.Folds.{list_all-append}
 pub use Rattle.std.proofs.lemmas.List.Sums.{sum_by-append, sum_by-cons}
 pub use Rattle.std.proofs.lemmas.Option.{none-some, slice_get-get_or}
@@ -13,19 +13,18 @@ pub use Rattle.std.specs.List.{AllZip, flat_map, list_all, list_any, position_fr
 pub use Rattle.std.specs.Option.{is_some, option_map}
 pub use Rattle.std.specs.Result.{OnOk}
 pub use Rattle.abel_meaning.proofs.RelationWords.{map_reverse}
-pub use Rattle.abel_meaning.specs.CountedBlocks.{make_literal, row_literals, row_nodes, rows_units, table_units}
+pub use Rattle.abel_meaning.specs.CountedBlocks.{row_literals, row_nodes, table_units}
 pub use Rattle.abel_meaning.specs.Designs.{Context, context_of, no_name}
 pub use Rattle.abel_meaning.specs.FormulaBits.{bits_of, formulas, met_by, met_word, resized}
 pub use Rattle.abel_meaning.specs.Numbers.{Single, Value, digits, digits_low_first, member_width, width_of}
 pub use Rattle.abel_meaning.specs.Rows.{all_marks, entry_levels, level_of_mark, marks_of, part_marks, part_width}
-pub use Rattle.abel_meaning.specs.Tables.{agrees, level_gives, match_of, no_matches, outputs_given, rows_give}
+pub use Rattle.abel_meaning.specs.Tables.{agrees, level_gives, match_of, no_matches, outputs_given}
 pub use Rattle.abel_meaning.specs.Targets.{all_targets, targets_of}
 pub use Rattle.abel_meaning.specs.Terms.{Before, BinaryOf, Known, NoTerm, Number, Pulse, Release, Set, Term, Terms, UnaryOf, X, extended, extended_each}
 pub use Rattle.abel_meaning.specs.Terms.{extended_if, known_of, member_before, named_before, special_term, term_meant, term_named, term_of, terms_of}
 pub use Rattle.abel_meaning.specs.Values.{binary_by, constant_of, is_relation}
-pub use Rattle.abel_tree.proofs.FirstRefusals.{first_append, none_refused}
-pub use Rattle.abel_tree.specs.Entries.{AConstant, ADeviceName, ANode, APin, Entry, Kind, entries_of, find, is_signal, is_value, kind_of, names_any, passes}
-pub use Rattle.abel_tree.specs.Entries.{view_declared}
+pub use Rattle.abel_tree.proofs.FirstRefusals.{earlier_assoc, earlier_none, first_append, none_refused}
+pub use Rattle.abel_tree.specs.Entries.{AConstant, APin, Entry, Kind, entries_of, find, is_signal, is_value, kind_of, names_any, passes, view_declared}
 pub use Rattle.abel_tree.specs.FirstRefusal.{earlier, first_refusal}
 unfoldable pub use Rattle.abel_tree.specs.FirstRefusal.{is_before}
 pub use Rattle.abel_tree.specs.Ranges.{range_names}
@@ -33,9 +32,8 @@ pub use Rattle.abel_tree.specs.Tree.{ABinary, AName, ANumber, AParen, ASet, ASpe
 pub use Rattle.abel_tree.specs.Tree.{SpanMember, Tree, members_of}
 pub use Rattle.abel_tree.specs.View.{view, view_member, view_row}
 pub use Rattle.abel_tree.specs.declared.expressions.Expr.{Expr, size-Expr, the_lemmas}
-pub use Rattle.abel_tree.specs.declared.expressions.Member.{Member, size-Member}
+pub use Rattle.abel_tree.specs.declared.expressions.Member.{Member}
 pub use Rattle.abel_tree.specs.declared.names.Names.{Names}
-pub use Rattle.abel_tree.specs.declared.tables.Table.{Table}
 pub use Rattle.abel_tree.specs.declared.words.Binary.{Binary}
 pub use Rattle.abel_tree.specs.declared.words.Extension.{Extension}
 pub use Rattle.bit_expr.specs.Arena.{formula_at}
@@ -47,17 +45,19 @@ pub use Rattle.bit_expr.specs.declared.node.ExprId.{ExprId}
 pub use Rattle.bit_expr.specs.declared.node.Node.{Node}
 pub use Rattle.equations.proofs.BuiltParts.{bits_length, is_context, keeps_longer, met_length, same_context, stops_longer, value_accepted, whole}
 pub use Rattle.equations.proofs.BuiltUnits.{at}
+pub use Rattle.equations.proofs.WalkedUnits.{limit_kept, noted_refused, unit_clear, unit_made, unit_refused}
 pub use Rattle.expr_bits.proofs.Extensions.{all_extended, each_append, innermost_wins, list_extended, members_more, range_more, set_extended}
-pub use Rattle.expr_bits.proofs.Views.{view_binary, view_name, view_one, view_set, view_span, view_special, view_unary}
+pub use Rattle.expr_bits.proofs.Views.{view_binary, view_name, view_one, view_set, view_span}
 pub use Rattle.expr_bits.specs.Members.{each_extended, list_of}
 pub use Rattle.name_uses.specs.RangeParts.{name_items}
 pub use Rattle.pld_base.specs.declared.place.Place.{Place}
 pub use Rattle.pld_device.specs.SampleTable.{sample}
 pub use Rattle.section_targets.proofs.Built.{builds_none, builds_stop, builds_then, keeps_on, kept_formula, kept_inside, left_empty, right_empty, stops_on}
+pub use Rattle.section_targets.proofs.Looks.{next_of}
 pub use Rattle.section_targets.proofs.MetWords.{high_bit, low_bit}
 pub use Rattle.section_targets.proofs.OneUnit.{one_unit, two_parts}
 pub use Rattle.section_targets.proofs.OverNames.{found_in}
-pub use Rattle.section_targets.proofs.WalksBehind.{both_clear, walks_alike, walks_made, walks_none, walks_refused, walks_then}
+pub use Rattle.section_targets.proofs.WalksBehind.{both_clear, walks_alike, walks_made, walks_none, walks_then}
 pub use Rattle.section_targets.specs.Building.{AreBits, Builds, BuildsNodes, IsBit, IsBuilt, StopsWith}
 pub use Rattle.section_targets.specs.Given.{AreNamed}
 pub use Rattle.section_targets.specs.Manners.{AreFirsts, aims_refused, manner_of}
@@ -74,25 +74,24 @@ pub use Rattle.set_expr.specs.KnownNames.{HasShapeIf, SumsUp}
 pub use Rattle.set_expr.specs.Refusals.{Found, too_wide}
 pub use Rattle.set_expr.specs.SectionOrder.{section_order}
 pub use Rattle.set_expr.specs.Shapes.{HasShape}
-pub use Rattle.set_expr.specs.declared.contributions.Contribution.{Contribution}
 pub use Rattle.set_expr.specs.declared.contributions.Contributions.{Contributions}
 pub use Rattle.set_expr.specs.declared.contributions.Guard.{Guard}
 pub use Rattle.set_expr.specs.declared.fault.SectionFault.{SectionFault}
 pub use Rattle.set_expr.specs.declared.fault.SectionFault.TheVariants.{BadRow, BadWidth, MisplacedSpecial, MixedAssignment, NotAnOutput, NotConstant}
 pub use Rattle.set_expr.specs.declared.fault.SectionFault.TheVariants.{ZeroDivisor}
 pub use Rattle.set_expr.specs.declared.shaped.Shape.{Shape}
-pub use Rattle.truth_tables.specs.{AreParts, AreSignals, GivesMatched, GivesOutput, GivesPosition, GivesPositions, HasInputs, HeaderFound, IsAdded, IsDone}
-pub use Rattle.truth_tables.specs.{IsListed, IsMet, IsNumeral, IsOfKind, IsOperator, IsOver, IsPair, IsPart, IsPut, IsRead, IsRow, IsSet, IsShapedTerm, IsStand}
-pub use Rattle.truth_tables.specs.{IsStep, LeadsBack, NamesOutputs, Opened, StandForInputs, Taken, Walked, Walking, WalksTable, WalksWork, Work, all_meet}
-pub use Rattle.truth_tables.specs.{all_name_positions, all_refused_inside, all_signs, any_holds_pulse, arrow_refused, assigned_by, before, behind, both_headers}
-pub use Rattle.truth_tables.specs.{both_sets, design_of, entry_refused, found_work, given_by, given_freely, given_output, headed_work, header_literals, header_name}
+pub use Rattle.truth_tables.specs.{AreParts, AreSignals, GivesOutput, GivesPositions, HasInputs, HeaderFound, IsAdded, IsDone, IsListed, IsMet, IsNumeral}
+pub use Rattle.truth_tables.specs.{IsOfKind, IsOperator, IsOver, IsPair, IsPart, IsPut, IsRead, IsRow, IsSet, IsShapedTerm, IsStand, IsStep, LeadsBack}
+pub use Rattle.truth_tables.specs.{NamesOutputs, Opened, StandForInputs, Walked, Walking, WalksTable, WalksWork, Work, all_meet, all_name_positions}
+pub use Rattle.truth_tables.specs.{all_refused_inside, all_signs, any_holds_pulse, arrow_refused, assigned_by, before, behind, both_headers, both_sets}
+pub use Rattle.truth_tables.specs.{design_of, entry_refused, found_work, given_by, given_freely, given_output, headed_work, header_literals, header_name}
 pub use Rattle.truth_tables.specs.{header_of, header_range, header_refused, header_set, header_special, holds_pulse, if_none, inputs_nodes, inputs_term}
 pub use Rattle.truth_tables.specs.{is_computed, is_number, is_operand, is_pulse_named, is_set, kind_signs, level_refused, levels_of, listing, literals}
 pub use Rattle.truth_tables.specs.{matched_guard, meeting, meets, meets_whole, member_holds_pulse, member_refused_inside, named_outputs, names_left}
-pub use Rattle.truth_tables.specs.{names_positions, names_refused, no_matches_work, nodes_at, nodes_left, nothing, output_header, output_member}
-pub use Rattle.truth_tables.specs.{output_members, outputs_at, outputs_refused, paired, part_parts, places_by, places_for, places_of, position_literal}
-pub use Rattle.truth_tables.specs.{refused_header, refused_inside, row_places, row_refused, row_units, row_work, rows_places, rows_work, seen, signals_of}
-pub use Rattle.truth_tables.specs.{signs_left, some_aims, steps_left, steps_up_to, term_parts, terms_parts, units_behind, units_of, units_of_table, unless_met}
+pub use Rattle.truth_tables.specs.{names_positions, names_refused, no_matches_work, nodes_at, nodes_left, nothing, output_header, output_member, output_members}
+pub use Rattle.truth_tables.specs.{outputs_at, outputs_refused, paired, part_parts, places_by, places_for, places_of, position_literal, refused_header}
+pub use Rattle.truth_tables.specs.{refused_inside, row_places, row_refused, row_units, row_work, rows_places, rows_work, seen, signals_of, signs_left}
+pub use Rattle.truth_tables.specs.{some_aims, steps_left, steps_up_to, term_parts, terms_parts, units_behind, units_of, units_of_table, unless_met}
 pub use Rattle.truth_tables.specs.{unless_refused, up_to, view_mark}
 pub use Rattle.truth_tables.specs.declared.giving.Assigning.{Assigning}
 pub use Rattle.truth_tables.specs.declared.mark.Mark.{Mark}

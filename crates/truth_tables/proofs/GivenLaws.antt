@@ -1,12 +1,12 @@
 -- What outputs are given, position by position.
 use Rattle.std.proofs.Common.{◌≡◌, ℕ, zero, suc, ◌+◌, ◌<◌, min, Bool, true, false, Option, None, Some, List, [], ◌∷◌, ◌++◌, Result, length, drop, get_or, refl, sym, ap, ap₂, ◌∙◌, subst, arith, append_assoc, append-nil}
-use Rattle.truth_tables.proofs.Common.{at, ExprId, Node, arena, formula_at, Made, free, make_and, Formula, Const, Names, Context, formulas, level_gives, match_of, no_matches, outputs_given, Contribution, Contributions, Guard, SectionFault, view_gives, view_guard, Aim, IsBuilt, Builds, AreNamed, part, builds_then, low_bit, given_output, high_bit, some_aims, places_for, places_of, row_places, Assigning, signals_of, matched_guard, GivesOutput, Work, before, given_freely, nothing}
+use Rattle.truth_tables.proofs.Common.{at, ExprId, Node, arena, formula_at, Made, free, make_and, Formula, Const, Names, Context, formulas, level_gives, match_of, no_matches, outputs_given, Contributions, Guard, SectionFault, view_gives, view_guard, Aim, IsBuilt, Builds, AreNamed, part, builds_then, low_bit, given_output, high_bit, some_aims, places_for, places_of, row_places, Assigning, signals_of, matched_guard, GivesOutput, Work, before, given_freely, nothing, next_of}
+use Rattle.set_expr.specs.declared.contributions.Contribution.{Contribution}
 use Rattle.abel_meaning.specs.Contributions as meant
 use Rattle.abel_meaning.specs.Contributions.{contribution}
 use Rattle.set_expr.specs.declared.contributions.Gives.{Gives}
 use Rattle.set_expr.specs.declared.contributions.Gives.TheVariants as gives
 use Rattle.bit_expr.proofs.FoldingCases.{and_one_right}
-use Rattle.section_targets.proofs.Looks.{next_of}
 use Rattle.section_targets.specs.declared.giving.Giving.{Giving}
 use Rattle.section_targets.specs.Gives.{GivesOne}
 use Rattle.truth_tables.proofs.WorkLaws.{AfterStep, DoesWork, IsLeft, free_part, left_step}

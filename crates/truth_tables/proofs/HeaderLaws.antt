@@ -1,8 +1,6 @@
 -- What is found of a header, part by part.
 use Rattle.std.proofs.Common.{◌≡◌, ℕ, Bool, true, false, Option, None, Some, List, [], ◌∷◌, ◌++◌, ◌-◌, if◌then◌else◌, length, drop, ◌≤◌, nat_lt, refl, sym, ap, ap₂, ◌∙◌, subst, append_assoc, append-nil, arith}
-use Rattle.std.proofs.lemmas.List.{at_drop_all}
-use Rattle.abel_tree.proofs.FirstRefusals.{earlier_assoc, earlier_none}
-use Rattle.truth_tables.proofs.Common.{then_some, is_some, length-append, Place, earlier, first_refusal, first_append, none_refused, Tree, Context, targets_of, Term, SectionFault, BadWidth, NotAnOutput, too_wide, section_order, Aim, names_positions, HeaderFound, header_of, refused_header, outputs_at, named_outputs, both_headers, header_set, output_header, if_none, unless_refused, IsAdded, Manner, aims_refused, outputs_refused, some_aims}
+use Rattle.truth_tables.proofs.Common.{at_drop_all, earlier_assoc, earlier_none, then_some, is_some, length-append, Place, earlier, first_refusal, first_append, none_refused, Tree, Context, targets_of, Term, SectionFault, BadWidth, NotAnOutput, too_wide, section_order, Aim, names_positions, HeaderFound, header_of, refused_header, outputs_at, named_outputs, both_headers, header_set, output_header, if_none, unless_refused, IsAdded, Manner, aims_refused, outputs_refused, some_aims}
 
 abbrev pub first : List SectionFault → Option SectionFault
 first rs = first_refusal section_order rs

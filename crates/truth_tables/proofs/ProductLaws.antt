@@ -1,8 +1,6 @@
 -- The literals of a row, position by position.
 use Rattle.std.proofs.Common.{◌≡◌, ℕ, zero, suc, ◌+◌, ◌<◌, ◌≤◌, min, Bool, false, Option, None, Some, List, [], ◌∷◌, Result, Ok, Err, length, drop, get_or, refl, sym, ap, ap₂, ◌∙◌, subst, subst₂, arith, IfOk}
-use Rattle.truth_tables.proofs.Common.{at, bits_at, drop-cons, free, row_literals, unknown_at, Place, ExprId, Node, arena, formula_at, Made, Formula, Const, SectionFault, AreIn, Keeps, StopsWith, Builds, BuildsNodes, IsBit, part, builds_none, kept_formula, two_parts, stops_longer, position_literal, literals}
-use Rattle.std.proofs.lemmas.List.{length-drop}
-use Rattle.section_targets.proofs.Looks.{next_of}
+use Rattle.truth_tables.proofs.Common.{at, bits_at, drop-cons, free, row_literals, unknown_at, Place, ExprId, Node, arena, formula_at, Made, Formula, Const, SectionFault, AreIn, Keeps, StopsWith, Builds, BuildsNodes, IsBit, part, builds_none, kept_formula, two_parts, stops_longer, position_literal, literals, length-drop, next_of}
 
 -- ---- positions in an arena
 

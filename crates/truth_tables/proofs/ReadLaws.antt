@@ -1,9 +1,7 @@
 -- What is refused of an entry, by what is inside and by whether it meets its header.
 use Rattle.std.proofs.Common.{◌≡◌, Bool, true, false, Option, Some, List, [], ◌∷◌, refl, sym, ap, ap₂, ◌∙◌, subst, ℕ, ◌+◌, ◌<◌, ◌||◌, ◌++◌, length, map, drop, get_or, rules}
-use Rattle.truth_tables.proofs.Common.{Names, entries_of, first_refusal, Tree, Context, SectionFault, names_found, section_order, IsOver, refused_inside, unless_met, list_any, Vec, Place, the_lemmas, Member, Extension, members_of, view, view_member, name_items, NameFound, holds_pulse, any_holds_pulse, all_refused_inside, earlier, first_append}
-use Rattle.abel_tree.proofs.FirstRefusals.{earlier_assoc}
+use Rattle.truth_tables.proofs.Common.{Names, entries_of, first_refusal, Tree, Context, SectionFault, names_found, section_order, IsOver, refused_inside, unless_met, list_any, Vec, Place, the_lemmas, Member, Extension, members_of, view, view_member, name_items, NameFound, holds_pulse, any_holds_pulse, all_refused_inside, earlier, first_append, earlier_assoc, next_of}
 use Rattle.abel_tree.specs.declared.expressions.Expr as expr
-use Rattle.section_targets.proofs.Looks.{next_of}
 
 pub inside_first : (rs : List SectionFault) (r f : SectionFault) (b : Bool) → Some f ≡ first_refusal section_order rs → first_refusal section_order (unless_met rs r b) ≡ Some f
 inside_first [] r f b e = absurd cc

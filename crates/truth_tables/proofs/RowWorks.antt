@@ -1,6 +1,7 @@
 -- What rows make and give, and a whole table behind its header.
 use Rattle.std.proofs.Common.{◌≡◌, ℕ, ◌+◌, ◌≤◌, Bool, true, false, Option, None, Some, List, [], ◌∷◌, ◌++◌, Result, length, reverse, refl, sym, ap, ap₂, ◌∙◌, subst, subst₂, arith, map}
-use Rattle.truth_tables.proofs.Common.{Place, ExprId, arena, formula_at, Made, make_and, make_not, Formula, Const, Table, none_refused, RowTree, view, view_row, row_literals, Context, formulas, width_of, entry_levels, agrees, outputs_given, no_matches, targets_of, Term, term_of, constant_of, Contributions, Guard, SectionFault, Keeps, unknown_at, view_guard, section_order, Aim, IsBuilt, Builds, part, CountedUnit, builds_then, left_empty, right_empty, one_unit, row_places, row_nodes, rows_places, header_refused, if_none, outputs_refused, places_of, some_aims, units_behind, IsRow, matched_guard, signals_of, StandForInputs, header_literals, literals, behind, found_work, row_work, rows_work, NamesOutputs, Work, first_refusal, expression_found, Manner, output_header, given_by, places_by, units_of}
+use Rattle.truth_tables.proofs.Common.{Place, ExprId, arena, formula_at, Made, make_and, make_not, Formula, Const, none_refused, RowTree, view, view_row, row_literals, Context, formulas, width_of, entry_levels, agrees, outputs_given, no_matches, targets_of, Term, term_of, constant_of, Contributions, Guard, SectionFault, Keeps, unknown_at, view_guard, section_order, Aim, IsBuilt, Builds, part, CountedUnit, builds_then, left_empty, right_empty, one_unit, row_places, row_nodes, rows_places, header_refused, if_none, outputs_refused, places_of, some_aims, units_behind, IsRow, matched_guard, signals_of, StandForInputs, header_literals, literals, behind, found_work, row_work, rows_work, NamesOutputs, Work, first_refusal, expression_found, Manner, output_header, given_by, places_by, units_of}
+use Rattle.abel_tree.specs.declared.tables.Table.{Table}
 use Rattle.abel_meaning.specs.Contributions as meant
 use Rattle.truth_tables.specs.declared.checked_rows.RowFound.{RowFound}
 use Rattle.truth_tables.proofs.ProductLaws.{bits_kept, in_longer}

@@ -1,10 +1,9 @@
 -- Walks over the rows of a table, part by part.
 use Rattle.std.proofs.Common.{◌≡◌, Bool, true, false, Option, None, Some, List, [], ◌∷◌, ◌++◌, if◌then◌else◌, Result, Ok, Err, refl, sym, ap, subst, append-nil}
-use Rattle.truth_tables.proofs.Common.{is_some, OnOk, Vec, Place, ExprId, Formula, Names, earlier, first_refusal, is_before, SectionFault, section_order, Manner, context_for, AreFirsts, CountedUnit, units_refused, AfterMaking, Walks, standing, walks_alike, walks_made, walks_none, walks_then, whole, IsOver, WalksWork, nodes_left, units_behind, Work, before, given_freely}
+use Rattle.truth_tables.proofs.Common.{is_some, OnOk, Vec, Place, ExprId, Formula, Names, earlier, first_refusal, is_before, SectionFault, section_order, Manner, context_for, AreFirsts, CountedUnit, units_refused, AfterMaking, Walks, standing, walks_alike, walks_made, walks_none, walks_then, whole, IsOver, WalksWork, nodes_left, units_behind, Work, before, given_freely, limit_kept, noted_refused}
 use Rattle.pld_device.specs.Table as device
 use Rattle.abel_meaning.specs.Contributions as meant
 use Rattle.section_targets.specs.declared.walked.Walked.{Walked}
-use Rattle.equations.proofs.WalkedUnits.{limit_kept, noted_refused}
 use Rattle.truth_tables.specs.declared.rows.Headed.{Headed}
 use Rattle.truth_tables.proofs.WorkLaws.{DoesWork}
 

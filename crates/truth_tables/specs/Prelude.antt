@@ -2,13 +2,13 @@
 pub use Rattle.std.specs.Global.{Vec}
 pub use Rattle.std.specs.List.{AllZip, filter_map, flat_map, list_all, list_any, sum_by, zip}
 pub use Rattle.std.specs.Option.{is_some, option_map}
-pub use Rattle.abel_meaning.specs.CountedBlocks.{make_literal, row_literals, row_nodes, table_units}
+pub use Rattle.abel_meaning.specs.CountedBlocks.{make_literal, row_literals, row_nodes, rows_units, table_units}
 pub use Rattle.abel_meaning.specs.CountedNodes.{term_nodes}
 pub use Rattle.abel_meaning.specs.Designs.{Context}
 pub use Rattle.abel_meaning.specs.FormulaBits.{bits_of, formulas}
 pub use Rattle.abel_meaning.specs.Numbers.{digits_low_first, width_of}
 pub use Rattle.abel_meaning.specs.Rows.{entry_levels, level_of_mark, marks_of, part_marks, part_width}
-pub use Rattle.abel_meaning.specs.Tables.{no_matches, outputs_given, row_matches, table_gives}
+pub use Rattle.abel_meaning.specs.Tables.{no_matches, outputs_given, row_matches, rows_give, table_gives}
 pub use Rattle.abel_meaning.specs.Targets.{targets_of}
 pub use Rattle.abel_meaning.specs.Terms.{Known, NoTerm, Term, Terms, extended_if, known_of, member_before, special_term, term_meant, term_named, term_of}
 pub use Rattle.abel_meaning.specs.Terms.{terms_of}

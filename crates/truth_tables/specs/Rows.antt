@@ -1,12 +1,10 @@
 -- Private: the product of a row, position by position; the rows of a table with what they give, and what making them and
 -- walks over them leave (ABEL-HDL Reference Manual, truth tables).
 use Rattle.std.specs.Prelude.{◌≡◌, ◌+◌, ℕ, zero, suc, Bool, true, length, Option, None, Some, List, [], ◌∷◌, reverse, Result, false, map}
-use Rattle.truth_tables.specs.Prelude.{ExprId, Node, arena, formula_at, Formula, Const, make_literal, row_literals, Context, bits_of, formulas, width_of, Term, constant_of, Contribution, AreIn, IsShaped, bits_at, unknown_at, part, Table, RowTree, view, row_nodes, entry_levels, outputs_given, row_matches, targets_of, term_of, SectionFault, Aim, Builds, Vec, entries_of, view_row, term_nodes, no_matches, refusal_of, context_for, view_guard, Manner, Walked, AreNamed, AreFirsts, Walks}
+use Rattle.truth_tables.specs.Prelude.{ExprId, Node, arena, formula_at, Formula, Const, make_literal, row_literals, Context, bits_of, formulas, width_of, Term, constant_of, Contribution, AreIn, IsShaped, bits_at, unknown_at, part, Table, RowTree, view, row_nodes, entry_levels, outputs_given, row_matches, targets_of, term_of, SectionFault, Aim, Builds, Vec, entries_of, view_row, term_nodes, no_matches, refusal_of, context_for, view_guard, Manner, Walked, AreNamed, AreFirsts, Walks, rows_units, rows_give}
 use Rattle.bit_expr.specs.Folding.{Made, free}
 use Rattle.set_expr.specs.declared.shaped.Shaped.{Shaped}
 use Rattle.abel_meaning.specs.Contributions as meant
-use Rattle.abel_meaning.specs.CountedBlocks.{rows_units}
-use Rattle.abel_meaning.specs.Tables.{rows_give}
 use Rattle.truth_tables.specs.TableUnits.{row_places, row_refused, row_units, rows_places, places_of, some_aims}
 use Rattle.truth_tables.specs.declared.checked_rows.RowFound.{RowFound}
 use Rattle.truth_tables.specs.Gives.{signals_of}

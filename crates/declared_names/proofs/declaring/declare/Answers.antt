@@ -1,7 +1,6 @@
 -- What is read, settled and refused comes to what the module declares.
 use Rattle.std.proofs.Common.{◌≡◌, true, not, is_some, ◌++◌, map, inr, sym, ap, ◌∙◌}
-use Rattle.declared_names.proofs.Common.{or-true, none_refused, name_refusals, view_declared, first_refusal, view_module, with_assigned, name_order, first_name_refusal, refused_for}
-use Rattle.decls.specs.Buffers.{registers_wait}
+use Rattle.declared_names.proofs.Common.{or-true, none_refused, name_refusals, view_declared, first_refusal, view_module, with_assigned, name_order, first_name_refusal, refused_for, registers_wait}
 use Rattle.decls.specs.Passed.{wants_names}
 use Rattle.declared_names.proofs.Exact.{final_fault, first_same, settled_same, names_sound, names_apart, names_allowed, names_known}
 use Rattle.declared_names.proofs.declaring.declare.Goals as goal

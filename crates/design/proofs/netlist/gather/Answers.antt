@@ -1,6 +1,6 @@
 use Rattle.std.proofs.Common.{ap, ◌∙◌}
-use Rattle.std.proofs.lemmas.Result.{err_from_is_err_and}
 use Rattle.design.proofs.Common.{entries_of, view_module, design_of}
+use Rattle.std.proofs.lemmas.Result.{err_from_is_err_and}
 use Rattle.design.proofs.Gathers.{is_design, to_names, by_signals, is_linked, signals_are, answered, by_chains}
 use Rattle.design.proofs.netlist.gather.Goals as goal
 

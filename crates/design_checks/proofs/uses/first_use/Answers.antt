@@ -1,8 +1,6 @@
 -- One section more, and all sections.
 use Rattle.std.proofs.Common.{List, map, sym, ap, ap₂, ◌∙◌}
-use Rattle.design_checks.proofs.Common.{flat_map, earlier, view_part, view_section_parts, with_parts, context_for, whole_front, first_refused, part_uses, use_order}
-use Rattle.std.proofs.lemmas.List.Folds.{flat_map-map}
-use Rattle.name_uses.specs.Parts.{PartTree}
+use Rattle.design_checks.proofs.Common.{flat_map, earlier, view_part, view_section_parts, with_parts, context_for, whole_front, first_refused, part_uses, use_order, flat_map-map, PartTree}
 use Rattle.design_checks.proofs.JoinedFirsts.{joined_more, parts_append, parts_in}
 use Rattle.design_checks.proofs.LearntName.{is_context_for, knows_all}
 use Rattle.design_checks.proofs.uses.first_use.Goals as goal

@@ -1,7 +1,8 @@
 -- One name more, and all names.
 use Rattle.std.proofs.Common.{◌≡◌, ◌+◌, [], ◌∷◌, ◌++◌, map, take, drop, length, sym, ap, subst, subst₂, ◌∙◌, arith, length-append}
+use Rattle.section_targets.proofs.Common.{map-append, take-append-drop, length-take-le, length-map, entries_of, view_declared, known_of, term_meant, AreOfTerms, IsOfTerm, StandFor}
 use Rattle.std.proofs.lemmas.Grind.{common_steps}
-use Rattle.section_targets.proofs.Common.{map-append, take-append-drop, length-take-le, length-map, entries_of, view_declared, known_of, term_meant, front_more, whole_front, AreOfTerms, IsOfTerm, StandFor}
+use Rattle.set_expr.proofs.FoundMembers.{front_more, whole_front}
 use Rattle.section_targets.proofs.NameTerms.{known_more, terms_push, stand_front, stand_all}
 use Rattle.section_targets.proofs.naming.target_names.Goals as goal
 

@@ -1,8 +1,7 @@
 -- One declaration, and those that are left.
 use Rattle.std.proofs.Common.{◌+◌, drop, map, sym, ap, ◌∙◌}
-use Rattle.source_sections.proofs.Common.{view_decl, after_declarations}
+use Rattle.source_sections.proofs.Common.{view_decl, after_declarations, rest_at}
 use Rattle.source_sections.proofs.SectionsWalked.{declarations_then}
-use Rattle.state_diagrams.proofs.WalkedBranches.{rest_at}
 use Rattle.source_sections.proofs.directives.after_declarations.Goals as goal
 
 pub loop-decl-preserved : goal.loop-decl-preserved

@@ -1,7 +1,6 @@
 -- Nothing is refused, and the first refusal.
 use Rattle.std.proofs.Common.{List, sym, ap, ap₂, subst, ◌∙◌}
-use Rattle.source_sections.proofs.Common.{Names, entries_of, first_refusal, Contribution, section_order, standing, at, AreContributed, sections_refused}
-use Rattle.set_expr.specs.FoundNames.{constants_refused}
+use Rattle.source_sections.proofs.Common.{Names, entries_of, first_refusal, Contribution, section_order, standing, at, AreContributed, sections_refused, constants_refused}
 use Rattle.source_sections.proofs.SectionsAnswered.{accepted_right, contributed, told_of}
 use Rattle.source_sections.proofs.SourceAnswers.{constants_told, designed, source_told, source_walked}
 use Rattle.source_sections.proofs.joining.contributions.Goals as goal

@@ -1,8 +1,8 @@
 -- One section, and those that are left.
 use Rattle.std.proofs.Common.{◌≡◌, ◌+◌, [], ◌∷◌, List, drop, refl, sym, subst, arith}
-use Rattle.source_sections.proofs.Common.{at_drop_all, view_section, after_section, Manner, Walked, AreFirsts, WalksSections, view_sections}
+use Rattle.source_sections.proofs.Common.{view_section, after_section, Manner, Walked, AreFirsts, WalksSections, view_sections, rest_at}
+use Rattle.std.proofs.lemmas.List.{at_drop_all}
 use Rattle.source_sections.proofs.SectionsWalked.{AreLeft, all_walked, one_walked}
-use Rattle.state_diagrams.proofs.WalkedBranches.{rest_at}
 use Rattle.source_sections.proofs.walking.walk_sections.Goals as goal
 
 pub loop-section-init : goal.loop-section-init

@@ -1,8 +1,7 @@
 -- No register, and one more on the right: its literal, plain or complemented, over what was found.
 use Rattle.std.proofs.Common.{◌%◌, ◌/◌, List, Err, Ok, true, false, sym, ap, ◌∙◌, subst, ◌==◌}
-use Rattle.state_diagrams.proofs.Common.{err_from_is_err_and, arena, formula_at, context_for, kept_inside, make_literal, Aim, Made, Formula, MakesBit, bare_read, number_guard, signals_of, register_literal}
+use Rattle.state_diagrams.proofs.Common.{err_from_is_err_and, arena, formula_at, context_for, kept_inside, make_literal, Aim, Made, Formula, MakesBit, bare_read, number_guard, signals_of, register_literal, ne_eqb}
 use Rattle.state_diagrams.proofs.StateBits.{bit_keeps, bit_stops, guard_last, guard_more, guard_then, no_literal}
-use Rattle.std.proofs.lemmas.Bool.{ne_eqb}
 use Rattle.state_diagrams.proofs.guards.+state_guard.Goals as goal
 
 pub returns-in-None : goal.returns-in-None

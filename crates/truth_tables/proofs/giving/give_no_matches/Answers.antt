@@ -1,8 +1,7 @@
 -- One output more, and all outputs.
 use Rattle.std.proofs.Common.{Ok, Err, refl, ap, arith}
-use Rattle.truth_tables.proofs.Common.{err_from_is_err_and, arena, keeps_on, low_bit, at, view_guard}
+use Rattle.truth_tables.proofs.Common.{err_from_is_err_and, arena, keeps_on, low_bit, at, view_guard, drop_all}
 use Rattle.truth_tables.proofs.GivenLaws.{named_at, no_step_at, no_work}
-use Rattle.std.proofs.lemmas.List.{drop_all}
 use Rattle.truth_tables.proofs.WorkLaws.{left_done}
 use Rattle.truth_tables.proofs.giving.give_no_matches.Goals as goal
 

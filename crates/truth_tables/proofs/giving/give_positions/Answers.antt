@@ -1,8 +1,7 @@
 -- One position more, and all positions.
 use Rattle.std.proofs.Common.{◌<◌, Ok, Err, min, length, drop, arith}
-use Rattle.truth_tables.proofs.Common.{err_from_is_err_and, arena, kept_formula, kept_inside, keeps_on, at, matched_guard}
+use Rattle.truth_tables.proofs.Common.{err_from_is_err_and, arena, kept_formula, kept_inside, keeps_on, at, matched_guard, length-drop}
 use Rattle.truth_tables.proofs.GivenLaws.{named_at, positions_none, positions_step_at}
-use Rattle.std.proofs.lemmas.List.{length-drop}
 use Rattle.truth_tables.proofs.WorkLaws.{left_done}
 use Rattle.truth_tables.proofs.giving.give_positions.Goals as goal
 

@@ -1,8 +1,6 @@
 -- One member or name more, and all of them.
 use Rattle.std.proofs.Common.{ℕ, List, ◌+◌, map, drop, sym, ap, ap₂, ◌∙◌}
-use Rattle.std.proofs.lemmas.List.{at_drop_all}
-use Rattle.abel_tree.proofs.FirstRefusals.{earlier_none}
-use Rattle.truth_tables.proofs.Common.{Member, entries_of, earlier, first_refusal, range_names, members_of, view, view_member, name_found, names_found, name_items, section_order, refused_inside, all_refused_inside, member_refused_inside, names_refused, view_span}
+use Rattle.truth_tables.proofs.Common.{at_drop_all, earlier_none, Member, entries_of, earlier, first_refusal, range_names, members_of, view, view_member, name_found, names_found, name_items, section_order, refused_inside, all_refused_inside, member_refused_inside, names_refused, view_span}
 use Rattle.truth_tables.proofs.ReadLaws.{first_next, inside_set, rest_more}
 use Rattle.truth_tables.proofs.inside.+inside.Goals as goal
 

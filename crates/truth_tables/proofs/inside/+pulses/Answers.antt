@@ -1,7 +1,6 @@
 -- The names of a range, one member more, and all members.
 use Rattle.std.proofs.Common.{List, ◌+◌, ◌||◌, map, drop, sym, ap, ap₂, ◌∙◌}
-use Rattle.std.proofs.lemmas.List.{at_drop_all}
-use Rattle.truth_tables.proofs.Common.{Member, list_any, entries_of, range_names, members_of, view, view_member, name_items, names_found, view_span, or-false, or_assoc, is_pulse_named, holds_pulse, any_holds_pulse, member_holds_pulse}
+use Rattle.truth_tables.proofs.Common.{at_drop_all, Member, list_any, entries_of, range_names, members_of, view, view_member, name_items, names_found, view_span, or-false, or_assoc, is_pulse_named, holds_pulse, any_holds_pulse, member_holds_pulse}
 use Rattle.truth_tables.proofs.ReadLaws.{any_named, holds_set, rest_more}
 use Rattle.truth_tables.proofs.inside.+pulses.Goals as goal
 

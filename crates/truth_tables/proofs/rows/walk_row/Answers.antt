@@ -1,7 +1,6 @@
 -- A row that is refused or stands behind what is, and one that is made.
 use Rattle.std.proofs.Common.{ℕ, ◌+◌, [], ◌∷◌, sym, ap, ◌∙◌, subst, subst₂}
-use Rattle.truth_tables.proofs.Common.{on_ok_weaker, arena, view, view_row, view_guard, part, standing, term_of, row_nodes, row_refused, row_work, Builds, Contributions, design_of, nodes_left, whole, Work}
-use Rattle.equations.proofs.WalkedUnits.{unit_clear, unit_made, unit_refused}
+use Rattle.truth_tables.proofs.Common.{on_ok_weaker, arena, view, view_row, view_guard, part, standing, term_of, row_nodes, row_refused, row_work, Builds, Contributions, design_of, nodes_left, whole, Work, unit_clear, unit_made, unit_refused}
 use Rattle.truth_tables.proofs.RowWorks.{found_row}
 use Rattle.truth_tables.proofs.RowsWalked.{over_same}
 use Rattle.truth_tables.proofs.WorkLaws.{DoesWork}

@@ -1,7 +1,6 @@
 -- No match for each output, one row more, and all rows.
 use Rattle.std.proofs.Common.{◌≡◌, ◌+◌, not, List, ◌∷◌, map, drop, refl, sym, ap, ◌∙◌, subst, add-one}
-use Rattle.std.proofs.lemmas.List.{drop_all}
-use Rattle.truth_tables.proofs.Common.{arena, entries_of, view_row, view_guard, nodes_at, row_work, rows_work, walks_none, WalksWork, design_of, inputs_nodes, no_matches_work}
+use Rattle.truth_tables.proofs.Common.{drop_all, arena, entries_of, view_row, view_guard, nodes_at, row_work, rows_work, walks_none, WalksWork, design_of, inputs_nodes, no_matches_work}
 use Rattle.abel_tree.specs.declared.tables.Row.{Row}
 use Rattle.truth_tables.proofs.ReadLaws.{rest_more}
 use Rattle.truth_tables.proofs.RowsWalked.{free_refused, no_fault, none_left, work_made, work_then}
