@@ -62,3 +62,5 @@ pub use Rattle.expr_bits.specs.declared.forms.Form.{Form}
 pub use Rattle.expr_bits.specs.declared.reads.Reads.{Reads}
 pub use Rattle.expr_bits.specs.declared.steps.Step.{Step}
 pub use Rattle.expr_bits.specs.declared.work.Work.{Work}
+pub use Rattle.expr_bits.specs.{entry_weight, found_weight, kind_weight, member_weight, members_weight, name_weight, named_weight, number_weight, range_weight, stack_weight}
+pub use Rattle.expr_bits.specs.{tree_weight, work_weight}

@@ -15,4 +15,5 @@ pub mod RowLaws
 pub mod Shaped
 pub mod Turns
 pub mod Views
+pub mod Weights
 pub mod WordPlaces

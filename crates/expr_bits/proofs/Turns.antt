@@ -1,6 +1,6 @@
 -- A stack of values while the arena grows, and the walk over it turn by turn: what was built, and what is left comes to the whole.
 use Rattle.std.proofs.Common.{◌≡◌, ℕ, ◌-◌, List, [], ◌∷◌, ◌++◌, length, reverse, refl, sym, ap, ◌∙◌, subst, take, append-nil, arith, ◌+◌, map, Ok, Err}
-use Rattle.expr_bits.proofs.Common.{reverse-append, Vec, Node, arena, Grew, Made, Formula, Context, Set, Term, IsMade, Bits, Form, Part, IsPart, no_part, HasForm, AreParts, AreStacked, ShowsStack, as_set, pushed, set_by, term_part, IsKept, ExprFault, free, Entry, Makes, Work, task_of, tasks_of, Task, Push, Do, made_by, top, after_task, after_all}
+use Rattle.expr_bits.proofs.Common.{reverse-append, Vec, Node, arena, Grew, Made, Formula, Context, Set, Term, IsMade, Bits, Form, Part, IsPart, no_part, HasForm, AreParts, AreStacked, ShowsStack, as_set, pushed, set_by, term_part, IsKept, ExprFault, Entry, Makes, Work, task_of, tasks_of, Task, Push, Do, made_by, top, after_task, after_all}
 use Rattle.expr_bits.proofs.Making.{in_kept, word_kept, Going, going_start, going_on, going_stop, going_done, stopped}
 use Rattle.expr_bits.specs.declared.forms.Form.TheVariants as form
 use Rattle.expr_bits.specs.declared.work.Step.{Step}

@@ -14,6 +14,7 @@ pub mod Showing
 pub mod Stacks
 pub mod Steps
 pub mod Still
+pub mod Weights
 unfoldable pub use Along.*
 unfoldable pub use ExpressionBits.*
 unfoldable pub use Held.*
@@ -29,3 +30,4 @@ unfoldable pub use Showing.*
 unfoldable pub use Stacks.*
 unfoldable pub use Steps.*
 unfoldable pub use Still.*
+unfoldable pub use Weights.*

@@ -1,9 +1,9 @@
 //! Expressions as work on their parts.
 
-ghost use Rattle.std.specs.Prelude.{◌≡◌, Option, List, [], ◌∷◌, ◌++◌, map, take, IfOk};
+ghost use Rattle.std.specs.Prelude.{◌≡◌, ◌<◌, ◌≤◌, ◌+◌, Option, List, [], ◌∷◌, ◌++◌, map, take, IfOk};
 ghost use Rattle.expr_bits.specs.Prelude.{AnExtension, Entry, entries_of, members_of, view, view_member, Context, Term, Terms, extended_if, known_of, member_before, named_before, special_term, term_of, terms_of, name_items};
 ghost use Rattle.abel_meaning.specs.Terms as term;
-ghost use Rattle.expr_bits.specs.{Part, ComesTo, Precedes, tasks_of, Do, Push, after_all, after_task};
+ghost use Rattle.expr_bits.specs.{Part, ComesTo, Precedes, tasks_of, Do, Push, after_all, after_task, member_weight, members_weight, name_weight, range_weight, stack_weight, tree_weight, work_weight};
 
 use crate::work::{Outer, Step, Work, name_work};
 use abel_tree::{Expr, Member};
@@ -23,8 +23,9 @@ fn first_of<'a>(work: Vec<Work<'a>>, next: Work<'a>) -> Result<Vec<Work<'a>>, Ou
 
 /// A value as the member before those of the set that is built first.
 fn with_value<'a>(work: Vec<Work<'a>>, next: Work<'a>) -> Result<Vec<Work<'a>>, OutOfMemory>
-    ensures { IfOk result (λ new. (es : List Entry) (e : Option AnExtension) (t : Term) (ts : Terms) → ComesTo es next.entry (extended_if e t)
+    ensures comes { IfOk result (λ new. (es : List Entry) (e : Option AnExtension) (t : Term) (ts : Terms) → ComesTo es next.entry (extended_if e t)
         → Precedes es e new.items work.entry.items ts (term.Before t ts)) }
+    ensures weight { IfOk result (λ new. (es : List Entry) → stack_weight es new.items ≡ stack_weight es work.entry.items + (1 + work_weight es next.entry)) }
 {
     let work = first_of(work, Work::Do(Step::Member))?;
     first_of(work, next)
@@ -37,8 +38,10 @@ fn with_names<'a>(
     outer: Outer,
     work: Vec<Work<'a>>,
 ) -> Result<Vec<Work<'a>>, OutOfMemory>
-    ensures { IfOk result (λ new. (ts : Terms) → Precedes (entries_of scope.now) outer.extension new.items work.entry.items ts
+    ensures comes { IfOk result (λ new. (ts : Terms) → Precedes (entries_of scope.now) outer.extension new.items work.entry.items ts
         (named_before (known_of (take outer.count (entries_of scope.now))) (map name_items names.now) ts)) }
+    ensures weight { IfOk result (λ new. stack_weight (entries_of scope.now) new.items
+        ≤ stack_weight (entries_of scope.now) work.entry.items + range_weight (name_weight (entries_of scope.now) outer.count) (map name_items names.now)) }
 {
     let mut more = work;
     for name in names {
@@ -55,8 +58,10 @@ fn with_member<'a>(
     outer: Outer,
     work: Vec<Work<'a>>,
 ) -> Result<Vec<Work<'a>>, OutOfMemory>
-    ensures { IfOk result (λ new. (ts : Terms) → Precedes (entries_of scope.now) outer.extension new.items work.entry.items ts
+    ensures comes { IfOk result (λ new. (ts : Terms) → Precedes (entries_of scope.now) outer.extension new.items work.entry.items ts
         (member_before (known_of (take outer.count (entries_of scope.now))) (view_member member.now) ts)) }
+    ensures weight { IfOk result (λ new. stack_weight (entries_of scope.now) new.items
+        ≤ stack_weight (entries_of scope.now) work.entry.items + member_weight (name_weight (entries_of scope.now) outer.count) (view_member member.now)) }
 {
     match member {
         Member::One(expr) => with_value(work, Work::Whole(expr, outer)),
@@ -76,11 +81,13 @@ pub(crate) fn expand_members<'a>(
     outer: Outer,
     work: Vec<Work<'a>>,
 ) -> Result<Vec<Work<'a>>, OutOfMemory>
-    ensures { IfOk result (λ new. (d : Context) (ps : List Part)
+    ensures comes { IfOk result (λ new. (d : Context) (ps : List Part)
         → after_all d (tasks_of (entries_of scope.now) new.items) ps
         ≡ after_all d (Push (extended_if outer.extension (term.Set
         (terms_of (known_of (take outer.count (entries_of scope.now))) (members_of (map view_member members.now)))))
         ∷ tasks_of (entries_of scope.now) work.entry.items) ps) }
+    ensures weight { IfOk result (λ new. stack_weight (entries_of scope.now) new.items
+        < stack_weight (entries_of scope.now) work.entry.items + members_weight (name_weight (entries_of scope.now) outer.count) (members_of (map view_member members.now))) }
 {
     match members.split_first() {
         Some((member, others)) => {
@@ -98,11 +105,13 @@ pub(crate) fn expand<'a>(
     outer: Outer,
     work: Vec<Work<'a>>,
 ) -> Result<Vec<Work<'a>>, OutOfMemory>
-    ensures { IfOk result (λ new. (d : Context) (ps : List Part)
+    ensures comes { IfOk result (λ new. (d : Context) (ps : List Part)
         → after_all d (tasks_of (entries_of scope.now) new.items) ps
         ≡ after_all d (Push (extended_if outer.extension
         (term_of (known_of (take outer.count (entries_of scope.now))) (view expr.now)))
         ∷ tasks_of (entries_of scope.now) work.entry.items) ps) }
+    ensures weight { IfOk result (λ new. stack_weight (entries_of scope.now) new.items
+        < stack_weight (entries_of scope.now) work.entry.items + tree_weight (name_weight (entries_of scope.now) outer.count) (view expr.now)) }
 {
     match expr {
         Expr::Number(number) => first_of(work, Work::Do(Step::Number(number.value))),

@@ -30,11 +30,7 @@ pub(crate) fn walk<'a, D: Device>(
     let mut work = Vec::new(alloc);
     let mut values = Vec::new(alloc);
     work.push(whole)?;
-    // An expression of so many turns is none that a run could live to build.
-    'turns: for _ in 0..u64::MAX {
-        let Some(next) = work.pop() else {
-            return Ok(taken(alloc, &mut values));
-        };
+    'turns: while let Some(next) = work.pop() {
         match next {
             Work::Whole(expr, outer) => work = expand(scope, expr, outer, work)?,
             Work::Members(members, outer) => {
@@ -50,5 +46,5 @@ pub(crate) fn walk<'a, D: Device>(
             }
         }
     }
-    Err(ExprFault::OutOfMemory)
+    Ok(taken(alloc, &mut values))
 }

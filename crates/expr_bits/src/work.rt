@@ -1,8 +1,8 @@
 //! What is left to build, and what names are to be built as.
 
-ghost use Rattle.std.specs.Prelude.{◌≡◌, List, take};
+ghost use Rattle.std.specs.Prelude.{◌≡◌, ◌<◌, ◌≤◌, List, take};
 ghost use Rattle.expr_bits.specs.Prelude.{Entry, entries_of, innermost, view_meaning, extended_if, known_of, term_meant, term_named};
-ghost use Rattle.expr_bits.specs.{ComesTo, named_term};
+ghost use Rattle.expr_bits.specs.{ComesTo, named_term, kind_weight, name_weight, named_weight, work_weight};
 
 use abel_tree::{Binary, Expr, Extension, Meaning, Member, Unary};
 use set_expr::Scope;
@@ -58,8 +58,9 @@ pub(crate) enum Work<'a> {
 
 /// What the name with this text is built as; one that isn't among the first names is a number.
 pub(crate) fn name_work<'a>(scope: &Scope<'a>, text: &[u8], outer: Outer) -> Work<'a>
-    ensures { ComesTo (entries_of scope.now) result (extended_if outer.extension
+    ensures comes { ComesTo (entries_of scope.now) result (extended_if outer.extension
         (term_named (known_of (take outer.count (entries_of scope.now))) text.now)) }
+    ensures weight { work_weight (entries_of scope.now) result ≤ name_weight (entries_of scope.now) outer.count text.now }
 {
     let Some(name) = scope.get(text) else {
         return Work::Do(Step::Number(0));
@@ -73,7 +74,8 @@ pub(crate) fn name_work<'a>(scope: &Scope<'a>, text: &[u8], outer: Outer) -> Wor
 
 /// What a meaning is built as, of the name with this number.
 fn meant_work<'a>(meaning: &'a Meaning, number: u32, extension: Option<Extension>) -> Work<'a>
-    ensures { (es : List Entry) → ComesTo es result (extended_if extension (term_meant (known_of (take number es)) number (view_meaning meaning.now))) }
+    ensures comes { (es : List Entry) → ComesTo es result (extended_if extension (term_meant (known_of (take number es)) number (view_meaning meaning.now))) }
+    ensures weight { (es : List Entry) → work_weight es result ≡ kind_weight (name_weight es number) (view_meaning meaning.now) }
 {
     match meaning {
         Meaning::Pin { pin: _, negated: _ } => Work::Do(Step::Read(number, extension)),
@@ -92,7 +94,8 @@ pub(crate) fn declared_work<'a>(
     number: u32,
     extension: Option<Extension>,
 ) -> Work<'a>
-    ensures { ComesTo (entries_of scope.now) result (named_term (entries_of scope.now) number extension) }
+    ensures comes { ComesTo (entries_of scope.now) result (named_term (entries_of scope.now) number extension) }
+    ensures weight { work_weight (entries_of scope.now) result < named_weight (entries_of scope.now) number }
 {
     match scope.list().get(number as usize) {
         Some(declared) => meant_work(&declared.meaning, number, extension),
