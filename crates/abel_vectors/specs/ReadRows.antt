@@ -1,6 +1,7 @@
 -- Private: what is found of rows and of a header.
 use Rattle.std.specs.Prelude.{◌≡◌, ℕ, ◌||◌, true, false, Option, None, Some, List, map, Result}
-use Rattle.abel_vectors.specs.Prelude.{range_with_len, Vector, chars_of, RowTree, SectionTree, SomeVectors, view, view_vector_row, Context, targets_of, Term, term_of, char_or_plain, row_chars, SectionFault}
+use Rattle.abel_vectors.specs.Prelude.{range_with_len, Vector, chars_of, RowTree, SectionTree, SomeVectors, view, view_vector_row, Context, targets_of, Term, term_of, char_or_plain, row_chars, SectionFault, first_refusal, section_order}
+use Rattle.set_expr.specs.FoundNames.{expression_found}
 use Rattle.truth_tables.specs.declared.mark.Mark as code
 use Rattle.abel_tree.specs.declared.expressions.Expr.{Expr}
 use Rattle.abel_tree.specs.declared.tables.Vectors.{Vectors}
@@ -16,8 +17,10 @@ use Rattle.abel_vectors.specs.VectorRefusals.{disagree, row_refused, rows_refuse
 abbrev pub header_term : Context → Expr → Term
 header_term d e = term_of d.known (view e)
 
--- it names what stands at the positions of its sides
+-- nothing is refused of its sides, and it names what stands at their positions
 pub record NamesPins (d : Context) (h : Header) : Type 0 where
+  pub inputs : first_refusal section_order (expression_found d.names (view h.section.now.inputs)).refusals ≡ None
+  pub outputs : first_refusal section_order (expression_found d.names (view h.section.now.outputs)).refusals ≡ None
   pub driven : h.driven.now ≡ targets_of (header_term d h.section.now.inputs)
   pub tested : h.tested.now ≡ targets_of (header_term d h.section.now.outputs)
 

@@ -86,6 +86,8 @@ pub use Rattle.truth_tables.specs.{NamesOutputs, Opened, StandForInputs, Walked,
 pub use Rattle.truth_tables.specs.{all_refused_inside, all_signs, any_holds_pulse, arrow_refused, assigned_by, before, behind, both_headers, both_sets}
 pub use Rattle.truth_tables.specs.{design_of, entry_refused, found_work, given_by, given_freely, given_output, headed_work, header_literals, header_name}
 pub use Rattle.truth_tables.specs.{header_of, header_range, header_refused, header_set, header_special, holds_pulse, if_none, inputs_nodes, inputs_term}
+pub use Rattle.truth_tables.specs.{AreClear, AreClearNames, AreClearParts, IsClear, IsClearMember, IsClearName, IsClearPair, IsClearPart, IsClearStand}
+pub use Rattle.truth_tables.specs.{IsUnrefused, is_plain}
 pub use Rattle.truth_tables.specs.{is_computed, is_number, is_operand, is_pulse_named, is_set, kind_signs, level_refused, levels_of, listing, literals}
 pub use Rattle.truth_tables.specs.{matched_guard, meeting, meets, meets_whole, member_holds_pulse, member_refused_inside, named_outputs, names_left}
 pub use Rattle.truth_tables.specs.{names_positions, names_refused, no_matches_work, nodes_at, nodes_left, nothing, output_header, output_member, output_members}

@@ -1,9 +1,12 @@
+pub mod ClearHeaders
+pub mod ClearNames
 pub mod Common
 pub mod ExampleTrees
 pub mod GivenLaws
 pub mod HeaderLaws
 pub mod InputLaws
 pub mod NamesInOrder
+pub mod NamesKept
 pub mod OutputPositions
 pub mod PairLaws
 pub mod PartLaws

@@ -1,6 +1,6 @@
 -- Headers and entries met pair by pair.
 use Rattle.std.proofs.Common.{◌≡◌, ℕ, zero, suc, ◌+◌, ◌-◌, ◌/◌, ◌%◌, ◌==◌, ◌<◌, ◌≤◌, Bool, true, false, ◌&&◌, Option, List, [], ◌∷◌, ◌++◌, length, map, reverse, replicate, refl, sym, ap, ap₂, ◌∙◌, subst, arith, append-nil, Bor}
-use Rattle.truth_tables.proofs.Common.{AllZip, flat_map, list_all, sum_by, zip, and-false, map-append, reverse-append, replicate-append-replicate, sum_by-cons, Expr, Member, Extension, view, map_reverse, Context, digits, digits_low_first, part_marks, part_width, marks_of, all_marks, Term, Terms, extended_if, special_term, term_of, constant_of, Shape, HasShape, Mark, Pair, Part, view_mark, list_of, each_extended, seen, is_set, both_sets, meeting, paired, IsPair, IsPut, IsMet, term_parts, IsNumeral, IsOperator, IsPart, AreParts, is_operand, is_number, meets, all_meet, meets_whole, all_extended, set_extended, list_extended}
+use Rattle.truth_tables.proofs.Common.{AllZip, flat_map, list_all, sum_by, zip, and-false, map-append, reverse-append, replicate-append-replicate, sum_by-cons, Expr, Member, Extension, view, map_reverse, Context, digits, digits_low_first, part_marks, part_width, marks_of, all_marks, Term, Terms, extended_if, special_term, term_of, constant_of, Shape, HasShape, Mark, Pair, Part, names_found, AreClearParts, view_mark, list_of, each_extended, seen, is_set, both_sets, meeting, paired, IsPair, IsPut, IsMet, term_parts, IsNumeral, IsOperator, IsPart, AreParts, is_operand, is_number, meets, all_meet, meets_whole, all_extended, set_extended, list_extended}
 use Rattle.abel_meaning.specs.Rows as meant
 use Rattle.abel_meaning.specs.Terms as term
 use Rattle.set_expr.specs.declared.shaped.Shape.TheVariants as shape
@@ -75,13 +75,13 @@ shape_unmet d h x e _ o k other s = bits_unmet d h x e o k (ap is_number s)
 
 -- ---- a set beside a set
 
-paired_stand : (d : Context) (hs es : List Part) (ts us : List Term) → AreParts d hs ts → AreParts d es us → AllZip (IsPair d) (paired hs es) (zip ts us)
-paired_stand d [] es (t ∷ ts) us h k = absurd h
-paired_stand d (x ∷ hs) es [] us h k = absurd h
-paired_stand d (x ∷ hs) [] (t ∷ ts) (u ∷ us) h k = absurd k
-paired_stand d (x ∷ hs) (y ∷ es) (t ∷ ts) [] h k = absurd k
-paired_stand d (x ∷ hs) (y ∷ es) (t ∷ ts) (u ∷ us) h k = ((h.0, k.0), paired_stand d hs es ts us h.1 k.1)
-paired_stand d _ _ _ _ h k = tt
+paired_stand : (d : Context) (hs es : List Part) (ts us : List Term) → AreParts d hs ts → AreParts d es us → AreClearParts true (names_found d.names) hs → AreClearParts false (names_found d.names) es → AllZip (IsPair d) (paired hs es) (zip ts us)
+paired_stand d [] es (t ∷ ts) us h k x y = absurd h
+paired_stand d (x ∷ hs) es [] us h k z y = absurd h
+paired_stand d (x ∷ hs) [] (t ∷ ts) (u ∷ us) h k z w = absurd k
+paired_stand d (x ∷ hs) (y ∷ es) (t ∷ ts) [] h k z w = absurd k
+paired_stand d (x ∷ hs) (y ∷ es) (t ∷ ts) (u ∷ us) h k z w = ((h.0, k.0, record { header = z.0; given = w.0 }), paired_stand d hs es ts us h.1 k.1 z.1 w.1)
+paired_stand d _ _ _ _ h k z w = tt
 
 sets_meet : (d : Context) (us vs : Terms) → length (list_of us) ≡ length (list_of vs) → all_meet d us vs ≡ list_all (meeting d).passes (zip (list_of us) (list_of vs))
 sets_meet d term.NoTerm term.NoTerm e = refl
@@ -123,15 +123,15 @@ module _ (d : Context) (h e : Term) (o i : Option Extension) (ts us : Terms) (hs
       ap₂ (meets d) (ih ∙ set_extended o ts) (ie ∙ set_extended i us)
       ∙ sets_differ d xs ys (λ l. p (sym (AllZip-long (IsPart d) hs (list_of xs) headers) ∙ l ∙ AllZip-long (IsPart d) es (list_of ys) entries))
 
-  pub sets_met : length hs ≡ length es → later ≡ stack ++ paired hs es → IsMet d h e true stack later ms ms
+  pub sets_met : length hs ≡ length es → later ≡ stack ++ paired hs es → AreClearParts true (names_found d.names) hs → AreClearParts false (names_found d.names) es → IsMet d h e true stack later ms ms
   unfolding xs ys
-  sets_met p q =
+  sets_met p q ch ce =
       let lengths : length (list_of xs) ≡ length (list_of ys) = AllZip-long (IsPart d) hs (list_of xs) headers ∙ p ∙ sym (AllZip-long (IsPart d) es (list_of ys) entries) in
       record {
         more = paired hs es;
         terms = zip (list_of xs) (list_of ys);
         pushed = q;
-        stand = paired_stand d hs es (list_of xs) (list_of ys) headers entries;
+        stand = paired_stand d hs es (list_of xs) (list_of ys) headers entries ch ce;
         opened = record {
           passes = ap₂ (meets d) (ih ∙ set_extended o ts) (ie ∙ set_extended i us) ∙ sets_meet d xs ys lengths;
           gives = λ _. ap (λ zs. zs ++ seen ms) (ap₂ (marks_of d) (ih ∙ set_extended o ts) (ie ∙ set_extended i us) ∙ sets_marks d xs ys);

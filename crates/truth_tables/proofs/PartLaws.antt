@@ -84,7 +84,7 @@ found_kind d (Some v) xs t h l = l.0
 abbrev pub IsValued : Found → Value → Type 0
 IsValued f u = f.refusals ≡ [] → HasKind f.value u
 
-over_valued : (n : Names) (d : Context) → IsOver n d → (t : Tree) → IsValued (expression_found (entries_of n) t) (constant_of d (term_of d.known t))
+pub over_valued : (n : Names) (d : Context) → IsOver n d → (t : Tree) → IsValued (expression_found (entries_of n) t) (constant_of d (term_of d.known t))
 over_valued n d is t =
     let f = expression_found (entries_of n) t in
     let l = expression_linked d (entries_of n) t in

@@ -93,13 +93,15 @@ neither : (rs more : List SectionFault) → if_none rs more ≡ [] → rs ≡ []
 neither [] more e = refl
 neither (r ∷ rs) more e = absurd cc
 
+pub outputs_clear : (d : Context) (before : List Manner) (t : Table) → None ≡ first_refusal section_order (header_refused d before t.clocked (view t.inputs) (view t.outputs)) → (output_header d (view t.outputs)).refusals ≡ []
+outputs_clear d before t e =
+    let x = output_header d (view t.outputs) in
+    neither x.refusals _ (right_empty (expression_found d.names (view t.inputs)).refusals (outputs_refused d before t.clocked x)
+    (none_refused section_order (header_refused d before t.clocked (view t.inputs) (view t.outputs)) e))
+
 pub outputs_named : (d : Context) (before : List Manner) (t : Table) (xs : List (Option Aim)) → xs ≡ (output_header d (view t.outputs)).outputs → None ≡ first_refusal section_order (header_refused d before t.clocked (view t.inputs) (view t.outputs)) → NamesOutputs d t xs
 outputs_named d before t xs h e =
-    let x = output_header d (view t.outputs) in
-    header_signals d (view t.outputs)
-    (neither x.refusals _ (right_empty (expression_found d.names (view t.inputs)).refusals (outputs_refused d before t.clocked x)
-    (none_refused section_order (header_refused d before t.clocked (view t.inputs) (view t.outputs)) e)))
-    ∙ ap signals_of (sym h)
+    header_signals d (view t.outputs) (outputs_clear d before t e) ∙ ap signals_of (sym h)
 
 -- the works of a table are its units, and what it gives
 pub table_works : (P : List CountedUnit → List (meant.Contribution Formula) → List Place → Type 0) (d : Context) (all : List Manner) (fs : List Formula) (g : Guard) (t : Table) (xs : List (Option Aim)) → NamesOutputs d t xs → xs ≡ (output_header d (view t.outputs)).outputs

@@ -16,7 +16,7 @@ module _ {A T : Type 0} (S : A → T → Type 0) where
   each_sum m n same (x ∷ xs) (t ∷ ts) h = omega (arith, sum_by-append m (x ∷ []) xs, sum_by-append n (t ∷ []) ts, same x t h.0, each_sum m n same xs ts h.1)
   each_sum m n same _ _ h = absurd h
 
-  record Last (xs : List A) (x : A) (ts : List T) : Type 0 where
+  pub record Last (xs : List A) (x : A) (ts : List T) : Type 0 where
     pub front : List T
     pub last : T
     pub is : ts ≡ front ++ last ∷ []
@@ -31,6 +31,9 @@ module _ {A T : Type 0} (S : A → T → Type 0) where
   each_last (y ∷ xs) x (t ∷ ts) h =
       let l = each_last xs x ts h.1 in
       record { front = t ∷ l.front; last = l.last; is = ap (λ us. t ∷ us) l.is; stand = (h.0, l.stand); one = l.one }
+
+pub top_stands : {A T : Type 0} (S : A → T → Type 0) (stack rest : List A) (x : A) (ts : List T) → stack ≡ rest ++ x ∷ [] → AllZip S stack ts → Last S rest x ts
+top_stands S stack rest x ts e h = each_last S rest x ts (subst (λ xs. AllZip S xs ts) e h)
 
 -- ---- walks
 

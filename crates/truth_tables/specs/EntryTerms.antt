@@ -154,7 +154,15 @@ abbrev pub LeadsBack : Names → (text : List ℕ) → Stand → Type 0
 LeadsBack n w (stand.Constant x) = steps_left (entries_of n) (view x.now) < steps_up_to (entries_of n) (up_to (find (entries_of n) w))
 LeadsBack n w (stand.Part p) = Unit {0}
 
+-- a part that has no expression
+abbrev pub is_plain : Part → Bool
+is_plain (part.Set x ms e) = false
+is_plain (part.Signal s e) = true
+is_plain (part.Number n) = true
+is_plain (part.Special letter) = true
+is_plain (part.Operator x) = false
+
 -- the expression of a stand is that of a constant
 abbrev pub IsOfKind : Stand → Kind → Type 0
 IsOfKind (stand.Constant x) k = k ≡ AConstant (view x.now)
-IsOfKind (stand.Part p) k = Unit {0}
+IsOfKind (stand.Part p) k = is_plain p ≡ true

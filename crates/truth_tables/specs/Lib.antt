@@ -1,3 +1,4 @@
+pub mod ClearParts
 pub mod EntryMarks
 pub mod EntryTerms
 pub mod Found
@@ -11,6 +12,7 @@ pub mod Stacks
 pub mod TableUnits
 pub mod TableWalks
 pub mod Works
+unfoldable pub use ClearParts.*
 unfoldable pub use EntryMarks.*
 unfoldable pub use EntryTerms.*
 unfoldable pub use Found.*

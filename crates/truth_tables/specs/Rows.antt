@@ -112,6 +112,7 @@ inputs_nodes v h = term_nodes (design_of v h) (view h.table.now.inputs)
 -- neither side of the header is refused, and these are its outputs
 pub record IsAccepted {D : Type 0} (v : device.Table) (h : Headed D) : Type 0 where
   pub inputs : refusal_of h.scope.now (view h.table.now.inputs) ≡ None
+  pub outputs : refusal_of h.scope.now (view h.table.now.outputs) ≡ None
   pub signals : AreNamed (length (entries_of h.scope.now)) (some_aims h.outputs.now)
   pub named : NamesOutputs (design_of v h) h.table.now h.outputs.now
 

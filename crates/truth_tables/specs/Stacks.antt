@@ -1,7 +1,7 @@
 -- Private: walks over what lies on a stack, from its top: each element stands for a term, and what the terms of those below
 -- give comes before what was put (this project's rule).
 use Rattle.std.specs.Prelude.{◌≡◌, ◌<◌, ℕ, Bool, true, false, List, [], ◌++◌, Option, reverse, ◌&&◌, map}
-use Rattle.truth_tables.specs.Prelude.{AllZip, flat_map, list_all, sum_by, zip, Context, targets_of, Term, marks_of}
+use Rattle.truth_tables.specs.Prelude.{AllZip, flat_map, list_all, sum_by, zip, Context, targets_of, Term, marks_of, names_found}
 use Rattle.truth_tables.specs.declared.part.Part.{Part}
 use Rattle.truth_tables.specs.HeaderSignals.{names_positions}
 use Rattle.truth_tables.specs.EntryTerms.{term_parts, IsPart}
@@ -11,6 +11,7 @@ use Rattle.truth_tables.specs.declared.mark.Mark.{Mark}
 use Rattle.truth_tables.specs.declared.part.Pair.{Pair}
 use Rattle.truth_tables.specs.EntryMarks.{view_mark}
 use Rattle.truth_tables.specs.RowEntries.{meets}
+use Rattle.truth_tables.specs.ClearParts.{IsClearPair}
 
 -- what a walk asks of each term: whether it passes, what it gives, and how many steps it takes
 pub record Walking (T M : Type 0) : Type 0 where
@@ -75,8 +76,9 @@ meeting d =
       size = λ (x : Term × Term). term_parts x.0;
     }
 
+-- both stand for terms, and nothing is refused of what is asked of them
 abbrev pub IsPair : Context → Pair → Term × Term → Type 0
-IsPair d p x = IsPart d p.header x.0 × IsPart d p.given x.1
+IsPair d p x = IsPart d p.header x.0 × IsPart d p.given x.1 × IsClearPair (names_found d.names) p
 
 -- as many pairs as there are of both
 abbrev pub paired : List Part → List Part → List Pair

@@ -1,7 +1,7 @@
 //! The rows of a table, and the levels of their entries.
 
-ghost use Rattle.std.specs.Prelude.{◌≡◌, Some, IfOk};
-ghost use Rattle.truth_tables.specs.Prelude.{view, view_row, Context, term_of, first_refusal, section_order};
+ghost use Rattle.std.specs.Prelude.{◌≡◌, None, Some, IfOk};
+ghost use Rattle.truth_tables.specs.Prelude.{view, view_row, Context, term_of, first_refusal, section_order, refusal_of};
 ghost use Rattle.abel_meaning.specs.Rows as meant;
 ghost use Rattle.truth_tables.specs.{view_mark, IsOver, IsLevels, levels_of, IsRow, arrow_refused};
 
@@ -46,6 +46,7 @@ fn read_levels(
     header: &Expr,
     entry: &Expr,
 ) -> Result<Levels, OutOfMemory>
+    requires { refusal_of scope.now (view header.now) ≡ None }
     ensures { IfOk result (λ r. (d : Context) → IsOver scope.now d → IsLevels d row (term_of d.known (view header.now)) (view entry.now) r) }
 {
     if holds_pulse(alloc, scope, entry)? {
@@ -86,6 +87,8 @@ pub(crate) fn read_row(
     table: &Table,
     row: &Row,
 ) -> Result<RowFound, OutOfMemory>
+    requires inputs { refusal_of scope.now (view table.now.inputs) ≡ None }
+    requires outputs { refusal_of scope.now (view table.now.outputs) ≡ None }
     ensures { IfOk result (λ r. (d : Context) → IsOver scope.now d → IsRow d table.now.clocked (term_of d.known (view table.now.inputs)) (term_of d.known (view table.now.outputs)) (view_row row.now) r) }
 {
     let bad = SectionFault::BadRow(row.place);

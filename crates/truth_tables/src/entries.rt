@@ -1,8 +1,8 @@
 //! Entries of rows under their headers: parts of both, met one by one from the last on.
 
-ghost use Rattle.std.specs.Prelude.{◌≡◌, IfOk};
-ghost use Rattle.truth_tables.specs.Prelude.{Context, Term, term_of, view};
-ghost use Rattle.truth_tables.specs.{IsOver, paired, IsMet, IsPart, IsRead};
+ghost use Rattle.std.specs.Prelude.{◌≡◌, None, IfOk};
+ghost use Rattle.truth_tables.specs.Prelude.{Context, Term, term_of, view, entries_of, names_found, refusal_of};
+ghost use Rattle.truth_tables.specs.{IsOver, paired, IsMet, IsPart, IsRead, IsClearPair};
 
 use crate::inside::refuse_inside;
 use crate::mark::Mark;
@@ -40,6 +40,7 @@ fn step<'a>(
     stack: &mut Vec<Pair<'a>>,
     marks: &mut Vec<Mark>,
 ) -> Result<bool, OutOfMemory>
+    requires { IsClearPair (names_found (entries_of scope.now)) pair }
     ensures { IfOk result (λ b. (d : Context) (h e : Term) → IsOver scope.now d → IsPart d pair.entry.header h → IsPart d pair.entry.given e → IsMet d h e b stack.old.items stack.new.items marks.old.items marks.new.items) }
 {
     match pair.header {
@@ -79,6 +80,7 @@ pub fn read_entry(
     header: &Expr,
     entry: &Expr,
 ) -> Result<Entry, OutOfMemory>
+    requires { refusal_of scope.now (view header.now) ≡ None }
     ensures { IfOk result (λ r. (d : Context) → IsOver scope.now d → IsRead d row (term_of d.known (view header.now)) (view entry.now) r) }
 {
     let inside = refuse_inside(alloc, scope, row, entry)?;

@@ -1,9 +1,9 @@
 //! What a part of a header or of an entry stands for, through the names of constants.
 
-ghost use Rattle.std.specs.Prelude.{IfOk};
-ghost use Rattle.truth_tables.specs.Prelude.{view_meaning, view, Context, term_of, term_named, term_meant, extended_if, constant_of};
+ghost use Rattle.std.specs.Prelude.{Bool, IfOk};
+ghost use Rattle.truth_tables.specs.Prelude.{view_meaning, view, Context, term_of, term_named, term_meant, extended_if, constant_of, entries_of, names_found};
 ghost use Rattle.set_expr.specs.Shapes.{HasShape};
-ghost use Rattle.truth_tables.specs.{IsOver, IsPart, IsStand, IsOfKind, LeadsBack};
+ghost use Rattle.truth_tables.specs.{IsOver, IsPart, IsStand, IsOfKind, LeadsBack, IsUnrefused, IsClearName, IsClear, IsClearPart, IsClearStand};
 
 use abel_tree::{Expr, Extension, Meaning, Member};
 use pld_base::OutOfMemory;
@@ -58,6 +58,7 @@ pub(crate) fn stand_of<'a>(
     ensures stand { (d : Context) → IsOver scope.now d
         → IsStand d extension result (extended_if extension (term_named d.known text.now)) }
     ensures back { LeadsBack scope.now text.now result }
+    ensures clear { (b : Bool) → IsClearName (names_found (entries_of scope.now)) text.now → IsClearStand b (names_found (entries_of scope.now)) result }
 {
     scope.are_in_order();
     match scope.get(text) {
@@ -71,20 +72,23 @@ pub(crate) fn stand_of<'a>(
 
 /// The shape of an expression of which nothing is refused.
 pub(crate) fn shape_of(alloc: Global, scope: &Scope<'_>, expr: &Expr) -> Result<Shape, OutOfMemory>
+    requires { IsUnrefused (names_found (entries_of scope.now)) (view expr.now) }
     ensures { IfOk result (λ s. (d : Context) → IsOver scope.now d → HasShape s (constant_of d (term_of d.known (view expr.now)))) }
 {
     let found = scope.check(alloc, expr)?;
-    match (found.fault, found.shape) {
-        (None, Some(shape)) => Ok(shape),
-        _ => Err(OutOfMemory),
+    match found.shape {
+        Some(shape) => Ok(shape),
+        None => unreachable!(),
     }
 }
 
 /// The part that an expression is under an extension, if there is one. Parentheses and names of constants are followed in a
 /// loop.
 pub(crate) fn part_of<'a>(scope: &Scope<'a>, expr: &'a Expr, outer: Option<Extension>) -> Part<'a>
-    ensures { (d : Context) → IsOver scope.now d
+    ensures part { (d : Context) → IsOver scope.now d
         → IsPart d result (extended_if outer (term_of d.known (view expr.now))) }
+    ensures clear { (b : Bool) → IsClear b (names_found (entries_of scope.now)) (view expr.now)
+        → IsClearPart b (names_found (entries_of scope.now)) result }
 {
     let mut at = expr;
     let mut extension = outer;
@@ -119,8 +123,10 @@ pub(crate) fn part_of<'a>(scope: &Scope<'a>, expr: &'a Expr, outer: Option<Exten
 
 /// The part that the name with this text is under an extension, if there is one.
 pub(crate) fn named_part<'a>(scope: &Scope<'a>, text: &[u8], outer: Option<Extension>) -> Part<'a>
-    ensures { (d : Context) → IsOver scope.now d
+    ensures part { (d : Context) → IsOver scope.now d
         → IsPart d result (extended_if outer (term_named d.known text.now)) }
+    ensures clear { (b : Bool) → IsClearName (names_found (entries_of scope.now)) text.now
+        → IsClearPart b (names_found (entries_of scope.now)) result }
 {
     match stand_of(scope, text, outer) {
         Stand::Constant(expr) => part_of(scope, expr, outer),

@@ -1,9 +1,9 @@
 //! The parts of the members of sets, and the signals that a header names.
 
-ghost use Rattle.std.specs.Prelude.{map, IfOk};
-ghost use Rattle.truth_tables.specs.Prelude.{members_of, view, view_member, Context, NoTerm, Term, term_of, terms_of, member_before};
+ghost use Rattle.std.specs.Prelude.{Bool, map, IfOk};
+ghost use Rattle.truth_tables.specs.Prelude.{members_of, view, view_member, Context, NoTerm, Term, term_of, terms_of, member_before, entries_of, names_found};
 ghost use Rattle.expr_bits.specs.Members.{list_of, each_extended};
-ghost use Rattle.truth_tables.specs.{IsOver, AreParts, AreSignals, HasTerm, IsListed, IsPart};
+ghost use Rattle.truth_tables.specs.{IsOver, AreParts, AreSignals, HasTerm, IsListed, IsPart, AreClear, IsClearMember, AreClearParts};
 
 use crate::part::{Part, named_part, part_of};
 use abel_tree::{Expr, Extension, Member};
@@ -19,7 +19,9 @@ fn member_parts<'a>(
     member: &'a Member,
     outer: Option<Extension>,
 ) -> Result<Vec<Part<'a>>, OutOfMemory>
-    ensures { IfOk result (λ ps. (d : Context) → IsOver scope.now d → AreParts d ps.items (each_extended outer (list_of (member_before d.known (view_member member.now) NoTerm)))) }
+    ensures parts { IfOk result (λ ps. (d : Context) → IsOver scope.now d → AreParts d ps.items (each_extended outer (list_of (member_before d.known (view_member member.now) NoTerm)))) }
+    ensures clear { IfOk result (λ ps. (b : Bool) → IsClearMember b (names_found (entries_of scope.now)) (view_member member.now)
+        → AreClearParts b (names_found (entries_of scope.now)) ps.items) }
 {
     let mut parts = Vec::new(alloc);
     match member {
@@ -44,7 +46,9 @@ pub(crate) fn parts_of<'a>(
     members: &'a [Member],
     outer: Option<Extension>,
 ) -> Result<Vec<Part<'a>>, OutOfMemory>
-    ensures { IfOk result (λ ps. (d : Context) → IsOver scope.now d → AreParts d ps.items (each_extended outer (list_of (terms_of d.known (members_of (map view_member members.now)))))) }
+    ensures parts { IfOk result (λ ps. (d : Context) → IsOver scope.now d → AreParts d ps.items (each_extended outer (list_of (terms_of d.known (members_of (map view_member members.now)))))) }
+    ensures clear { IfOk result (λ ps. (b : Bool) → AreClear b (names_found (entries_of scope.now)) (members_of (map view_member members.now))
+        → AreClearParts b (names_found (entries_of scope.now)) ps.items) }
 {
     let mut parts = Vec::new(alloc);
     for member in members {

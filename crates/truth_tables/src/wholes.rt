@@ -1,9 +1,9 @@
 //! Entries that meet a part of a header as a whole.
 
-ghost use Rattle.std.specs.Prelude.{◌≡◌, ◌++◌, ℕ, false, map, replicate, IfOk, OnOk};
-ghost use Rattle.truth_tables.specs.Prelude.{view, Context, digits_low_first, part_marks, part_width, Term, special_term, term_of};
+ghost use Rattle.std.specs.Prelude.{◌≡◌, ◌++◌, ℕ, true, false, map, replicate, IfOk, OnOk};
+ghost use Rattle.truth_tables.specs.Prelude.{view, Context, digits_low_first, part_marks, part_width, Term, special_term, term_of, entries_of, names_found};
 ghost use Rattle.abel_meaning.specs.Rows as meant;
-ghost use Rattle.truth_tables.specs.{view_mark, IsOver, both_sets, IsPut, IsPart};
+ghost use Rattle.truth_tables.specs.{view_mark, IsOver, both_sets, IsPut, IsPart, IsUnrefused, IsClearPart, IsClearPair};
 
 use crate::mark::Mark;
 use crate::part::{Pair, Part, shape_of};
@@ -14,6 +14,7 @@ use std::alloc::Global;
 
 /// How many positions an expression has as a part.
 fn expr_width(alloc: Global, scope: &Scope<'_>, expr: &Expr) -> Result<u8, OutOfMemory>
+    requires { IsUnrefused (names_found (entries_of scope.now)) (view expr.now) }
     ensures { IfOk result (λ w. (d : Context) → IsOver scope.now d → w ≡ part_width d (term_of d.known (view expr.now))) }
 {
     match shape_of(alloc, scope, expr)? {
@@ -25,6 +26,7 @@ fn expr_width(alloc: Global, scope: &Scope<'_>, expr: &Expr) -> Result<u8, OutOf
 
 /// How many positions a part has.
 fn width_of(alloc: Global, scope: &Scope<'_>, part: Part<'_>) -> Result<u8, OutOfMemory>
+    requires { IsClearPart true (names_found (entries_of scope.now)) part }
     ensures { IfOk result (λ w. (d : Context) (t : Term) → IsOver scope.now d → IsPart d part.entry t → w ≡ part_width d t) }
 {
     match part {
@@ -77,6 +79,7 @@ pub(crate) fn put_whole(
     pair: Pair<'_>,
     marks: &mut Vec<Mark>,
 ) -> Result<bool, OutOfMemory>
+    requires { IsClearPair (names_found (entries_of scope.now)) pair }
     ensures { IfOk result (λ b. (d : Context) (h e : Term) → IsOver scope.now d
         → IsPart d pair.entry.header h → IsPart d pair.entry.given e → both_sets h e ≡ false
         → IsPut d h e b marks.old.items marks.new.items) }

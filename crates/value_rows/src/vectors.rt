@@ -91,10 +91,18 @@ fn entry_of(vectors: &Vectors) -> Option<(&Expr, &Expr)> {
     }
 }
 
-/// What the entry of the one row says of each position of the header, or its refusal.
+/// What the entry of the one row says of each position of the header, or the first refusal of the header or of it.
 fn put_entry(alloc: Global, module: &Module, scope: &Scope<'_>, found: &mut Found) -> Option<()> {
     let (header, entry) = entry_of(vectors_of(module)?)?;
     let row = SectionFault::BadRow(HERE);
+    let checked = match scope.check(alloc, header) {
+        Ok(checked) => checked,
+        Err(_) => return None,
+    };
+    if checked.fault.is_some() {
+        put_fault(checked.fault, found);
+        return Some(());
+    }
     match read_entry(alloc, scope, row, header, entry) {
         Ok(Entry::Marks(marks)) => {
             for mark in marks.as_slice() {

@@ -34,3 +34,9 @@ returns-in-Err g c =
     (both_read (entry_refused d (BadVector r.place) i r.inputs) (entry_refused d (BadVector r.place) o r.outputs) _ _ c.marks_in.result c.marks_in-2.result (Err c.in-Err.fault)
     (c.marks_in.ensures d (BadVector r.place) i r.inputs (c.in_ok-driven.ensures d over)) (c.marks_in-2.ensures d (BadVector r.place) o r.outputs (c.in_ok-tested.ensures d over))
     tt c.in-Err.ensures.refused)
+
+pub read_entry-requires : goal.read_entry-requires
+read_entry-requires g c = c.requires.inputs
+
+pub read_entry-requires-2 : goal.read_entry-requires-2
+read_entry-requires-2 g c = c.requires.outputs

@@ -1,8 +1,16 @@
 -- A header in which nothing is refused, and one that is refused.
-use Rattle.std.proofs.Common.{Ok, Err, map, refl, sym, ◌∙◌, subst}
-use Rattle.abel_vectors.proofs.Common.{on_ok_weaker, view, view_vector_row, section_vectors, context_for, IsOver, header_term, view_vectors, header_refused, rows_refused, side_refused, Finds}
+use Rattle.std.proofs.Common.{◌≡◌, Bool, List, [], ◌∷◌, Ok, Err, map, ap, refl, sym, ◌∙◌, subst}
+use Rattle.abel_vectors.proofs.Common.{on_ok_weaker, BadVector, SectionFault, names_pins, term_of, first_refusal, section_order, view, view_vector_row, section_vectors, context_for, IsOver, header_term, view_vectors, header_refused, rows_refused, side_refused, Finds}
 use Rattle.abel_vectors.proofs.FoundLaws.{behind_none, both_read, first_alone}
+use Rattle.section_targets.proofs.Built.{left_empty, right_empty}
+use Rattle.set_expr.specs.FoundNames.{expression_found}
+use Rattle.truth_tables.specs.RowEntries.{unless_met}
 use Rattle.abel_vectors.proofs.sections.read_section.Goals as goal
+
+-- of what is met nothing is refused
+met_clear : (rs : List SectionFault) (r : SectionFault) (b : Bool) → unless_met rs r b ≡ [] → rs ≡ []
+met_clear [] r b e = refl
+met_clear (x ∷ xs) r b e = absurd cc
 
 pub read_rows-requires : goal.read_rows-requires
 read_rows-requires g c =
@@ -12,7 +20,14 @@ read_rows-requires g c =
     let sides = both_read (side_refused d v.place (view v.inputs)) (side_refused d v.place (view v.outputs)) _ _ c.in_ok-inputs.inputs c.in_ok-outputs.outputs (Ok (c.in-Ok.driven, c.in-Ok.tested))
     (c.in_ok-inputs.ensures d over) (c.in_ok-outputs.ensures d over)
     c.in-Ok.ensures.read tt in
-    record { driven = c.as_slice.ensures.value ∙ sides.1.0; tested = c.as_slice-in-Ok.ensures.value ∙ sides.1.1 }
+    let ins = side_refused d v.place (view v.inputs) in
+    let outs = side_refused d v.place (view v.outputs) in
+    record {
+      inputs = ap (first_refusal section_order) (met_clear (expression_found d.names (view v.inputs)).refusals (BadVector v.place) (names_pins d (term_of d.known (view v.inputs))) (left_empty ins outs sides.0));
+      outputs = ap (first_refusal section_order) (met_clear (expression_found d.names (view v.outputs)).refusals (BadVector v.place) (names_pins d (term_of d.known (view v.outputs))) (right_empty ins outs sides.0));
+      driven = c.as_slice.ensures.value ∙ sides.1.0;
+      tested = c.as_slice-in-Ok.ensures.value ∙ sides.1.1;
+    }
 
 pub returns-in-Ok : goal.returns-in-Ok
 returns-in-Ok g c =

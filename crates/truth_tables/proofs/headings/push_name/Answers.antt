@@ -16,7 +16,7 @@ clear d k p w f old new s e a =
     subst (λ rs. IsAdded (named_outputs rs p (find d.names w) (term_named d.known w)) f old new) (sym (none_refused section_order rs (sym e ∙ s.fault))) a
 
 pub part_signals-requires : goal.part_signals-requires
-part_signals-requires c = λ d is. record { term = term_named d.known c.args.text.now; is = c.named_part.ensures d is }
+part_signals-requires c = λ d is. record { term = term_named d.known c.args.text.now; is = c.named_part.ensures.part d is }
 
 pub returns-then-is_some : goal.returns-then-is_some
 returns-then-is_some c d is =
@@ -31,7 +31,7 @@ returns-in-None c d is =
     let p = c.args.place in
     let t = term_named d.known w in
     let xs = c.args.outputs.now.items in
-    let s = subst (AreSignals t) c.in-None.is (c.in_ok-signals.ensures d t is (c.named_part.ensures d is)) in
+    let s = subst (AreSignals t) c.in-None.is (c.in_ok-signals.ensures d t is (c.named_part.ensures.part d is)) in
     clear d c.check_name-found.result p w _ xs xs (over c.args.scope.now d c.check_name-found.result p w is c.check_name-found.ensures) (no_fault c.check_name-found.result.fault (sym c.is_some.ensures ∙ c.if-is_some.false))
     (subst (λ x. IsAdded x (Some (NotAnOutput p c.number_of-number.result)) xs xs) (sym (named_other p (find d.names w) t s))
     (added_none (refused_header (NotAnOutput p (find d.names w))) _ xs (ap (λ n. Some (NotAnOutput p n)) (found_in w is.names c.number_of-number.ensures)) refl))
@@ -44,7 +44,7 @@ returns-in_ok-extend_from_slice-in-Some c d is =
     let old = c.args.outputs.now.items in
     let now = c.extend_from_slice.new.self.items in
     let ss = c.in-Some.signals.items in
-    let s = subst (AreSignals t) c.in-Some.is (c.in_ok-signals.ensures d t is (c.named_part.ensures d is)) in
+    let s = subst (AreSignals t) c.in-Some.is (c.in_ok-signals.ensures d t is (c.named_part.ensures.part d is)) in
     clear d c.check_name-found.result p w None old now (over c.args.scope.now d c.check_name-found.result p w is c.check_name-found.ensures) (no_fault c.check_name-found.result.fault (sym c.is_some.ensures ∙ c.if-is_some.false))
     (subst (λ x. IsAdded x None old now) (sym (named_listed p (find d.names w) t ss s.0 s.1))
     (record { fault = refl; outputs = c.in_ok-extend_from_slice-in-Some.ensures.items ∙ ap (λ zs. old ++ zs) (c.deref.ensures.value ∙ c.in_ok-more-in-Some.ensures ∙ ap (outputs_at p) c.as_slice.ensures.value) }))

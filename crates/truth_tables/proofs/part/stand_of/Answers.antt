@@ -1,6 +1,7 @@
 -- What is no name, and a name by its number.
 use Rattle.std.proofs.Common.{◌≡◌, get_or, refl, sym, ap, ◌∙◌, subst}
 use Rattle.truth_tables.proofs.Common.{entries_of, view_declared, Number, known_of, term_named, term_meant, extended_if, IsStand, IsNumeral, is_computed}
+use Rattle.truth_tables.proofs.ClearNames.{stand_clear}
 use Rattle.truth_tables.proofs.PartLaws.{number_extended, entry_at}
 use Rattle.truth_tables.proofs.NamesInOrder.{stand_back, named_meant, unnamed}
 use Rattle.truth_tables.proofs.part.stand_of.Goals as goal
@@ -33,3 +34,10 @@ returns-in-Some-clause-back c =
     let k = c.in-Some.name.number in
     let here = entry_at c.args.scope.now.list k x (subst (λ xs. x ≡ get_or xs k x) c.list.ensures c.index-list-name.is) in
     stand_back c.args.scope.now c.args.text.now k (view_declared x) c.meaning_stand.result c.are_in_order.ensures c.in-Some.ensures.place here c.meaning_stand.ensures.kind
+
+pub returns-in-Some-clause-clear : goal.returns-in-Some-clause-clear
+returns-in-Some-clause-clear c b named =
+    let x = c.index-list-name.result in
+    let k = c.in-Some.name.number in
+    let here = entry_at c.args.scope.now.list k x (subst (λ xs. x ≡ get_or xs k x) c.list.ensures c.index-list-name.is) in
+    stand_clear b (entries_of c.args.scope.now) c.args.text.now k (view_declared x) c.meaning_stand.result c.are_in_order.ensures c.in-Some.ensures.place here c.meaning_stand.ensures.kind named

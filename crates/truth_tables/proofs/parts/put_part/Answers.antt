@@ -24,5 +24,5 @@ pub returns-in_ok-extend_from_slice-in-Set : goal.returns-in_ok-extend_from_slic
 returns-in_ok-extend_from_slice-in-Set c d t is x =
     let ts = terms_of d.known (members_of (map view_member c.in-Set.members.now)) in
     put_set d t c.in-Set.outer ts c.in_ok-parts-in-Set.parts.items c.args.stack.now.items c.extend_from_slice.new.self.items c.args.signals.now.items
-    (subst (λ z. IsPart d z t) c.in-Set.is x).is (c.in_ok-parts-in-Set.ensures d is)
+    (subst (λ z. IsPart d z t) c.in-Set.is x).is (c.in_ok-parts-in-Set.ensures.parts d is)
     (c.in_ok-extend_from_slice-in-Set.ensures.items ∙ ap (λ ps. c.args.stack.now.items ++ ps) c.as_slice.ensures.value)

@@ -3,8 +3,9 @@ use Rattle.std.proofs.Common.{◌++◌, map, refl, sym, ap, ◌∙◌, subst}
 use Rattle.truth_tables.proofs.Common.{is_some, on_ok_weaker, arena, Names, view, view_row, table_units, term_of, context_for, Walks, is_context, same_context, value_accepted, output_header, assigned_by, header_refused, row_units, WalksTable, given_by, places_by}
 use Rattle.section_targets.specs.declared.walked.Walked.{Walked}
 use Rattle.truth_tables.proofs.OutputPositions.{outputs_inside}
-use Rattle.truth_tables.proofs.RowsWalked.{header_noted, header_stands, some_refused}
-use Rattle.truth_tables.proofs.RowWorks.{inputs_clear, outputs_named, table_works}
+use Rattle.truth_tables.proofs.RowsWalked.{header_noted, header_stands, is_over, some_refused}
+use Rattle.truth_tables.proofs.ClearHeaders.{outputs_unrefused}
+use Rattle.truth_tables.proofs.RowWorks.{inputs_clear, outputs_clear, outputs_named, table_works}
 use Rattle.truth_tables.proofs.tables.walk_table.Goals as goal
 
 pub returns-in-Some : goal.returns-in-Some
@@ -36,6 +37,7 @@ walk_headed-requires g c =
     record {
       accepted = record {
         inputs = value_accepted n (view t.inputs) (inputs_clear d before t clear);
+        outputs = value_accepted n (view t.outputs) (outputs_unrefused n d (is_over v n) (view t.outputs) (outputs_clear d before t clear));
         signals = outputs_inside d refl (view t.outputs) c.as_slice.result.now named;
         named = named;
       };

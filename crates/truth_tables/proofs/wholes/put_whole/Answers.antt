@@ -1,6 +1,6 @@
 -- A number, a special, and an operator by its shape.
-use Rattle.std.proofs.Common.{subst}
-use Rattle.truth_tables.proofs.Common.{view, term_of, constant_of, HasShape, IsPart}
+use Rattle.std.proofs.Common.{false, subst}
+use Rattle.truth_tables.proofs.Common.{entries_of, names_found, IsClearPart, view, term_of, constant_of, HasShape, IsPart}
 use Rattle.truth_tables.proofs.PairLaws.{put_number, put_same, shape_unmet}
 use Rattle.truth_tables.proofs.PartLaws.{operator_numeral}
 use Rattle.truth_tables.proofs.wholes.put_whole.Goals as goal
@@ -26,3 +26,9 @@ pub returns-in_default : goal.returns-in_default
 returns-in_default c d h e is x i k =
     let o = subst (λ z. IsPart d z e) c.in-Operator.is i in
     shape_unmet d h c.in-Operator.expr.now e _ o k c.in_default.not-Number (c.in_ok-number-in-Operator.ensures d is)
+
+pub width_of-requires : goal.width_of-requires
+width_of-requires c = c.requires.header
+
+pub shape_of-requires-in-Operator : goal.shape_of-requires-in-Operator
+shape_of-requires-in-Operator c = subst (IsClearPart false (names_found (entries_of c.args.scope.now))) c.in-Operator.is c.requires.given
