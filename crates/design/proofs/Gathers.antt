@@ -1,7 +1,8 @@
 -- The netlist of a module, once its signals are checked.
 use Rattle.std.proofs.Common.{◌≡◌, ℕ, ◌<◌, List, [], ◌∷◌, map, length, get_or, refl, sym, ap, subst, ◌∙◌, All}
 use Rattle.design.proofs.Common.{true≢false, All-cons, All-nil, IsDevice, Table, arena, Formula, entries_of, is_signal, ModuleTree, view_module, Context, Design, design_of, names_of, PlainNetlist, plain_netlist, plain_wanted, given_formulas, HasNoSignalLoop, HasNoSignalPath, IsSound, known_of, given, view_contribution, Link, cells_from, gathered_from, netlist_of, inside, AreLinks, AreIdsIn, IsPlaced, IsAccepted, IsSignalOf, AreToNames, UnrefusedIsTakeable, IsDesignFor, HasSoundSignals, IsSignalRefused, HasNoRefusal, IsDesignRefused, AllLeadNowhere, AreSignals, IsLinkedDesign, IsChainTold}
-use Rattle.abel_meaning.specs.SoundIds.{no_pair, pair_of_pin, pair_of_cell, IsSoundNetlist}
+use Rattle.abel_meaning.specs.SoundIds.{no_pair, pair_of_pin, pair_of_cell}
+use Rattle.design.specs.Answers.{IsGathered}
 use Rattle.bit_expr.specs.declared.netlist.Netlist.{Netlist}
 use Rattle.abel_tree.specs.declared.names.Names.{Names}
 use Rattle.abel_tree.specs.declared.sections.Module.{Module}
@@ -18,12 +19,6 @@ use Rattle.design.proofs.CellResets.{none_leads, first_leads}
 use Rattle.design.proofs.LinkSizes.{are_signals}
 use Rattle.design.proofs.Unlisted.{had, unrefused}
 use Rattle.netlist_laws.specs.GatheredCorrect.{GatheredIsSound, GatheredMeansTheSame}
-
-pub record IsAnswer (t : Table) (m : ModuleTree) (fs : List Formula) (cs : List Contribution) (net : Netlist) : Type 0 where
-  pub unrefused : HasNoRefusal (design_of t m) fs cs
-  pub netlist : plain_netlist net ≡ netlist_of t m
-  pub sound : IsSoundNetlist t net
-  pub same : MeansTheSame t m (plain_netlist net)
 
 module _ (t : Table) (laws : IsDevice t) (source : Module) (n : Names) (found : Contributions) (names : entries_of n ≡ names_of t (view_module source))
     (accepted : IsAccepted (design_of t (view_module source))) (gives : given found ≡ given_formulas (design_of t (view_module source))) where
@@ -99,7 +94,7 @@ module _ (t : Table) (laws : IsDevice t) (source : Module) (n : Names) (found : 
       -- all that is said of the netlist, where there are no chains
       pub answered : HasNoSignalLoop d → AllLeadNowhere (arena net.exprs) ns ls net.cells → UnrefusedIsTakeable → GatheredIsSound → GatheredMeansTheSame → AreIdsIn net
           → ((p : ℕ) → p < 25 → get_or net.pair_of_pin p no_pair ≡ pair_of_pin t p) → ((c : ℕ) → c < 25 → get_or net.pair_of_cell c no_pair ≡ pair_of_cell t c)
-          → IsAnswer t (view_module source) (arena found.exprs) found.list net
+          → IsGathered t (view_module source) (arena found.exprs) found.list net
       answered no_loop nowhere takeable is_sound means_the_same ids pins registers =
           let none : HasNoRefusal d (arena found.exprs) found.list = record { signals = sound; no_loop = no_loop; no_path = no_paths nowhere } in
           let take = takeable d (arena found.exprs) found.list laws accepted gives (unrefused d (arena found.exprs) found.list none) in
@@ -114,4 +109,5 @@ module _ (t : Table) (laws : IsDevice t) (source : Module) (n : Names) (found : 
               sound = subst (IsSound t) (sym netlist_is) (is_sound t (view_module source) laws take);
             };
             same = subst (MeansTheSame t (view_module source)) (sym netlist_is) (means_the_same t (view_module source) laws take.registers);
+            places = placed;
           }

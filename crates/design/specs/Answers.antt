@@ -1,8 +1,12 @@
 -- When a design is refused, and for what (this project's rule).
-use Rattle.std.specs.Prelude.{◌≡◌, ℕ, Bool, true, Some, List, get_or}
-use Rattle.design.specs.Prelude.{Place, Formula, is_before, place_order, Design, name_at, IsSignalLoop, HasNoSignalLoop, IsSignalPath, HasNoSignalPath, Contribution, DesignFault}
+use Rattle.std.specs.Prelude.{◌≡◌, ℕ, Bool, true, All, Some, List, get_or}
+use Rattle.design.specs.Prelude.{Place, Formula, IsSoundNetlist, ModuleTree, Table, design_of, is_before, place_order, plain_netlist, Design, name_at, IsSignalLoop, HasNoSignalLoop, IsSignalPath, HasNoSignalPath, Contribution, DesignFault}
 use Rattle.abel_tree.specs.declared.words.Extension.TheVariants as extension
+use Rattle.bit_expr.specs.declared.netlist.Netlist.{Netlist}
 use Rattle.gathering.specs.Amounts.{first_target, target_place}
+use Rattle.gathering.specs.Placed.{IsPlaced}
+use Rattle.netlist_laws.specs.FittedCorrect.{MeansTheSame}
+use Rattle.netlist_laws.specs.Gathered.{netlist_of}
 use Rattle.design_checks.specs.declared.fault.DesignFault.TheVariants as fault
 use Rattle.design_checks.specs.Verdict.{HasSoundSignals, IsSignalRefused}
 
@@ -11,6 +15,15 @@ pub record HasNoRefusal (d : Design) (fs : List Formula) (cs : List Contribution
   pub signals : HasSoundSignals d fs cs
   pub no_loop : HasNoSignalLoop d
   pub no_path : (s : ℕ) → HasNoSignalPath d s
+
+-- the netlist of a module of which nothing is refused, to whose targets this is contributed: it has its parts in their ranges,
+-- does what the module does, and each cell stands at the first target of its signal
+pub record IsGathered (t : Table) (m : ModuleTree) (fs : List Formula) (cs : List Contribution) (net : Netlist) : Type 0 where
+  pub unrefused : HasNoRefusal (design_of t m) fs cs
+  pub netlist : plain_netlist net ≡ netlist_of t m
+  pub sound : IsSoundNetlist t net
+  pub same : MeansTheSame t m (plain_netlist net)
+  pub places : All (IsPlaced cs) net.cells
 
 -- ---- chains
 

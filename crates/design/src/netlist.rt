@@ -1,13 +1,10 @@
 //! The netlist of a module, or the first refusal of its design.
 
-ghost use Rattle.std.specs.Prelude.{◌≡◌, All, IfOk, IfErr, length};
-ghost use Rattle.design.specs.Prelude.{arena, entries_of, design_of, names_of, plain_netlist, given_formulas, IsSoundNetlist, given};
-ghost use Rattle.netlist_laws.specs.FittedCorrect.{MeansTheSame};
-ghost use Rattle.netlist_laws.specs.Gathered.{netlist_of};
+ghost use Rattle.std.specs.Prelude.{◌≡◌, IfOk, IfErr, length};
+ghost use Rattle.design.specs.Prelude.{arena, entries_of, design_of, names_of, given_formulas, given};
 ghost use Rattle.abel_tree.specs.View.{view_module};
 ghost use Rattle.gathering.specs.Parts.{AllLieIn};
-ghost use Rattle.gathering.specs.Placed.{IsPlaced};
-ghost use Rattle.design.specs.{IsAccepted, HasNoRefusal, IsDesignRefused};
+ghost use Rattle.design.specs.{IsAccepted, IsDesignRefused, IsGathered};
 
 use crate::chains::check_chains;
 use crate::laws::unrefused_is_takeable;
@@ -36,16 +33,7 @@ pub fn gather<D: Device>(
     requires accepted { IsAccepted (design_of D.table (view_module source.now)) }
     requires gives { given found ≡ given_formulas (design_of D.table (view_module source.now)) }
     requires inside { AllLieIn (length (arena found.exprs)) found.list }
-    ensures unrefused { IfOk result (λ _.
-        HasNoRefusal (design_of D.table (view_module source.now)) (arena found.exprs) found.list) }
-    ensures netlist { IfOk result (λ net.
-        plain_netlist net ≡ netlist_of D.table (view_module source.now)) }
-
-    // what `fit` demands
-    ensures sound { IfOk result (λ net. IsSoundNetlist D.table net) }
-    ensures same { IfOk result (λ net.
-        MeansTheSame D.table (view_module source.now) (plain_netlist net)) }
-    ensures places { IfOk result (λ net. All (IsPlaced found.list) net.cells) }
+    ensures gathered { IfOk result (IsGathered D.table (view_module source.now) (arena found.exprs) found.list) }
 
     // only want of memory comes before a refusal
     ensures refused { IfErr result (λ f. IsDesignRefused

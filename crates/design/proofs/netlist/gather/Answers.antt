@@ -51,4 +51,4 @@ returns g c =
     c.in_ok-net.field-0 c.as_slice.result.now c.as_slice-2.result.now c.in_ok-net.ensures.netlist c.in_ok-net.ensures.links (cc) (cc)))
     c.in_ok-check_chains.ensures.no_path c.unrefused_is_takeable.ensures c.netlist_is_sound.ensures c.netlist_means_the_same.ensures c.in_ok-net.ensures.ids c.in_ok-net.ensures.pins c.in_ok-net.ensures.registers
     in
-    record { unrefused = is.unrefused; netlist = is.netlist; sound = is.sound; same = is.same; places = c.in_ok-net.ensures.places; refused = tt }
+    record { gathered = is; refused = tt }
