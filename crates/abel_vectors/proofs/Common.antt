@@ -19,6 +19,7 @@ pub use Rattle.pld_base.specs.declared.place.Place.{Place}
 pub use Rattle.pld_base.specs.declared.point.Vector.{Vector}
 pub use Rattle.pld_device.specs.Table.{Table}
 pub use Rattle.set_expr.specs.Contexts.{context_for}
+pub use Rattle.set_expr.specs.FoundNames.{expression_found}
 pub use Rattle.set_expr.specs.SectionOrder.{section_order}
 pub use Rattle.set_expr.specs.declared.fault.SectionFault.{SectionFault}
 pub use Rattle.set_expr.specs.declared.fault.SectionFault.TheVariants.{BadVector, MisplacedSpecial, OutOfMemory}
@@ -28,6 +29,7 @@ pub use Rattle.source_sections.specs.Reading.{view_sections}
 pub use Rattle.source_sections.specs.SectionAnswers.{AnswersSections, IsTold, sections_refused}
 pub use Rattle.truth_tables.specs.EntryMarks.{view_mark}
 pub use Rattle.truth_tables.specs.EntryTerms.{IsOver}
+pub use Rattle.truth_tables.specs.RowEntries.{entry_refused, unless_met}
 pub use Rattle.abel_vectors.specs.{AnswersVectors, Finds, FindsRows, FindsSection, IsAnswer, IsFound, IsReadAs, IsRowRead, IsRowVector, NamesPins, NothingFound}
 pub use Rattle.abel_vectors.specs.{all_given, all_read, all_vectors_refused, char_for, chars_for, chars_read, disagree, entries_refused, fault_in, found_at}
 pub use Rattle.abel_vectors.specs.{header_refused, header_term, if_none, is_pin_or_unknown, marks_refused, names_pins, one_too_many, pin_of, position_gives}

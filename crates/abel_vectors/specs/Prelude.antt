@@ -15,6 +15,7 @@ pub use Rattle.pld_base.specs.declared.place.Place.{Place}
 pub use Rattle.pld_base.specs.declared.point.Vector.{Vector}
 pub use Rattle.pld_device.specs.Table.{Table}
 pub use Rattle.set_expr.specs.Contexts.{context_for}
+pub use Rattle.set_expr.specs.FoundNames.{expression_found}
 pub use Rattle.set_expr.specs.SectionOrder.{section_order}
 pub use Rattle.set_expr.specs.declared.fault.SectionFault.{SectionFault}
 pub use Rattle.source_sections.specs.SectionAnswers.{AreContributed, IsTold, sections_refused}

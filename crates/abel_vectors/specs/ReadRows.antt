@@ -1,7 +1,6 @@
 -- Private: what is found of rows and of a header.
 use Rattle.std.specs.Prelude.{◌≡◌, ℕ, ◌||◌, true, false, Option, None, Some, List, map, Result}
-use Rattle.abel_vectors.specs.Prelude.{range_with_len, Vector, chars_of, RowTree, SectionTree, SomeVectors, view, view_vector_row, Context, targets_of, Term, term_of, char_or_plain, row_chars, SectionFault, first_refusal, section_order}
-use Rattle.set_expr.specs.FoundNames.{expression_found}
+use Rattle.abel_vectors.specs.Prelude.{range_with_len, Vector, chars_of, RowTree, SectionTree, SomeVectors, view, view_vector_row, Context, targets_of, Term, term_of, char_or_plain, row_chars, SectionFault, first_refusal, section_order, expression_found}
 use Rattle.truth_tables.specs.declared.mark.Mark as code
 use Rattle.abel_tree.specs.declared.expressions.Expr.{Expr}
 use Rattle.abel_tree.specs.declared.tables.Vectors.{Vectors}

@@ -1,8 +1,7 @@
 -- What is refused of test vectors (ABEL-HDL Reference Manual, test vectors; JESD3-C, test vector field; one character for
 -- each pin, and the limit, are this project's rules).
 use Rattle.std.specs.Prelude.{ℕ, suc, ◌==◌, nat_lt, Bool, true, false, not, ◌&&◌, ◌||◌, Option, None, Some, List, [], ◌∷◌, ◌++◌, get_or, filter_map, option_map, zip, if◌then◌else◌}
-use Rattle.abel_vectors.specs.Prelude.{list_all, list_any, Place, Entry, Kind, APin, ANode, AConstant, ADeviceName, Tree, RowTree, SectionTree, SomeVectors, Context, no_name, Mark, Pulsed, marks_of, targets_of, Term, term_of, input_char, output_char, SectionFault, unless_met, entry_refused}
-use Rattle.set_expr.specs.FoundNames.{expression_found}
+use Rattle.abel_vectors.specs.Prelude.{list_all, list_any, Place, Entry, Kind, APin, ANode, AConstant, ADeviceName, Tree, RowTree, SectionTree, SomeVectors, Context, no_name, Mark, Pulsed, marks_of, targets_of, Term, term_of, input_char, output_char, SectionFault, unless_met, entry_refused, expression_found}
 use Rattle.set_expr.specs.declared.fault.SectionFault.TheVariants.{BadVector}
 use Rattle.std.specs.Option.{is_none, is_some}
 use Rattle.truth_tables.specs.HeaderSignals.{names_positions}

@@ -96,5 +96,5 @@ pub use Rattle.state_diagrams.specs.DiagramUnits.{units_of_branch, units_of_bran
 pub use Rattle.state_diagrams.specs.StateValues.{if_none, listed_after}
 pub use Rattle.design.specs.{AllLeadNowhere, AnyPlace, AreSignals, AssignedAreOnCells, AssignedHaveData, FreeMayChoose, HasBareHeader, HasNoRefusal}
 pub use Rattle.design.specs.{HasSoundDeclarations, HasSoundSections, HaveBareHeaders, IsAccepted, IsChainTold, IsDesignRefused, IsFirstFound, IsFirstOf}
-pub use Rattle.design.specs.{IsFirstPath, IsFoundOf, IsLinkedDesign, IsPathOf, IsResetAt, IsResetOf, IsUnrefused, LeadsNowhereAt, NamesAreAccepted}
+pub use Rattle.design.specs.{IsFirstPath, IsFoundOf, IsGathered, IsLinkedDesign, IsPathOf, IsResetAt, IsResetOf, IsUnrefused, LeadsNowhereAt, NamesAreAccepted}
 pub use Rattle.design.specs.{UnrefusedIsTakeable, all_bare_signals, bare_signals, is_sooner, path_order}

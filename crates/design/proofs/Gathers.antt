@@ -1,8 +1,7 @@
 -- The netlist of a module, once its signals are checked.
 use Rattle.std.proofs.Common.{◌≡◌, ℕ, ◌<◌, List, [], ◌∷◌, map, length, get_or, refl, sym, ap, subst, ◌∙◌, All}
-use Rattle.design.proofs.Common.{true≢false, All-cons, All-nil, IsDevice, Table, arena, Formula, entries_of, is_signal, ModuleTree, view_module, Context, Design, design_of, names_of, PlainNetlist, plain_netlist, plain_wanted, given_formulas, HasNoSignalLoop, HasNoSignalPath, IsSound, known_of, given, view_contribution, Link, cells_from, gathered_from, netlist_of, inside, AreLinks, AreIdsIn, IsPlaced, IsAccepted, IsSignalOf, AreToNames, UnrefusedIsTakeable, IsDesignFor, HasSoundSignals, IsSignalRefused, HasNoRefusal, IsDesignRefused, AllLeadNowhere, AreSignals, IsLinkedDesign, IsChainTold}
+use Rattle.design.proofs.Common.{true≢false, All-cons, All-nil, IsDevice, Table, arena, Formula, entries_of, is_signal, ModuleTree, view_module, Context, Design, design_of, names_of, PlainNetlist, plain_netlist, plain_wanted, given_formulas, HasNoSignalLoop, HasNoSignalPath, IsSound, known_of, given, view_contribution, Link, cells_from, gathered_from, netlist_of, inside, AreLinks, AreIdsIn, IsPlaced, IsAccepted, IsSignalOf, AreToNames, UnrefusedIsTakeable, IsDesignFor, HasSoundSignals, IsSignalRefused, HasNoRefusal, IsDesignRefused, AllLeadNowhere, AreSignals, IsLinkedDesign, IsChainTold, IsGathered}
 use Rattle.abel_meaning.specs.SoundIds.{no_pair, pair_of_pin, pair_of_cell}
-use Rattle.design.specs.Answers.{IsGathered}
 use Rattle.bit_expr.specs.declared.netlist.Netlist.{Netlist}
 use Rattle.abel_tree.specs.declared.names.Names.{Names}
 use Rattle.abel_tree.specs.declared.sections.Module.{Module}

@@ -1,13 +1,12 @@
 -- Steps come to what their terms come to, and work to terms: one more member, and work to be done first.
 use Rattle.std.proofs.Common.{◌≡◌, Option, None, Some, List, ◌∷◌, refl, arith, ℕ, false, Bool, [], ◌++◌, if◌then◌else◌, Result, IfOk, bytes_eq, codes, sym, ap, ap₂, ◌∙◌, subst}
-use Rattle.expr_bits.proofs.Common.{Binary, Extension, Unary, Context, Term, Terms, extended, extended_each, extended_if, Part, Task, Push, Do, after_task, after_all, IfOk-weaker, Vec, Made, ◌>>=◌, Entry, Known, named_before, special_term, term_named, Work, ComesTo, Precedes, task_of, tasks_of, term_part, pushed}
+use Rattle.expr_bits.proofs.Common.{Binary, Extension, Unary, Context, Term, Terms, extended, extended_each, extended_if, Part, Task, Push, Do, after_task, after_all, IfOk-weaker, Vec, Made, ◌>>=◌, Entry, Known, named_before, special_term, term_named, Work, ComesTo, Precedes, task_of, tasks_of, term_part, pushed, OutOfMemory}
 use Rattle.abel_meaning.specs.Terms as term
 use Rattle.expr_bits.proofs.Making.{made_is}
 use Rattle.expr_bits.specs.declared.work.Step.TheVariants as step
 use Rattle.expr_bits.specs.declared.work.Work.TheVariants as work
 use Rattle.expr_bits.proofs.Extensions.{both_extended, under_extended}
 use Rattle.expr_bits.proofs.Turns.{tasks_last}
-use Rattle.pld_base.specs.declared.out_of_memory.OutOfMemory.{OutOfMemory}
 
 -- ---- operators
 

@@ -2,7 +2,7 @@
 pub use Rattle.std.proofs.Math.Bool.{or-false, or_assoc}
 pub use Rattle.std.proofs.Math.Seq.{take-length}
 pub use Rattle.std.proofs.lemmas.Bool.{ltb-false, ltb-true}
-pub use Rattle.std.proofs.lemmas.Bool.Decides.{nat_tests}
+pub use Rattle.std.proofs.lemmas.Bool.Decides.{eqb_tells, nat_tests}
 pub use Rattle.std.proofs.lemmas.List.{length-map, length-replicate, length-reverse, map-append, nil_from_length, reverse-append, take_all, take_more}
 pub use Rattle.std.proofs.lemmas.Option.{get_or_from_slice_get, slice_get-get_or, slice_get-map, slice_get_past, slice_get_within}
 pub use Rattle.std.proofs.lemmas.Result.{IfOk-weaker, err_from_is_err_and}
@@ -24,6 +24,7 @@ pub use Rattle.abel_tree.specs.Ranges.{range_names}
 pub use Rattle.abel_tree.specs.Tree.{ABinary, AName, ANumber, AParen, ASet, ASpecial, AUnary, Members, MoreMembers, NoMember, OneMember, SetMember, SpanMember}
 pub use Rattle.abel_tree.specs.Tree.{Tree, members_of}
 pub use Rattle.abel_tree.specs.View.{view, view_member}
+pub use Rattle.abel_tree.specs.declared.names.Declared.{Declared}
 pub use Rattle.abel_tree.specs.declared.names.Names.{Names}
 pub use Rattle.abel_tree.specs.declared.words.Binary.{Binary}
 pub use Rattle.abel_tree.specs.declared.words.Extension.{Extension}
@@ -39,6 +40,7 @@ pub use Rattle.bit_expr.specs.declared.node.ExprId.{ExprId}
 pub use Rattle.bit_expr.specs.declared.node.Node.{Node}
 pub use Rattle.name_uses.specs.RangeParts.{name_items}
 pub use Rattle.name_uses.specs.Viewed.{view_use}
+pub use Rattle.pld_base.specs.declared.out_of_memory.OutOfMemory.{OutOfMemory}
 pub use Rattle.pld_base.specs.declared.place.Place.{Place}
 pub use Rattle.pld_device.specs.Table.{Table}
 pub use Rattle.set_expr.proofs.FoundMembers.{front_more, whole_front}
@@ -52,15 +54,15 @@ pub use Rattle.set_expr.specs.declared.shaped.Shaped.{Shaped}
 pub use Rattle.expr_bits.specs.{ALeaf, ASignal, AllIn, AreParts, AreRows, AreStacked, Asked, ComesTo, Do, Finds, HasForm, HasUnknown, IsBits, IsBlank, IsKept}
 pub use Rattle.expr_bits.specs.{IsKeptIf, IsMade, IsPart, IsReads, IsRow, Makes, MakesBits, MeetsAs, Part, Precedes, Push, ShowsAll, ShowsItems, ShowsOne}
 pub use Rattle.expr_bits.specs.{ShowsStack, ShowsTwo, Task, after_all, after_task, along, any_reads_leaf, as_set, below, bit_id, both_part, computed_part}
-pub use Rattle.expr_bits.specs.{computed_value, digit_ids, each_extended, here_term, inside, is_last, is_leaf, joined_part, kept_ids, leaf_under, left_by}
-pub use Rattle.expr_bits.specs.{list_of, made_by, named_answer, named_term, names_to, no_part, no_reads, number_part, or_and_of, place_of, places_of}
-pub use Rattle.expr_bits.specs.{positions_of, pushed, reads_at, reads_leaf, reads_of_row, reads_signal, related_part, relation_of, relation_step}
-pub use Rattle.expr_bits.specs.{relation_steps, resized_ids, set_by, shape_of, some_of_read, some_read, start_id, start_of, step_by, step_of, sum_step, task_of}
-pub use Rattle.expr_bits.specs.{tasks_of, term_part, told_by, top, under_of, under_part, upto_of, used_answer, width_of_two, with_value, word_at, word_in}
+pub use Rattle.expr_bits.specs.{computed_value, digit_ids, each_extended, entry_weight, found_weight, here_term, inside, is_last, is_leaf, joined_part}
+pub use Rattle.expr_bits.specs.{kept_ids, leaf_under, left_by, list_of, made_by, member_weight, members_weight, name_weight, named_answer, named_term}
+pub use Rattle.expr_bits.specs.{named_weight, names_to, no_part, no_reads, number_part, number_weight, or_and_of, place_of, places_of, positions_of, pushed}
+pub use Rattle.expr_bits.specs.{range_weight, reads_at, reads_leaf, reads_of_row, reads_signal, related_part, relation_of, relation_step, relation_steps}
+pub use Rattle.expr_bits.specs.{resized_ids, set_by, shape_of, some_of_read, some_read, stack_weight, start_id, start_of, step_by, step_of, sum_step, task_of}
+pub use Rattle.expr_bits.specs.{tasks_of, term_part, told_by, top, tree_weight, under_of, under_part, upto_of, used_answer, width_of_two, with_value, word_at}
+pub use Rattle.expr_bits.specs.{word_in, work_weight}
 pub use Rattle.expr_bits.specs.declared.forms.Bits.{Bits}
 pub use Rattle.expr_bits.specs.declared.forms.Form.{Form}
 pub use Rattle.expr_bits.specs.declared.reads.Reads.{Reads}
 pub use Rattle.expr_bits.specs.declared.steps.Step.{Step}
 pub use Rattle.expr_bits.specs.declared.work.Work.{Work}
-pub use Rattle.expr_bits.specs.{entry_weight, found_weight, kind_weight, member_weight, members_weight, name_weight, named_weight, number_weight, range_weight, stack_weight}
-pub use Rattle.expr_bits.specs.{tree_weight, work_weight}

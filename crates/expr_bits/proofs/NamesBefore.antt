@@ -1,7 +1,6 @@
 -- What a name stands for among the first names, by its place.
 use Rattle.std.proofs.Common.{◌≡◌, ℕ, zero, suc, ◌+◌, ◌<◌, ◌≤◌, Bool, true, false, Option, None, Some, List, [], ◌∷◌, ◌++◌, if◌then◌else◌, length, map, take, get_or, slice_get, option_map, cond, not, bytes_eq, ltb, min, refl, sym, ap, ◌∙◌, subst, arith}
-use Rattle.expr_bits.proofs.Common.{position_or_len, ltb-false, ltb-true, length-map, slice_get-get_or, slice_get-map, take-length, Names, Entry, entries_of, find, view_declared, Term, Known, term_named, term_meant, known_after, known_of, here_term}
-use Rattle.abel_tree.specs.declared.names.Declared.{Declared}
+use Rattle.expr_bits.proofs.Common.{position_or_len, ltb-false, ltb-true, length-map, slice_get-get_or, slice_get-map, take-length, Names, Entry, entries_of, find, view_declared, Term, Known, term_named, term_meant, known_after, known_of, here_term, Declared}
 use Rattle.abel_meaning.specs.Terms.{Number}
 
 -- what a name stands for among the first n of these entries, behind those that are known

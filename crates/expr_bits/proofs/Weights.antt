@@ -1,8 +1,6 @@
 -- The weights of stacks of work, of ranges and of names.
 use Rattle.std.proofs.Common.{◌≡◌, ◌<◌, ◌≤◌, ℕ, zero, suc, ◌+◌, Some, List, [], ◌∷◌, ◌++◌, Result, IfOk, inl, inr, sym, ap, ◌∙◌, arith}
-use Rattle.std.proofs.lemmas.Bool.Decides.{eqb_tells}
-use Rattle.expr_bits.proofs.Common.{IfOk-weaker, Vec, Entry, find, Work, found_weight, name_weight, named_weight, number_weight, range_weight, stack_weight, work_weight}
-use Rattle.pld_base.specs.declared.out_of_memory.OutOfMemory.{OutOfMemory}
+use Rattle.expr_bits.proofs.Common.{eqb_tells, IfOk-weaker, Vec, Entry, find, Work, found_weight, name_weight, named_weight, number_weight, range_weight, stack_weight, work_weight, OutOfMemory}
 
 -- ---- stacks
 

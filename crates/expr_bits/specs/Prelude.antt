@@ -11,8 +11,10 @@ pub use Rattle.abel_meaning.specs.Terms.{Before, Known, NoTerm, Read, Term, Term
 pub use Rattle.abel_meaning.specs.Terms.{term_named, term_of, terms_of}
 pub use Rattle.abel_meaning.specs.Values.{binary_by, binary_value, constant_of, is_relation, joined_value, no_position, operator_value, plain_value}
 pub use Rattle.abel_meaning.specs.Values.{unary_value}
-pub use Rattle.abel_tree.specs.Entries.{Entry, entries_of, is_stored, view_declared, view_meaning}
+pub use Rattle.abel_tree.specs.Entries.{AConstant, Entry, Kind, entries_of, find, is_stored, view_declared, view_meaning}
 pub use Rattle.abel_tree.specs.Extensions.{innermost}
+pub use Rattle.abel_tree.specs.Ranges.{range_names}
+pub use Rattle.abel_tree.specs.Tree.{ABinary, AName, ANumber, AParen, ASet, ASpecial, AUnary, Members, MoreMembers, NoMember, OneMember, SetMember, SpanMember}
 pub use Rattle.abel_tree.specs.Tree.{Tree, members_of}
 pub use Rattle.abel_tree.specs.View.{view, view_member}
 pub use Rattle.abel_tree.specs.declared.words.Binary.{Binary}

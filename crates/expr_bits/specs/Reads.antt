@@ -1,10 +1,9 @@
 -- What values read: a signal at all, and a leaf under an extension at the signals that have none (ABEL-HDL Reference
 -- Manual, constants and extensions; that only leaves make nodes is this project's rule).
 use Rattle.std.specs.Prelude.{◌≡◌, ℕ, Bool, true, false, ◌||◌, Option, None, Some, List, [], ◌∷◌}
-use Rattle.expr_bits.specs.Prelude.{list_any, Extension, innermost, Context, Source, Zero, Held, source_of, Term, Terms, Known, term_named}
+use Rattle.expr_bits.specs.Prelude.{list_any, Extension, innermost, Context, Source, Zero, Held, source_of, Term, Terms, Known, term_named, range_names}
 use Rattle.abel_tree.specs.declared.words.Extension.TheVariants as extension
 use Rattle.abel_tree.specs.declared.words.Word.{Word}
-use Rattle.abel_tree.specs.Ranges.{range_names}
 use Rattle.abel_meaning.specs.Terms as term
 use Rattle.name_uses.specs.NamesUsed.{UsedName}
 use Rattle.expr_bits.specs.declared.reads.Reads.{Reads}

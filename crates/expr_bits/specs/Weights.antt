@@ -1,9 +1,6 @@
 -- Private: work has a weight, which falls at each turn of the walk (this project's rule).
 use Rattle.std.specs.Prelude.{ℕ, zero, suc, ◌+◌, ◌==◌, Option, None, Some, List, [], ◌∷◌, if◌then◌else◌, map, slice_get}
-use Rattle.abel_tree.specs.Entries.{AConstant, Kind, find}
-use Rattle.abel_tree.specs.Ranges.{range_names}
-use Rattle.abel_tree.specs.Tree.{ABinary, AName, ANumber, AParen, ASet, ASpecial, AUnary, Members, MoreMembers, NoMember, OneMember, SetMember, SpanMember}
-use Rattle.expr_bits.specs.Prelude.{Entry, Tree, members_of, view, view_member}
+use Rattle.expr_bits.specs.Prelude.{AConstant, Kind, find, range_names, ABinary, AName, ANumber, AParen, ASet, ASpecial, AUnary, Members, MoreMembers, NoMember, OneMember, SetMember, SpanMember, Entry, Tree, members_of, view, view_member}
 use Rattle.expr_bits.specs.declared.work.Work.{Work}
 use Rattle.expr_bits.specs.declared.work.Work.TheVariants as work
 

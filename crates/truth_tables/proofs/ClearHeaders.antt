@@ -1,16 +1,10 @@
 -- Of an output header in which nothing is refused nothing is refused as of an expression: it has signals and X alone, and at
 -- most 32 positions.
 use Rattle.std.proofs.Common.{◌≡◌, ℕ, ◌+◌, Bool, true, false, Option, None, Some, List, [], ◌∷◌, ◌++◌, if◌then◌else◌, length, bytes_eq, codes, refl, sym, ap, ap₂, ◌∙◌, subst, arith}
-use Rattle.truth_tables.proofs.Common.{length-append, option_map, Place, find, range_names, Tree, ASpecial, AName, ASet, AParen, OneMember, SpanMember, Members, NoMember, MoreMembers, Names, IsOver, Context, Value, member_width, width_of, targets_of, all_targets, Term, Terms, term_named, constant_of, SectionFault, MisplacedSpecial, NotAnOutput, Found, found_use, name_found, names_found, expression_found, too_wide, left_empty, right_empty, names_positions, all_name_positions, is_number, header_of, refused_header, outputs_at, named_outputs, header_name, header_range, header_special, output_header, output_members}
-use Rattle.std.proofs.lemmas.List.{length-map}
-use Rattle.abel_tree.specs.declared.words.Word.{Word}
+use Rattle.truth_tables.proofs.Common.{length-append, option_map, Place, find, range_names, Tree, ASpecial, AName, ASet, AParen, OneMember, SpanMember, Members, NoMember, MoreMembers, Names, IsOver, Context, Value, member_width, width_of, targets_of, all_targets, Term, Terms, term_named, constant_of, SectionFault, MisplacedSpecial, NotAnOutput, Found, found_use, name_found, names_found, expression_found, too_wide, left_empty, right_empty, names_positions, all_name_positions, is_number, header_of, refused_header, outputs_at, named_outputs, header_name, header_range, header_special, output_header, output_members, length-map, Word, set_value, nowhere, HasKind, both_empty, all_found, found_of, found_special, range_found, refused_there, one_position, found_set, members_refused, members_width, members_specials, members_value, large_member, large_number, width_with, value_or_none}
 use Rattle.abel_meaning.specs.Numbers as number
 use Rattle.abel_meaning.specs.Terms as term
-use Rattle.abel_meaning.specs.Values.{set_value, nowhere}
-use Rattle.expr_bits.proofs.Linked.{HasKind}
-use Rattle.section_targets.proofs.Built.{both_empty}
-use Rattle.set_expr.specs.FoundNames.{all_found, found_of, found_special, range_found, refused_there, one_position}
-use Rattle.set_expr.specs.Refusals.{found_set, unless_refused, members_refused, members_width, members_specials, members_value, large_member, large_number, width_with, value_or_none}
+use Rattle.set_expr.specs.Refusals.{unless_refused}
 use Rattle.truth_tables.proofs.NamesInOrder.{left_true, right_true}
 use Rattle.truth_tables.proofs.PartLaws.{IsValued, over_valued}
 

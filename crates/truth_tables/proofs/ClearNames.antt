@@ -1,15 +1,9 @@
 -- Where nothing is refused of an expression or inside an entry, nothing is of what its names and members stand for, so that
 -- their shapes may be asked.
 use Rattle.std.proofs.Common.{◌≡◌, ℕ, zero, suc, ◌<◌, Bool, true, false, Some, List, [], ◌∷◌, ◌++◌, if◌then◌else◌, take, get_or, bytes_eq, unwrap_or, refl, sym, ap, ◌∙◌, subst, arith, length, map}
-use Rattle.truth_tables.proofs.Common.{slice_get-get_or, Entry, Kind, AConstant, find, range_names, Tree, ANumber, ASpecial, AName, ASet, AParen, AUnary, ABinary, SetMember, OneMember, SpanMember, Members, NoMember, MoreMembers, Place, SectionFault, MisplacedSpecial, NameFound, Found, found_use, name_found, names_found, left_empty, right_empty, too_wide, refused_inside, all_refused_inside, member_refused_inside, names_refused, holds_pulse, is_plain, Part, IsOfKind, view, view_member, members_of, Member, Vec, name_items}
-use Rattle.std.proofs.lemmas.List.Quantifiers.{position-Some}
-use Rattle.set_expr.specs.FoundNames.{all_found, found_entry, found_kind, found_constant, found_of, range_found, named, nothing_found, is_pulse, refused_there, at_name}
-use Rattle.set_expr.specs.Refusals.{unless_refused, members_refused, members_width, members_specials, members_value, large_member}
-use Rattle.set_expr.specs.Scopes.{NamesEarlier, AreInOrder}
-use Rattle.abel_meaning.specs.Numbers.{Value}
-use Rattle.truth_tables.specs.ClearParts.{IsUnrefused, IsClearName, AreClearNames, IsClear, AreClear, IsClearMember, IsClearPart, AreClearParts, IsClearStand}
+use Rattle.truth_tables.proofs.Common.{slice_get-get_or, Entry, Kind, AConstant, find, range_names, Tree, ANumber, ASpecial, AName, ASet, AParen, AUnary, ABinary, SetMember, OneMember, SpanMember, Members, NoMember, MoreMembers, Place, SectionFault, MisplacedSpecial, NameFound, Found, found_use, name_found, names_found, left_empty, right_empty, too_wide, refused_inside, all_refused_inside, member_refused_inside, names_refused, holds_pulse, is_plain, Part, IsOfKind, view, view_member, members_of, Member, Vec, name_items, position-Some, all_found, found_entry, found_kind, found_constant, found_of, range_found, named, nothing_found, is_pulse, refused_there, at_name, members_refused, members_width, members_specials, members_value, large_member, NamesEarlier, AreInOrder, Value, IsUnrefused, IsClearName, AreClearNames, IsClear, AreClear, IsClearMember, IsClearPart, AreClearParts, IsClearStand, Stand}
+use Rattle.set_expr.specs.Refusals.{unless_refused}
 use Rattle.truth_tables.specs.declared.part.Part.TheVariants as part
-use Rattle.truth_tables.specs.declared.part.Stand.{Stand}
 use Rattle.truth_tables.specs.declared.part.Stand.TheVariants as stand
 use Rattle.truth_tables.proofs.NamesKept.{kept_tree, named_at}
 

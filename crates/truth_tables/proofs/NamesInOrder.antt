@@ -1,16 +1,10 @@
 -- What names stand for where each constant names earlier names alone: the term of its expression over all names, by fewer
 -- steps than its own name takes.
 use Rattle.std.proofs.Common.{◌≡◌, ℕ, zero, suc, ◌+◌, ◌≤◌, Bool, true, false, ◌&&◌, Option, None, Some, List, [], ◌∷◌, if◌then◌else◌, take, get_or, slice_get, cond, bytes_eq, refl, sym, ap, ap₂, ◌∙◌, subst, arith, ◌*◌, ◌<◌, length, mul-le-mul_left}
-use Rattle.truth_tables.proofs.Common.{list_all, position_from, list_all-append, slice_get-get_or, take-length, Names, Entry, Kind, AConstant, find, kind_of, passes, is_value, names_any, entries_of, range_names, Tree, AName, ASet, AParen, AUnary, ABinary, OneMember, SpanMember, Members, NoMember, MoreMembers, Terms, Number, Before, UnaryOf, BinaryOf, Set, extended_if, term_named, named_before, term_of, terms_of, term_meant, known_of, up_to, names_left, signs_left, kind_signs, all_signs, steps_left, steps_up_to, LeadsBack, IsOfKind}
-use Rattle.std.proofs.lemmas.Iterator.Adapters.{position_from-zero}
-use Rattle.std.proofs.lemmas.List.Quantifiers.{position-Some}
+use Rattle.truth_tables.proofs.Common.{list_all, position_from, list_all-append, slice_get-get_or, take-length, Names, Entry, Kind, AConstant, find, kind_of, passes, is_value, names_any, entries_of, range_names, Tree, AName, ASet, AParen, AUnary, ABinary, OneMember, SpanMember, Members, NoMember, MoreMembers, Terms, Number, Before, UnaryOf, BinaryOf, Set, extended_if, term_named, named_before, term_of, terms_of, term_meant, known_of, up_to, names_left, signs_left, kind_signs, all_signs, steps_left, steps_up_to, LeadsBack, IsOfKind, position_from-zero, position-Some, SoundNames, IsSoundKind, is_named, are_named, uses, member_uses, NamesEarlier, AreInOrder, Stand}
 use Rattle.pld_base.specs.declared.device_name.DeviceName.{DeviceName}
-use Rattle.abel_tree.specs.SoundNames.{SoundNames, IsSoundKind, is_named, are_named}
-use Rattle.abel_tree.specs.Uses.{uses, member_uses}
-use Rattle.set_expr.specs.Scopes.{NamesEarlier, AreInOrder}
 use Rattle.expr_bits.specs.Stacks.{here_term}
 use Rattle.expr_bits.proofs.NamesBefore.{named_none, here_is, whole_is}
-use Rattle.truth_tables.specs.declared.part.Stand.{Stand}
 use Rattle.truth_tables.specs.declared.part.Stand.TheVariants as stand
 
 pub left_true : (a b : Bool) → (a && b) ≡ true → a ≡ true

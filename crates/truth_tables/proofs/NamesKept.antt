@@ -1,12 +1,7 @@
 -- What is found of an expression over the first names is what is found of it over all names, since the first keep what is
 -- known of them.
 use Rattle.std.proofs.Common.{◌≡◌, ℕ, zero, suc, ◌+◌, ◌≤◌, Bool, true, false, Option, None, Some, List, [], ◌∷◌, ◌++◌, if◌then◌else◌, take, get_or, cond, bytes_eq, unwrap_or, ◌&&◌, refl, sym, ap, ap₂, ◌∙◌, arith}
-use Rattle.truth_tables.proofs.Common.{list_all, position_from, list_all-append, Entry, find, kind_of, passes, is_value, names_any, range_names, Tree, AName, ASet, AParen, AUnary, ABinary, OneMember, SpanMember, Members, NoMember, MoreMembers, Place, NameFound, Found, found_use, name_found, names_found}
-use Rattle.std.proofs.lemmas.Iterator.Adapters.{position_from-zero}
-use Rattle.abel_tree.specs.SoundNames.{is_named, are_named}
-use Rattle.abel_tree.specs.Uses.{uses, member_uses}
-use Rattle.set_expr.specs.FoundNames.{all_found, found_after, found_entry, found_of, range_found, named, nothing_found}
-use Rattle.set_expr.specs.Refusals.{found_both, found_under, found_set}
+use Rattle.truth_tables.proofs.Common.{list_all, position_from, list_all-append, Entry, find, kind_of, passes, is_value, names_any, range_names, Tree, AName, ASet, AParen, AUnary, ABinary, OneMember, SpanMember, Members, NoMember, MoreMembers, Place, NameFound, Found, found_use, name_found, names_found, position_from-zero, is_named, are_named, uses, member_uses, all_found, found_after, found_entry, found_of, range_found, named, nothing_found, found_both, found_under, found_set}
 use Rattle.truth_tables.proofs.NamesInOrder.{left_true, right_true}
 
 -- ---- what is known of a name, by the entries behind those that are known

@@ -1,10 +1,9 @@
 -- Numbers, operators and specials, what was checked of a part as the value of its term, and how many parts terms have.
 use Rattle.std.proofs.Common.{◌≡◌, ℕ, Bool, true, false, Option, None, Some, List, [], ◌∷◌, if◌then◌else◌, bytes_eq, map, get_or, refl, sym, ap, ◌∙◌, subst, suc, ◌+◌, ◌<◌, ap₂, arith, codes}
-use Rattle.truth_tables.proofs.Common.{Expr, Names, Extension, entries_of, view_declared, Tree, view, Context, Value, member_width, part_width, Term, Terms, Set, term_of, extended_if, extended, special_term, constant_of, SectionFault, Shape, expression_found, HasShapeIf, Found, HasShape, IsOver, IsNumeral, IsOperator, IsSet, is_operand, Binary, sum_by, sum_by-cons, members_of, view_member, extended_each, terms_of, Part, list_of, each_extended, term_parts, terms_parts, part_parts, IsPart, all_extended, set_extended, list_extended}
+use Rattle.truth_tables.proofs.Common.{Expr, Names, Extension, entries_of, view_declared, Tree, view, Context, Value, member_width, part_width, Term, Terms, Set, term_of, extended_if, extended, special_term, constant_of, SectionFault, Shape, expression_found, HasShapeIf, Found, HasShape, IsOver, IsNumeral, IsOperator, IsSet, is_operand, Binary, sum_by, sum_by-cons, members_of, view_member, extended_each, terms_of, Part, list_of, each_extended, term_parts, terms_parts, part_parts, IsPart, all_extended, set_extended, list_extended, HasKind, IsLinkedIf, expression_linked}
 use Rattle.std.proofs.Math.ListN.{get_or-map}
 use Rattle.abel_tree.specs.declared.names.Declared.{Declared}
 use Rattle.set_expr.specs.declared.shaped.Shape.TheVariants as shape
-use Rattle.expr_bits.proofs.Linked.{HasKind, IsLinkedIf, expression_linked}
 use Rattle.expr_bits.proofs.Links.{SameKind, same_kind, extended_alike}
 use Rattle.abel_tree.specs.declared.words.Unary.{Unary}
 use Rattle.abel_meaning.specs.Terms as term

@@ -1,7 +1,6 @@
 -- An expression that is refused, something else, pins, and signals that are no pins.
 use Rattle.std.proofs.Common.{◌≡◌, List, ◌&&◌, sym, ap, ap₂, ◌∙◌, subst}
-use Rattle.abel_vectors.proofs.Common.{list_all, first_refusal, none_refused, view, Entry, Tree, targets_of, term_of, BadVector, section_order, is_pin_or_unknown, names_pins}
-use Rattle.set_expr.specs.FoundNames.{expression_found}
+use Rattle.abel_vectors.proofs.Common.{list_all, first_refusal, none_refused, view, Entry, Tree, targets_of, term_of, BadVector, section_order, is_pin_or_unknown, names_pins, expression_found}
 use Rattle.truth_tables.proofs.ReadLaws.{inside_first, none_met, none_unmet}
 use Rattle.set_expr.specs.KnownNames.{SumsUp}
 use Rattle.set_expr.specs.declared.checked.Checked.{Checked}

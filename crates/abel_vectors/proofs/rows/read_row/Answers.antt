@@ -1,7 +1,6 @@
 -- Marks, and an entry that is refused.
 use Rattle.std.proofs.Common.{Ok, Err, map, ap, refl, sym, subst, ◌∙◌}
-use Rattle.abel_vectors.proofs.Common.{view_vector_row, context_for, BadVector, view_mark, IsOver, entries_refused, header_term, marks_refused, IsRowRead}
-use Rattle.truth_tables.specs.RowEntries.{entry_refused}
+use Rattle.abel_vectors.proofs.Common.{view_vector_row, context_for, BadVector, view_mark, IsOver, entries_refused, header_term, marks_refused, IsRowRead, entry_refused}
 use Rattle.abel_vectors.proofs.FoundLaws.{both_read, first_alone}
 use Rattle.abel_vectors.proofs.RowLaws.{row_read}
 use Rattle.abel_vectors.proofs.rows.read_row.Goals as goal

@@ -1,10 +1,8 @@
 -- A header in which nothing is refused, and one that is refused.
 use Rattle.std.proofs.Common.{◌≡◌, Bool, List, [], ◌∷◌, Ok, Err, map, ap, refl, sym, ◌∙◌, subst}
-use Rattle.abel_vectors.proofs.Common.{on_ok_weaker, BadVector, SectionFault, names_pins, term_of, first_refusal, section_order, view, view_vector_row, section_vectors, context_for, IsOver, header_term, view_vectors, header_refused, rows_refused, side_refused, Finds}
+use Rattle.abel_vectors.proofs.Common.{on_ok_weaker, BadVector, SectionFault, names_pins, term_of, first_refusal, section_order, view, view_vector_row, section_vectors, context_for, IsOver, header_term, view_vectors, header_refused, rows_refused, side_refused, Finds, expression_found, unless_met}
 use Rattle.abel_vectors.proofs.FoundLaws.{behind_none, both_read, first_alone}
 use Rattle.section_targets.proofs.Built.{left_empty, right_empty}
-use Rattle.set_expr.specs.FoundNames.{expression_found}
-use Rattle.truth_tables.specs.RowEntries.{unless_met}
 use Rattle.abel_vectors.proofs.sections.read_section.Goals as goal
 
 -- of what is met nothing is refused

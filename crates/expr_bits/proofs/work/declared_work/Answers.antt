@@ -1,7 +1,6 @@
 -- What is declared under the number, or nothing.
 use Rattle.std.proofs.Common.{◌≡◌, ◌≤◌, ℕ, None, List, length, slice_get, sym, ap, subst, arith}
-use Rattle.expr_bits.proofs.Common.{ltb-false, slice_get_past, Names, entries_of, extended_if, ComesTo, entry_weight, here_term, name_weight}
-use Rattle.abel_tree.specs.declared.names.Declared.{Declared}
+use Rattle.expr_bits.proofs.Common.{ltb-false, slice_get_past, Names, entries_of, extended_if, ComesTo, entry_weight, here_term, name_weight, Declared}
 use Rattle.expr_bits.proofs.Coming.{zero_comes}
 use Rattle.expr_bits.proofs.NamesBefore.{entry_at, entries_long}
 use Rattle.expr_bits.proofs.work.declared_work.Goals as goal

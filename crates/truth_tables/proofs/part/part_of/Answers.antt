@@ -1,9 +1,7 @@
 -- Names, sets, specials and operators, under the extension that counts.
 use Rattle.std.proofs.Common.{refl, ◌≡◌, ℕ, Option, List, map, sym, ap, ap₂, ◌∙◌, subst}
-use Rattle.truth_tables.proofs.Common.{Expr, Member, Extension, members_of, view, view_member, Known, Term, Set, term_of, terms_of, term_named, extended_if, IsPart, view_name, view_set, view_binary, innermost_wins, entries_of, names_found, IsClear, IsClearName, IsUnrefused, AreClear}
-use Rattle.expr_bits.proofs.Views.{view_unary}
+use Rattle.truth_tables.proofs.Common.{Expr, Member, Extension, members_of, view, view_member, Known, Term, Set, term_of, terms_of, term_named, extended_if, IsPart, view_name, view_set, view_binary, innermost_wins, entries_of, names_found, IsClear, IsClearName, IsUnrefused, AreClear, view_unary, Word}
 use Rattle.abel_tree.specs.declared.expressions.Expr as expr
-use Rattle.abel_tree.specs.declared.words.Word.{Word}
 use Rattle.abel_tree.specs.Extensions.{innermost}
 use Rattle.truth_tables.proofs.part.part_of.Goals as goal
 

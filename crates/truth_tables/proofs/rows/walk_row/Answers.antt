@@ -1,10 +1,9 @@
 -- A row that is refused or stands behind what is, and one that is made.
 use Rattle.std.proofs.Common.{◌≡◌, None, ℕ, ◌+◌, [], ◌∷◌, sym, ap, ◌∙◌, subst, subst₂}
-use Rattle.truth_tables.proofs.Common.{on_ok_weaker, Names, arena, view, view_row, view_guard, part, standing, term_of, row_nodes, row_refused, row_work, Builds, Contributions, design_of, nodes_left, whole, Work, unit_clear, unit_made, unit_refused}
+use Rattle.truth_tables.proofs.Common.{on_ok_weaker, Names, arena, view, view_row, view_guard, part, standing, term_of, row_nodes, row_refused, row_work, Builds, Contributions, design_of, nodes_left, whole, Work, unit_clear, unit_made, unit_refused, refusal_of}
 use Rattle.truth_tables.proofs.RowWorks.{found_row}
 use Rattle.truth_tables.proofs.RowsWalked.{over_same}
 use Rattle.truth_tables.proofs.WorkLaws.{DoesWork}
-use Rattle.set_expr.specs.Answer.{refusal_of}
 use Rattle.truth_tables.proofs.rows.walk_row.Goals as goal
 
 pub read_row-requires : goal.read_row-requires
