@@ -1,0 +1,3 @@
+FROM --platform=linux/amd64 docker.io/library/debian:stable-slim
+COPY dist/abel dist/abel-page /usr/local/bin/
+WORKDIR /work
