@@ -1,7 +1,7 @@
 //! How long the token at the front is: the longest of the kinds.
 
-ghost use Rattle.std.specs.Prelude.{◌≡◌, ◌≤◌, ◌==◌, ◌&&◌, not, false, map, length, take};
-ghost use Rattle.std.specs.List.{prefix_len};
+ghost use Rattle.std.specs.Prelude.{◌≡◌, ◌≤◌, ◌==◌, ◌&&◌, ◌∷◌, [], ℕ, List, codes, nat_eq, not, false, length, take};
+ghost use Rattle.std.specs.List.{prefix_len, starts_with};
 ghost use Rattle.std.specs.Char.{is_ascii_digit, is_ascii_alphanumeric};
 ghost use Rattle.abel_lexer.specs.Bytes.{quote, backslash, is_blank, is_name_first, is_name_later, is_letter, is_radix_letter};
 ghost use Rattle.abel_lexer.specs.Kinds.{no_byte, word_head, number_head, marked_head, extension_head, letter_special, voltage_special, directives};
@@ -180,30 +180,48 @@ fn quoted_len(bytes: &[u8]) -> usize
     }
 }
 
-/// The signs, none behind a shorter one.
-const SIGNS: [&[u8]; 34] = [
-    b"?:=", b":=", b"?=", b"!$", b"<<", b">>", b"==", b"!=", b"<=", b">=", b"->", b":>", b"..",
-    b"(", b")", b"[", b"]", b"{", b"}", b",", b";", b":", b"=", b"!", b"&", b"#", b"$", b"+", b"-",
-    b"*", b"/", b"%", b"<", b">",
-];
-
-/// How long the first of these words that stands at the front is; 0 if none does.
-fn listed_len(words: &[&[u8]], bytes: &[u8]) -> usize
-    ensures { result ≡ spec.listed_len (map (λ w. w.now) words.now) bytes.now }
+/// How long the sign is that is one byte; 0 if it is none.
+fn short_sign_len(byte: u8) -> usize
+    ensures { result ≡ spec.listed_len signs (byte ∷ []) }
 {
-    for word in words {
-        if bytes.starts_with(word) {
-            return word.len();
-        }
+    match byte {
+        b'(' | b')' | b'[' | b']' | b'{' | b'}' | b',' | b';' | b':' | b'=' | b'!' | b'&' => 1,
+        b'#' | b'$' | b'+' | b'-' | b'*' | b'/' | b'%' | b'<' | b'>' => 1,
+        _ => 0,
     }
-    0
+}
+
+/// How long the sign at the front is, where two bytes begin the text; 0 if there is none.
+fn long_sign_len(first: u8, second: u8) -> usize
+    ensures { (rest : List ℕ) → starts_with nat_eq (first ∷ second ∷ rest) (codes "?:=") ≡ false → result ≡ spec.listed_len signs (first ∷ second ∷ rest) }
+{
+    match (first, second) {
+        (b':', b'=') => 2,
+        (b'?', b'=') => 2,
+        (b'!', b'$') => 2,
+        (b'<', b'<') => 2,
+        (b'>', b'>') => 2,
+        (b'=', b'=') => 2,
+        (b'!', b'=') => 2,
+        (b'<', b'=') => 2,
+        (b'>', b'=') => 2,
+        (b'-', b'>') => 2,
+        (b':', b'>') => 2,
+        (b'.', b'.') => 2,
+        _ => short_sign_len(first),
+    }
 }
 
 /// How long the sign at the front is; 0 if there is none.
 pub fn sign_len(bytes: &[u8]) -> usize
     ensures { result ≡ spec.listed_len signs bytes.now }
 {
-    listed_len(&SIGNS, bytes)
+    match bytes {
+        [] => 0,
+        [byte] => short_sign_len(*byte),
+        [b'?', b':', b'=', ..] => 3,
+        [first, second, ..] => long_sign_len(*first, *second),
+    }
 }
 
 /// The first six bytes, or all where there are fewer.
