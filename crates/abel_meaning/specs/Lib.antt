@@ -24,6 +24,7 @@ pub mod Numbers
 pub mod Prelude
 pub mod Rows
 pub mod Sections
+pub mod SignalPins
 pub mod SignalReads
 pub mod SoundIds
 pub mod Soundness

@@ -17,7 +17,8 @@ use Rattle.design_checks.specs.Refused.{wrong_kinds, no_controls, any_controls, 
 use Rattle.design_checks.specs.Verdict.{IsFirst}
 use Rattle.design_checks.specs.declared.rules.Rule.{Rule}
 use Rattle.design_checks.specs.declared.rules.Rule.TheVariants as rule
-use Rattle.design_checks.specs.SignalsRefused.{has_wrong_kind, lacks_control, is_any}
+use Rattle.design_checks.specs.SignalsRefused.{lacks_control, is_any}
+use Rattle.abel_meaning.specs.SignalPins.{has_wrong_kind}
 use Rattle.design_checks.specs.RefusedUses.{missing_uses}
 use Rattle.design_checks.specs.declared.refused.RefusedUse.{RefusedUse}
 use Rattle.design_checks.specs.UsesRefused.{told, told_if}

@@ -58,14 +58,15 @@ pub use Rattle.decls.specs.Buffers.{registers_wait, says_buffer}
 pub use Rattle.decls.specs.Devices.{first_string}
 pub use Rattle.decls.specs.FaultOrder.{name_order, place_of, rank_of}
 pub use Rattle.decls.specs.NameRefusals.{all_buffered, buffered, first_name_refusal, read_refusals, sections_refused}
-pub use Rattle.decls.specs.NamesBefore.{added, enter, first_entries, is_on_pin, is_taken, names_behind, words_named, words_of_names}
+pub use Rattle.decls.specs.NamesBefore.{added, enter, first_entries, names_behind, words_named, words_of_names}
+pub use Rattle.abel_meaning.specs.SignalPins.{is_on_pin, is_taken, is_signal_pin}
 pub use Rattle.decls.specs.Numbers.{number_if, numbered}
 pub use Rattle.decls.specs.PartUses.{name_step, part_step, parted_step, use_of, value_step}
 pub use Rattle.decls.specs.Passed.{Adds, AreAt, AreBehind, Follows, HasNumbers, MayLeave, Way, is_behind, items_behind, items_told, stands_before, wants_names}
 pub use Rattle.decls.specs.Passed.{way, words_behind}
 pub use Rattle.decls.specs.Pieces.{Tells, lower_words}
 pub use Rattle.decls.specs.Refused.{counts_differ, counts_refused, declaration_refused, declarations_refused, first_name, first_undeclared, given_count}
-pub use Rattle.decls.specs.Refused.{has_numbers, is_device, is_signal_pin, item_refused, items_refused, name_refused, names_refused, number_refused}
+pub use Rattle.decls.specs.Refused.{has_numbers, is_device, item_refused, items_refused, name_refused, names_refused, number_refused}
 pub use Rattle.decls.specs.Refused.{parts_refused, ranges_refused, refused_if, use_refused, uses_refused}
 pub use Rattle.decls.specs.Shown.{Shows, given_by, kept, kept_kind, said_before, view_given, view_known, view_said, wanted}
 pub use Rattle.decls.specs.Steps.{Progress, all_known, constant_entered, device_counted, device_entered, entered, entered_if, node_counted, node_entered}

@@ -1,6 +1,6 @@
 -- The names that stand before a declaration or a use (ABEL-HDL Reference Manual, declarations).
-use Rattle.std.specs.Prelude.{ℕ, ◌==◌, Bool, false, List, [], ◌∷◌, ◌++◌, if◌then◌else◌, is_some, fold, drop, length, bytes_eq}
-use Rattle.decls.specs.Prelude.{list_any, Kind, APin, Words, Entry, kind_of, Declaration, GivenName, declared}
+use Rattle.std.specs.Prelude.{ℕ, List, [], ◌∷◌, ◌++◌, is_some, fold, drop, length, bytes_eq, if◌then◌else◌}
+use Rattle.decls.specs.Prelude.{Words, Entry, kind_of, Declaration, GivenName, declared}
 
 -- the names behind these declarations; a name that is declared twice stands twice
 abbrev pub names_behind : List Declaration → List Entry
@@ -27,11 +27,3 @@ words_named (e ∷ es) name = if bytes_eq name e.name then e.words ∷ [] else w
 abbrev pub words_of_names : List Entry → List GivenName → List Words
 words_of_names es [] = []
 words_of_names es (x ∷ xs) = words_named es x.name ++ words_of_names es xs
-
--- some name has this pin
-abbrev pub is_on_pin : (pin : ℕ) → Kind → Bool
-is_on_pin n (APin pin negated) = pin == n
-is_on_pin n _ = false
-
-abbrev pub is_taken : List Entry → (pin : ℕ) → Bool
-is_taken es n = list_any (λ (e : Entry). is_on_pin n e.kind) es

@@ -1,11 +1,12 @@
 -- What is refused of declarations and uses, by the names before them (ABEL-HDL Reference Manual, declarations; which
 -- refusals there are, and their places, are this project's rules).
-use Rattle.std.specs.Prelude.{ℕ, zero, suc, ◌==◌, Bool, true, false, not, ◌&&◌, List, [], ◌∷◌, ◌++◌, if◌then◌else◌, is_some, nat_lt, nat_le, length}
+use Rattle.std.specs.Prelude.{ℕ, zero, suc, ◌==◌, Bool, true, false, not, ◌&&◌, List, [], ◌∷◌, ◌++◌, is_some, nat_le, length, if◌then◌else◌}
 use Rattle.decls.specs.Prelude.{list_any, Place, Table, Item, Word, Kind, APin, ANode, Entry, kind_of, is_signal, is_value, names_any, is_bad, item_names, ends_agree, names_between, count_numbers, numbers_of, Declaration, ADevice, SomePins, SomeNodes, SomeAttributes, SomeConstants, SomeOptions, DontCareFor, Use, OneName, Range, all_uses, given_names, no_words}
 use Rattle.abel_tree.specs.declared.words.Span.{Span}
 use Rattle.decls.specs.declared.fault.NameFault.{NameFault}
 use Rattle.decls.specs.declared.fault.NameFault.TheVariants as fault
-use Rattle.decls.specs.NamesBefore.{names_behind, added, words_of_names, is_taken}
+use Rattle.decls.specs.NamesBefore.{names_behind, added, words_of_names}
+use Rattle.abel_meaning.specs.SignalPins.{is_taken}
 use Rattle.decls.specs.Attributes.{strings_refused}
 
 abbrev pub refused_if : Bool → NameFault → List NameFault
@@ -37,10 +38,6 @@ uses_refused es [] = []
 uses_refused es (u ∷ us) = use_refused es u ++ uses_refused es us
 
 -- ---- names that are declared
-
--- a pin that a name may have: not 0, ground, the supply or above
-abbrev pub is_signal_pin : Table → ℕ → Bool
-is_signal_pin t n = not (n == 0) && not (n == t.ground_pin) && nat_lt n t.pins
 
 -- nodes are at most so many
 abbrev pub node_limit : ℕ

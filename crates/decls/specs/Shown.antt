@@ -7,7 +7,7 @@ use Rattle.decls.specs.declared.said.Said.{Said}
 use Rattle.decls.specs.declared.table.Known.{Known}
 use Rattle.decls.specs.declared.table.NameTable.{NameTable}
 use Rattle.decls.specs.FaultOrder.{name_order}
-use Rattle.decls.specs.Refused.{is_signal_pin}
+use Rattle.abel_meaning.specs.SignalPins.{is_signal_pin}
 use Rattle.decls.specs.Steps.{Progress}
 
 -- a signal is wanted, or else a signal or constant

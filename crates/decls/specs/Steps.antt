@@ -3,7 +3,7 @@ use Rattle.std.specs.Prelude.{ℕ, suc, ◌==◌, Bool, true, false, not, is_som
 use Rattle.decls.specs.Prelude.{list_any, Place, Table, Word, Kind, APin, ANode, AConstant, ADeviceName, Words, Entry, kind_of, is_value, names_any, ends_agree, names_between, Tree, Use, OneName, Range, GivenName, entry, no_words}
 use Rattle.decls.specs.declared.fault.NameFault.{NameFault}
 use Rattle.decls.specs.declared.fault.NameFault.TheVariants as fault
-use Rattle.decls.specs.Refused.{is_signal_pin}
+use Rattle.abel_meaning.specs.SignalPins.{is_signal_pin}
 
 -- the names, each as it is declared first; whether a device is; how many nodes were asked for, and which pins; the names
 -- that a string with `buffer` is for; and all that is refused so far

@@ -2,7 +2,7 @@
 
 ghost use Rattle.std.specs.Prelude.{◌≡◌, ◌==◌, OnOk, IfOk, Bool, List, Option, ℕ, if◌then◌else◌};
 ghost use Rattle.decls.specs.Prelude.{list_any, Table, Kind, view_meaning};
-ghost use Rattle.decls.specs.Refused.{is_signal_pin};
+ghost use Rattle.abel_meaning.specs.SignalPins.{is_signal_pin};
 ghost use Rattle.decls.specs.Shown.{Shows, kept_kind, kept_node, view_given, view_said};
 ghost use Rattle.decls.specs.Steps.{Progress, entered, node_counted, on_pin};
 ghost use Rattle.decls.specs.Walked.{node_step, pin_numbered};

@@ -49,8 +49,9 @@ pub use Rattle.compile_phases.specs.SourceRefusals.{HasDesign, IsNetlistOf}
 pub use Rattle.covers.specs.declared.cube.Cube.{Cube}
 pub use Rattle.decls.specs.NameRefusals.{all_buffered, always_inverts, buffered, buffers_refused, module_buffers_refused, name_refusals, names_once}
 pub use Rattle.decls.specs.NameRefusals.{read_refusals, sections_refused}
-pub use Rattle.decls.specs.NamesBefore.{added, is_on_pin, is_taken, names_behind}
-pub use Rattle.decls.specs.Refused.{declaration_refused, declarations_refused, given_count, is_signal_pin, name_refused, names_refused, parts_refused}
+pub use Rattle.decls.specs.NamesBefore.{added, names_behind}
+pub use Rattle.abel_meaning.specs.SignalPins.{is_on_pin, is_taken, is_signal_pin, has_wrong_kind, has_wrong_kind_by, has_wrong_kind_on, is_registered_node, is_wrong_cell, is_wrong_kind, carries_level, carries_q, has_read_path, reads_by}
+pub use Rattle.decls.specs.Refused.{declaration_refused, declarations_refused, given_count, name_refused, names_refused, parts_refused}
 pub use Rattle.decls.specs.Refused.{use_refused, uses_refused}
 pub use Rattle.decls.specs.declared.fault.NameFault.{NameFault}
 pub use Rattle.decompiled.proofs.Each.{each_always, each_append, each_at, each_filter, each_flat_map, each_in_range, each_map, each_member, each_weaker}
@@ -83,11 +84,11 @@ pub use Rattle.decompiled.specs.declared.pin_line.PinLine.{PinLine}
 pub use Rattle.decompiled.specs.declared.sum_line.SumLine.{SumLine}
 pub use Rattle.design_checks.specs.Compared.{cell_enables_so, enables_so, is_compared_of, says_always, says_so}
 pub use Rattle.design_checks.specs.Refused.{no_controls, other_levels, refuses, targets_refused}
-pub use Rattle.design_checks.specs.RefusedUses.{carries_level, carries_q, has_by, has_extension, has_read_path, is_missing, is_unread, missing_uses, reads_by}
+pub use Rattle.design_checks.specs.RefusedUses.{has_by, has_extension, is_missing, is_unread, missing_uses}
 pub use Rattle.design_checks.specs.RefusedUses.{unread_uses}
 pub use Rattle.design_checks.specs.SectionUses.{design_uses, is_by_pin, is_cell_by_pin, is_compared, part_uses}
-pub use Rattle.design_checks.specs.SignalsRefused.{has_wrong_kind, has_wrong_kind_by, has_wrong_kind_on, is_any, is_registered_node, is_wrong_cell}
-pub use Rattle.design_checks.specs.SignalsRefused.{is_wrong_kind, lacks_by, lacks_control, node_refused, pin_lacks, registered_nodes}
+pub use Rattle.design_checks.specs.SignalsRefused.{is_any}
+pub use Rattle.design_checks.specs.SignalsRefused.{lacks_by, lacks_control, node_refused, pin_lacks, registered_nodes}
 pub use Rattle.design_checks.specs.UsesRefused.{told, told_if}
 pub use Rattle.design_checks.specs.Written.{Written, aims_refused, is_written_at, narrow, statement_refused, statements_refused, unwritten, written_if}
 pub use Rattle.design_checks.specs.declared.refused.RefusedUse.{RefusedUse}

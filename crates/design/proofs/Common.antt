@@ -53,8 +53,9 @@ pub use Rattle.design_checks.specs.LocatedUses.{PlacedUse, located}
 pub use Rattle.design_checks.specs.Refused.{is_lacking, is_wrong_target, lacking_controls, other_levels, target_controls, targets_refused, wrong_kinds}
 pub use Rattle.design_checks.specs.RefusedUses.{is_missing, is_unread, missing_uses, unread_uses}
 pub use Rattle.design_checks.specs.SectionUses.{design_uses, is_by_pin, is_cell_by_pin, is_compared, is_compared_by, is_enabled_by_pin, part_uses}
-pub use Rattle.design_checks.specs.SignalsRefused.{AreToNames, has_wrong_kind, has_wrong_kind_by, has_wrong_kind_on, is_registered_by, is_registered_node}
-pub use Rattle.design_checks.specs.SignalsRefused.{is_wrong_cell, is_wrong_kind, lacks_by, lacks_control, node_refused, pin_lacks, registered_nodes}
+pub use Rattle.design_checks.specs.SignalsRefused.{AreToNames}
+pub use Rattle.abel_meaning.specs.SignalPins.{has_wrong_kind, has_wrong_kind_by, has_wrong_kind_on, is_registered_by, is_registered_node, is_wrong_cell, is_wrong_kind}
+pub use Rattle.design_checks.specs.SignalsRefused.{lacks_by, lacks_control, node_refused, pin_lacks, registered_nodes}
 pub use Rattle.design_checks.specs.Verdict.{HasSoundSignals, IsDesignFor, IsSignalRefused}
 pub use Rattle.equations.specs.StatementUnits.{assign_refused, assigned_aims, statement_manners, statements_manners, taken_refused, units_of_else}
 pub use Rattle.equations.specs.StatementUnits.{units_of_statement, units_of_statements, unless_any}

@@ -36,11 +36,12 @@ pub use Rattle.set_expr.specs.Answer.{IsContextOf}
 pub use Rattle.set_expr.specs.Contexts.{context_for}
 pub use Rattle.set_expr.specs.declared.contributions.Contribution.{Contribution}
 pub use Rattle.design_checks.specs.{AreOfNames, AreToNames, AreUsesOf, ControlsPass, KindsPass, Knows, PlacedUse, UsesAreRead, UsesHaveColumns, aim_refused}
-pub use Rattle.design_checks.specs.{aims_refused, all_at, all_positions, any_controls, are_by_pin, carries_level, carries_q, else_refused, first_read}
-pub use Rattle.design_checks.specs.{first_refused, first_signal, first_use, has_extension, has_read_path, is_compared_of, is_enabled_by_pin, is_refused}
-pub use Rattle.design_checks.specs.{is_written_at, is_wrong_cell, joined, kept_by, lacking_controls, learning, list_refused, may_be_compared, missing_uses}
+pub use Rattle.design_checks.specs.{aims_refused, all_at, all_positions, any_controls, are_by_pin, else_refused, first_read}
+pub use Rattle.abel_meaning.specs.SignalPins.{carries_level, carries_q, has_read_path, is_wrong_cell, reads_by, reads_pin, reads_register}
+pub use Rattle.design_checks.specs.{first_refused, first_signal, first_use, has_extension, is_compared_of, is_enabled_by_pin, is_refused}
+pub use Rattle.design_checks.specs.{is_written_at, joined, kept_by, lacking_controls, learning, list_refused, may_be_compared, missing_uses}
 pub use Rattle.design_checks.specs.{names_read, names_to, narrow, no_controls, node_refused, none_written, not_written, other_levels, part_uses, positions_by}
-pub use Rattle.design_checks.specs.{positions_of, read_of, reads_by, reads_pin, reads_register, reads_used, refuses, refuses_use, registered_nodes}
+pub use Rattle.design_checks.specs.{positions_of, read_of, reads_used, refuses, refuses_use, registered_nodes}
 pub use Rattle.design_checks.specs.{section_refused, sections_refused, statement_refused, target_controls, targets_refused, told, told_if, unwritten, use_at}
 pub use Rattle.design_checks.specs.{use_order, use_under, uses_of, uses_used, values_of, written_if, written_of, written_of_all, wrong_kinds}
 pub use Rattle.design_checks.specs.Written.{Written}

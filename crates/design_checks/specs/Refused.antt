@@ -4,7 +4,8 @@ use Rattle.std.specs.Prelude.{Bool, not, ◌&&◌, List, ◌++◌, map, get_or}
 use Rattle.design_checks.specs.Prelude.{flat_map, Table, formula_at, Formula, Entry, is_data, Design, no_name, Contribution}
 use Rattle.design_checks.specs.declared.rules.Rule.{Rule}
 use Rattle.design_checks.specs.declared.rules.Rule.TheVariants as rule
-use Rattle.design_checks.specs.SignalsRefused.{has_wrong_kind, is_control_by_any, lacks_control}
+use Rattle.design_checks.specs.SignalsRefused.{is_control_by_any, lacks_control}
+use Rattle.abel_meaning.specs.SignalPins.{has_wrong_kind}
 use Rattle.design_checks.specs.RefusedUses.{missing_uses, unread_uses}
 use Rattle.design_checks.specs.Compared.{says_always}
 use Rattle.design_checks.specs.Written.{unwritten}

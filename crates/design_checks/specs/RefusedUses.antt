@@ -1,8 +1,8 @@
 -- Which uses a device can't follow: an extension that the signal doesn't have, and what no column carries (the devices'
 -- datasheets, macrocell diagrams; what is refused is this project's rule).
-use Rattle.std.specs.Prelude.{ℕ, ◌==◌, Bool, true, false, not, ◌&&◌, ◌||◌, Option, None, Some, is_some, is_none, List, filter, position}
-use Rattle.design_checks.specs.Prelude.{list_any, Cell, Table, Extension, Kind, APin, ANode, Entry, is_stored, must_register, Context, Design, name_at}
-use Rattle.pld_device.specs.Pins.{pair_pins, cell_on, carries_cell}
+use Rattle.std.specs.Prelude.{Bool, true, false, not, ◌&&◌, Option, None, Some, is_some, is_none, List, filter}
+use Rattle.design_checks.specs.Prelude.{Table, Extension, Kind, APin, ANode, Entry, is_stored, Context, Design, name_at}
+use Rattle.abel_meaning.specs.SignalPins.{has_read_path}
 use Rattle.abel_tree.specs.declared.words.Extension.TheVariants as extension
 use Rattle.design_checks.specs.declared.rule.UseRule.{UseRule}
 use Rattle.design_checks.specs.declared.rule.UseRule.TheVariants as use_rule
@@ -33,44 +33,6 @@ has_by t stored _ e = true
 
 abbrev pub has_extension : Table → Entry → Option Extension → Bool
 has_extension t x e = has_by t (is_stored x) x.kind e
-
--- ---- what no column carries
-
--- a pair of columns carries the pin's level: not so where the cell on it must register and nothing is assigned
-abbrev pub carries_level : Table → Entry → (pin : ℕ) → Bool
-carries_level t x pin =
-    is_some (position (λ p. p == pin) (pair_pins t))
-    && (x.assigned || not (list_any (λ (c : Cell). (c.pin == pin) && must_register c.kinds) t.cells))
-
--- a pair of columns carries the Q of the cell that there may be
-abbrev pub carries_q : Table → Option ℕ → Bool
-carries_q t None = false
-carries_q t (Some c) = is_some (position (carries_cell c) t.pairs)
-
--- a register can be read as Q, or in its pin polarity
-abbrev pub reads_register : Table → (pin : ℕ) → Option Extension → Bool
-reads_register t pin None = carries_q t (cell_on t pin)
-reads_register t pin (Some extension.Fb) = carries_q t (cell_on t pin)
-reads_register t pin (Some extension.Q) = carries_q t (cell_on t pin)
-reads_register t pin (Some _) = false
-
--- a combinational signal as its level
-abbrev pub reads_pin : Table → Entry → (pin : ℕ) → Option Extension → Bool
-reads_pin t x pin None = carries_level t x pin
-reads_pin t x pin (Some extension.Pin) = carries_level t x pin
-reads_pin t x pin (Some _) = false
-
-abbrev pub reads_by : Table → Entry → (stored : Bool) → Kind → Option Extension → Bool
-reads_by t x true (APin pin negated) e = reads_register t pin e
-reads_by t x false (APin pin negated) e = reads_pin t x pin e
-reads_by t x stored _ e = true
-
--- so it would be on this pin
-abbrev pub has_read_path_on : Table → Entry → (pin : ℕ) → Option Extension → Bool
-has_read_path_on t x pin e = reads_by t x (is_stored x) (APin pin false) e
-
-abbrev pub has_read_path : Table → Entry → Option Extension → Bool
-has_read_path t x e = reads_by t x (is_stored x) x.kind e
 
 -- ---- uses that are refused
 

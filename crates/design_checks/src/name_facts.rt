@@ -2,7 +2,8 @@
 
 ghost use Rattle.std.specs.Prelude.{◌≡◌, IfOk};
 ghost use Rattle.design_checks.specs.Prelude.{entries_of, view_declared, first_refusal};
-ghost use Rattle.design_checks.specs.{has_wrong_kind, has_wrong_kind_on, is_registered_node, is_wrong_cell, registered_nodes, use_order};
+ghost use Rattle.design_checks.specs.{registered_nodes, use_order};
+ghost use Rattle.abel_meaning.specs.SignalPins.{has_wrong_kind, has_wrong_kind_on, is_registered_node, is_wrong_cell};
 
 use crate::refused::{RefusedUse, told_if};
 use abel_tree::{Declared, Meaning, earlier};

@@ -2,7 +2,8 @@
 
 ghost use Rattle.std.specs.Prelude.{◌≡◌, ◌==◌, ◌&&◌};
 ghost use Rattle.design_checks.specs.Prelude.{list_any, Cell, must_register, view_declared};
-ghost use Rattle.design_checks.specs.{has_extension, has_read_path_on, refuses_use};
+ghost use Rattle.design_checks.specs.{has_extension, refuses_use};
+ghost use Rattle.abel_meaning.specs.SignalPins.{has_read_path_on};
 
 use crate::name_facts::has_wrong_kind_on;
 use abel_tree::{Declared, Extension, Meaning};

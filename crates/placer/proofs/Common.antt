@@ -55,13 +55,12 @@ pub use Rattle.decls.proofs.SaidBuffers.{items_signals}
 pub use Rattle.decls.specs.Attributes.{brings_clash, has_unknown, is_refused_string, strings_refused}
 pub use Rattle.decls.specs.NameRefusals.{all_buffered, always_inverts, buffered, buffers_refused, is_register_at, module_buffers_refused, name_refusals}
 pub use Rattle.decls.specs.NameRefusals.{names_once, read_refusals, sections_refused}
-pub use Rattle.decls.specs.NamesBefore.{added, is_on_pin, is_taken, names_behind, words_named, words_of_names}
+pub use Rattle.decls.specs.NamesBefore.{added, names_behind, words_named, words_of_names}
+pub use Rattle.abel_meaning.specs.SignalPins.{is_on_pin, is_taken, is_signal_pin, has_wrong_kind, has_wrong_kind_by, has_wrong_kind_on, is_registered_by, is_registered_node, has_read_path, has_read_path_on, reads_by}
 pub use Rattle.decls.specs.Refused.{counts_differ, counts_refused, declaration_refused, declarations_refused, first_undeclared, given_count, has_numbers}
-pub use Rattle.decls.specs.Refused.{is_device, is_signal_pin, items_refused, name_refused, names_refused, node_limit, number_refused, parts_refused}
+pub use Rattle.decls.specs.Refused.{is_device, items_refused, name_refused, names_refused, node_limit, number_refused, parts_refused}
 pub use Rattle.decls.specs.Refused.{ranges_refused, refused_if, use_refused, uses_refused}
 pub use Rattle.decls.specs.Shown.{view_given}
-pub use Rattle.design_checks.specs.RefusedUses.{has_read_path, has_read_path_on, reads_by}
-pub use Rattle.design_checks.specs.SignalsRefused.{has_wrong_kind, has_wrong_kind_by, has_wrong_kind_on, is_registered_by, is_registered_node}
 pub use Rattle.name_uses.specs.NamesUsed.{UsedName, member_used, members_used, names_used}
 pub use Rattle.name_uses.specs.Parts.{PartRole, PartTree, Read, Registers, Value, part, parts_in_section}
 pub use Rattle.name_uses.specs.RangeParts.{name_items}

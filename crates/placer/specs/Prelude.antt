@@ -12,11 +12,8 @@ pub use Rattle.abel_tree.specs.Tree.{SomeNodes, SomePins, Statement, Tree}
 pub use Rattle.abel_tree.specs.View.{view, view_decl, view_module, view_section, view_stmt}
 pub use Rattle.abel_tree.specs.declared.words.Item.{Item}
 pub use Rattle.decls.specs.NameRefusals.{name_refusals}
-pub use Rattle.decls.specs.NamesBefore.{is_on_pin, is_taken}
-pub use Rattle.decls.specs.Refused.{is_signal_pin}
+pub use Rattle.abel_meaning.specs.SignalPins.{is_on_pin, is_taken, is_signal_pin, has_wrong_kind, has_wrong_kind_on, is_registered_node, has_read_path, has_read_path_on}
 pub use Rattle.decls.specs.Shown.{view_given}
-pub use Rattle.design_checks.specs.RefusedUses.{has_read_path, has_read_path_on}
-pub use Rattle.design_checks.specs.SignalsRefused.{has_wrong_kind, has_wrong_kind_on, is_registered_node}
 pub use Rattle.name_uses.specs.Parts.{PartRole, PartTree, Read, Registers, Target, Value}
 pub use Rattle.name_uses.specs.Viewed.{PartedSection, view_part, view_role, view_section_parts, view_use}
 pub use Rattle.pin_matching.specs.Assignments.{IsAssignment, IsKept, IsTaken}
