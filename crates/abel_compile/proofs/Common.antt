@@ -30,7 +30,7 @@ pub use Rattle.jedec_file.specs.CanonicalFile.{IsPlainName, canonical_file}
 pub use Rattle.module_reader.proofs.Fates.{one_module, read_or_not}
 pub use Rattle.module_reader.specs.Texts.{IsRead, SpellsModule}
 pub use Rattle.placer.specs.Following.{HasNumberedNames}
-pub use Rattle.placer.specs.Placements.{IsPlacedModule}
+pub use Rattle.placer.specs.Placements.{IsPinned, IsPlacedModule}
 pub use Rattle.pld_base.specs.declared.device_name.DeviceName.{DeviceName}
 pub use Rattle.pld_device.specs.Laws.{IsDevice}
 pub use Rattle.pld_device.specs.Table.{Table}

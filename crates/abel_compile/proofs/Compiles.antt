@@ -1,6 +1,6 @@
 -- What the phases answer for the module of a text, as an answer for the text.
-use Rattle.std.proofs.Common.{◌≡◌, ℕ, Some, List, Result, Ok, Err, sym, ap, ◌∙◌, subst, inl, inr, IfOk, IfErr}
-use Rattle.abel_compile.proofs.Common.{DeviceName, canonical_file, Word, ModuleTree, device_named, names_of, source_vectors, SpellsModule, IsRead, IsPlacedModule, Compiled, CompileFault, Source, Place, Fit, OutOfMemory, SourceFault, Expand, Scan, Parse, Names, Sections, Design, Width, CompileAnswers, IsRightFile, table_of, IsOfSource, IsTextFault, IsNameFault, IsUnnamed, IsReadAlone, IsRefusedBy, IsPlacedFor, IsCompiledFor, IsCompiledOn, IsSourceRefused, placed_name}
+use Rattle.std.proofs.Common.{◌≡◌, ℕ, Some, List, [], Result, Ok, Err, sym, ap, ◌∙◌, subst, inl, inr, IfOk, IfErr}
+use Rattle.abel_compile.proofs.Common.{DeviceName, canonical_file, Word, ModuleTree, device_named, names_of, name_refusals, source_vectors, SpellsModule, IsRead, IsPinned, Compiled, CompileFault, Source, Place, Fit, OutOfMemory, SourceFault, Expand, Scan, Parse, Names, Sections, Design, Width, CompileAnswers, IsRightFile, table_of, IsOfSource, IsTextFault, IsNameFault, IsUnnamed, IsReadAlone, IsRefusedBy, IsPlacedFor, IsCompiledFor, IsCompiledOn, IsSourceRefused, placed_name}
 use Rattle.abel_compile.proofs.NeverRefused.{spelled}
 
 -- ---- the text
@@ -67,7 +67,7 @@ of_compiled text m device c alone named is =
         only = alone.only;
         named = subst (λ (d : DeviceName). device_named m ≡ Some d) (sym is.so.device_is) named;
         placed = is.placed;
-        is_placed = subst (λ (d : DeviceName). IsPlacedModule (table_of d) m is.placed) (sym is.so.device_is) is.is;
+        is_placed = subst (λ (d : DeviceName). IsPinned (table_of d) m is.placed) (sym is.so.device_is) is.is.pinned;
         fuses = here.fuses;
         size = here.right.size;
         one_rest = here.right.does.one_rest;
@@ -76,6 +76,7 @@ of_compiled text m device c alone named is =
         reads_back = here.told.reads_back;
       };
       read = alone.read;
+      names = subst (λ (d : DeviceName). name_refusals (table_of d) m ≡ []) (sym is.so.device_is) is.is.names;
       accepted = here.accepted;
       takeable = here.right.takeable;
       fuses = here.right.so;

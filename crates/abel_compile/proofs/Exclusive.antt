@@ -14,7 +14,7 @@ same_device a b e = cc
 -- what holds of a placed module, and what of another, hold of one
 module _ {P Q : Table → ModuleTree → Type 0} (t : Table) (m : ModuleTree) (p : IsPlacedFor P t m) (q : IsPlacedFor Q t m) where
   on_one : Q t p.placed
-  on_one = subst (λ (x : ModuleTree). Q t x) (one_placed t m q.placed p.placed q.is p.is) q.so
+  on_one = subst (λ (x : ModuleTree). Q t x) (one_placed t m q.placed p.placed q.is.pinned p.is.pinned) q.so
 
 module _ (text : List ℕ) where
   module _ {P Q : Table → ModuleTree → Type 0} (p : IsReadFor text P) (q : IsReadFor text Q) where
@@ -43,7 +43,7 @@ module _ (text : List ℕ) where
 
   pub compiled_not_refused : (c : Compiled) (f : SourceFault) (line : List ℕ) → IsCompiled text c → IsSourceRefused text f line → ⊥
   compiled_not_refused c f line is =
-      accepted_not_refused f line (record { source = is.right.source; read = is.read; device = c.device; named = is.right.named; so = record { placed = is.right.placed; is = is.right.is_placed; so = is.accepted } })
+      accepted_not_refused f line (record { source = is.right.source; read = is.read; device = c.device; named = is.right.named; so = record { placed = is.right.placed; is = record { names = is.names; pinned = is.right.is_placed }; so = is.accepted } })
 
   pub unfit_not_refused : (u : FitFault) (told : List ℕ) (f : SourceFault) (line : List ℕ) → IsReadFor text (IsPlacedFor (IsUnfitFor u told)) → IsSourceRefused text f line → ⊥
   unfit_not_refused u told f line is =

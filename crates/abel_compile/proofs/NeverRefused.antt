@@ -63,7 +63,7 @@ AcceptedAndFits t m = IsAcceptedFor t m × FitsAsWritten t m
 
 -- what holds of another placed module holds of this one
 brought : (t : Table) (m : ModuleTree) (p : IsPlacedFor AcceptedAndFits t m) (Q : Table → ModuleTree → Type 0) → IsPlacedFor Q t m → Q t p.placed
-brought t m p Q q = subst (λ (x : ModuleTree). Q t x) (one_placed t m q.placed p.placed q.is p.is) q.so
+brought t m p Q q = subst (λ (x : ModuleTree). Q t x) (one_placed t m q.placed p.placed q.is.pinned p.is.pinned) q.so
 
 -- a module whose placed module is accepted and fits as it is written is refused for nothing but want of memory
 not_by : (t : Table) (m : ModuleTree) → IsDevice t → IsPlacedFor AcceptedAndFits t m → (e : CompileFault) → e ≢ OutOfMemory → IsRefusedBy t m e → ⊥

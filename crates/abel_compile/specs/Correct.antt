@@ -1,11 +1,12 @@
 -- What holds of a compiled source beside the main statement: what is accepted, chains of reads, rows, test vectors, the
 -- listing and the summary (this project's rule).
-use Rattle.std.specs.Prelude.{◌≡◌, ℕ, ◌<◌, Bool, List, length}
+use Rattle.std.specs.Prelude.{◌≡◌, ℕ, ◌<◌, Bool, List, [], length}
 use Rattle.abel_compile.specs.Prelude.{device_logic, is_inverted, Table, ModuleTree, source_logic_under, design_of, names_of, source_vectors, SpellsModule, IsRead, IsTakeable, listing_text, design_cells, summary_of, table_of, IsAcceptedFor}
 use Rattle.pld_order.specs.Graphs.{HasNoLoop}
 use Rattle.device_logic.specs.CellReads.{cell_reads}
 use Rattle.device_logic.specs.ResetPaths.{HasNoResetPath}
 use Rattle.device_sim.specs.Compared.{DisagreeAlike}
+use Rattle.decls.specs.NameRefusals.{name_refusals}
 use Rattle.netlist_laws.specs.Fitting.{IsSpareCell}
 use Rattle.fitter.specs.Order.{AreRowsInOrder}
 use Rattle.netlist_laws.specs.Controls.{HasControlRows}
@@ -27,11 +28,12 @@ pub record AreFusesOf (t : Table) (m : ModuleTree) (fuses : List Bool) : Type 0 
   pub controls : HasControlRows t m fuses
   pub vectors : DisagreeAlike (device_logic t fuses) (source_logic_under t m (is_inverted t fuses)) (source_vectors t m)
 
--- the file is right for the text; no construct of the text nests too deep, nothing is refused of its placed module for the
--- device, and the device can take that module's design; so are its fuses; and the listing and the summary are of just these
+-- the file is right for the text; no construct of the text nests too deep, nothing is refused of the names of its module or
+-- of its placed module for the device, and the device can take that module's design; so are its fuses; and the listing and the summary are of just these
 pub record IsCompiled (text : List ℕ) (c : Compiled) : Type 0 where
   pub right : IsRightFile SpellsModule table_of text c.device c.file.items
   pub read : IsRead text right.source
+  pub names : name_refusals (table_of c.device) right.source ≡ []
   pub accepted : IsAcceptedFor (table_of c.device) right.placed
   pub takeable : IsTakeable (design_of (table_of c.device) right.placed)
   pub fuses : AreFusesOf (table_of c.device) right.placed right.fuses

@@ -5,7 +5,7 @@ use Rattle.abel_compile.specs.Prelude.{DeviceName, device_logic, is_inverted, Ta
 use Rattle.pld_machine.specs.Comparison.{DoesTheSame}
 use Rattle.pld_machine.specs.Steps.{RestsOnce}
 use Rattle.abel_meaning.specs.DeviceStrings.{device_named}
-use Rattle.placer.specs.Placements.{IsPlacedModule}
+use Rattle.placer.specs.Placements.{IsPinned}
 
 -- what a file of these fuses and vectors says: it lists all fuses, and its default level is 0
 abbrev pub fuses_and_vectors : Table → List Bool → List (List ℕ) → FuseFile
@@ -26,7 +26,7 @@ pub record IsRightFile (spells : List ℕ → ModuleTree → Type 0) (table : De
   pub only : (other : ModuleTree) → spells text other → other ≡ source
   pub named : device_named source ≡ Some device
   pub placed : ModuleTree
-  pub is_placed : IsPlacedModule (table device) source placed
+  pub is_placed : IsPinned (table device) source placed
   pub fuses : List Bool
   pub size : length fuses ≡ (table device).fuses
   pub one_rest : RestsOnce (device_logic (table device) fuses)

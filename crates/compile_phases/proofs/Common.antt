@@ -20,7 +20,7 @@ pub use Rattle.fitter.specs.Answers.{FitAnswers, HasControls}
 pub use Rattle.fitter.specs.Coverable.{IsSoundId}
 pub use Rattle.fitter.specs.Width.{IsControlTooWide, IsFirstWide, IsTooWide, NoneWide}
 pub use Rattle.fitter.specs.declared.fault.FitFault.{FitFault}
-pub use Rattle.placer.specs.Placements.{HasNoPlacement, IsPlacedModule, Pins, module_wishes, placed_with, with_pins}
+pub use Rattle.placer.specs.Placements.{HasNoPlacement, IsPinned, IsPlacedModule, Pins, module_wishes, placed_with, with_pins}
 pub use Rattle.pld_device.specs.Laws.{IsDevice}
 pub use Rattle.pld_device.specs.Macrocells.{complement_if}
 pub use Rattle.pld_device.specs.Table.{Table, cell_at}

@@ -1,6 +1,6 @@
 -- What is refused of a placed module is refused of its source, and there is one placed module.
 use Rattle.std.proofs.Common.{◌≡◌, ℕ, Some, List, [], ◌∷◌, refl, sym, ap, ◌∙◌}
-use Rattle.compile_phases.proofs.Common.{Table, Entry, ModuleTree, names_of, name_order, first_name_refusal, name_refusals, IsPlacedModule, Pins, module_wishes, placed_with, with_pins, CompileFault, Source, Place, Fit, OutOfMemory, Expand, Scan, Parse, Names, Sections, Design, Width, IsNameFault, IsOfPlacing, IsOfSource, IsRefusedBy, IsRefusedFor}
+use Rattle.compile_phases.proofs.Common.{Table, Entry, ModuleTree, names_of, name_order, first_name_refusal, name_refusals, IsPinned, IsPlacedModule, Pins, module_wishes, placed_with, with_pins, CompileFault, Source, Place, Fit, OutOfMemory, Expand, Scan, Parse, Names, Sections, Design, Width, IsNameFault, IsOfPlacing, IsOfSource, IsRefusedBy, IsRefusedFor}
 use Rattle.pin_matching.proofs.One.{kept_cannot, one_taken}
 use Rattle.placer.specs.declared.fault.PlaceFault.{PlaceFault}
 use Rattle.placer.specs.declared.fault.PlaceFault.TheVariants as placing
@@ -16,7 +16,7 @@ named_same es [] m = refl
 named_same es (x ∷ xs) m = refl
 
 pub placed_name : (t : Table) (m placed : ModuleTree) → IsPlacedModule t m placed → placed.name ≡ m.name
-placed_name t m placed is = ap (λ (x : ModuleTree). x.name) is.is ∙ named_same (names_of t m) (with_pins (to_place t (names_of t m)) is.pins) m
+placed_name t m placed is = ap (λ (x : ModuleTree). x.name) is.pinned.is ∙ named_same (names_of t m) (with_pins (to_place t (names_of t m)) is.pinned.pins) m
 
 -- ---- refusals
 
@@ -34,12 +34,12 @@ of_placed t m placed OutOfMemory is numbered h = tt
 
 -- ---- one fate
 
-pub one_placed : (t : Table) (m a b : ModuleTree) → IsPlacedModule t m a → IsPlacedModule t m b → a ≡ b
+pub one_placed : (t : Table) (m a b : ModuleTree) → IsPinned t m a → IsPinned t m b → a ≡ b
 one_placed t m a b is also =
     is.is ∙ (ap (λ ps. placed_with (names_of t m) (with_pins (to_place t (names_of t m)) ps) m) (one_taken (module_wishes t m) is.pins also.pins is.taken also.taken) ∙ sym also.is)
 
 pub placed_not_unplaced : (t : Table) (m placed : ModuleTree) (f : PlaceFault) (line : List ℕ) → IsPlacedModule t m placed → IsUnplacedFor f line t m → ⊥
-placed_not_unplaced t m placed (placing.NoPlacement signals places) line is h = kept_cannot (module_wishes t m) h.0.set places h.0.kept is.pins is.taken.is_assignment
+placed_not_unplaced t m placed (placing.NoPlacement signals places) line is h = kept_cannot (module_wishes t m) h.0.set places h.0.kept is.pinned.pins is.pinned.taken.is_assignment
 placed_not_unplaced t m placed placing.OutOfMemory line is h = h
 
 pub unplaced_names : (t : Table) (m : ModuleTree) (f : PlaceFault) (line : List ℕ) → IsUnplacedFor f line t m → name_refusals t m ≡ []

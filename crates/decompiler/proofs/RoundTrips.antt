@@ -8,7 +8,7 @@ use Rattle.netlist_laws.specs.FittedCorrect.{DoesWhatItSays, MeansTheSame}
 use Rattle.netlist_laws.proofs.Meaning.{gathered_means_the_same}
 use Rattle.abel_compile.specs.Statement.{IsRightFile}
 use Rattle.abel_compile.proofs.NeverRefused.{spelled}
-use Rattle.placer.specs.Placements.{IsPlacedModule}
+use Rattle.placer.specs.Placements.{IsPinned}
 use Rattle.compile_phases.proofs.PlacedRefusals.{one_placed}
 use Rattle.decompiled.proofs.SignalsOn.{lines_declare, on_it, on_none, registers_have_cells}
 use Rattle.decompiler.proofs.ReadTexts.{is_decompiled, read_as_source}
@@ -77,8 +77,8 @@ module _ (device : DeviceName) (fuses : List Bool) (can : AreLoadable (table_of 
     -- nothing of it is placed
     placed_is : right.placed ≡ m
     placed_is =
-        let own : IsPlacedModule t right.source right.source = subst (λ (s : ModuleTree). IsPlacedModule t s s) (sym source_is) means.right.placed in
-        let also : IsPlacedModule t right.source right.placed = subst (λ (n : DeviceName). IsPlacedModule (table_of n) right.source right.placed) name_is right.is_placed in
+        let own : IsPinned t right.source right.source = subst (λ (s : ModuleTree). IsPinned t s s) (sym source_is) means.right.placed.pinned in
+        let also : IsPinned t right.source right.placed = subst (λ (n : DeviceName). IsPinned (table_of n) right.source right.placed) name_is right.is_placed in
         one_placed t right.source right.placed right.source also own ∙ module_is
 
     does_again : DoesWhatItSays t m right.fuses

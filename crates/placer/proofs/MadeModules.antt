@@ -48,9 +48,11 @@ module _ (t : Table) (m : ModuleTree) (es : List Entry) (same : es ≡ names_of 
       → placed ≡ placed_module (pin_of es (with_pins ss ps)) (node_pin_of es (with_pins ss ps)) (dc_of es) more m → IsPlacedModule t m placed
   placed_by high some ps taken more placed released made = record {
     names = none;
-    pins = ps;
-    taken = subst (λ l. IsTaken (wishes t l (is_read l m.sections)) ps) same whole;
-    is = subst (λ l. placed ≡ placed_with l (with_pins (to_place t l) ps) m) same result;
+    pinned = record {
+      pins = ps;
+      taken = subst (λ l. IsTaken (wishes t l (is_read l m.sections)) ps) same whole;
+      is = subst (λ l. placed ≡ placed_with l (with_pins (to_place t l) ps) m) same result;
+    };
   }
     where
       taken_first : IsTaken (take 32 (wishes t es (is_read es m.sections))) ps
@@ -105,9 +107,11 @@ no_signal (x ∷ xs) is = absurd cc
 pub itself : (t : Table) (m : ModuleTree) → name_refusals t m ≡ [] → take 32 (to_place t (names_of t m)) ≡ [] → IsPlacedModule t m m
 itself t m none empty = record {
   names = none;
-  pins = [];
-  taken = subst (λ ss. IsTaken (map (λ s. wish t (names_of t m) (is_read (names_of t m) m.sections s) (get_or (names_of t m) s no_name)) ss) []) (sym nothing) none_taken;
-  is = sym (ap (λ ss. placed_with (names_of t m) (with_pins ss []) m) nothing);
+  pinned = record {
+    pins = [];
+    taken = subst (λ ss. IsTaken (map (λ s. wish t (names_of t m) (is_read (names_of t m) m.sections s) (get_or (names_of t m) s no_name)) ss) []) (sym nothing) none_taken;
+    is = sym (ap (λ ss. placed_with (names_of t m) (with_pins ss []) m) nothing);
+  };
 }
   where
     nothing : to_place t (names_of t m) ≡ []

@@ -218,7 +218,7 @@ module _ (t : Table) (m : ModuleTree) (none : name_refusals t m ≡ []) (ps : Li
         }
 
 pub followed : (t : Table) (m placed : ModuleTree) → IsPlacedModule t m placed → (k : ℕ) → k < length (to_place t (names_of t m)) → IsFollowed t m placed (get_or (to_place t (names_of t m)) k 0)
-followed t m placed p k low = subst (λ l. IsFollowed t m l (get_or (to_place t (names_of t m)) k 0)) (sym p.is) (by (to_place t (names_of t m)) p.pins refl p.taken.is_assignment low)
+followed t m placed p k low = subst (λ l. IsFollowed t m l (get_or (to_place t (names_of t m)) k 0)) (sym p.pinned.is) (by (to_place t (names_of t m)) p.pinned.pins refl p.pinned.taken.is_assignment low)
   where
     by : (ss ps : List ℕ) → to_place t (names_of t m) ≡ ss → IsAssignment (module_wishes t m) ps → k < length (to_place t (names_of t m)) → IsFollowed t m (placed_with (names_of t m) (with_pins ss ps) m) (get_or (to_place t (names_of t m)) k 0)
     by [] ps same is low = let none = ap length same in absurd (omega (arith, none, low))

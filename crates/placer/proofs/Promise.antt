@@ -66,7 +66,7 @@ module _ (t : Table) (m : ModuleTree) (none : name_refusals t m ≡ []) (ps : Li
   nothing_placed empty = record { none = none; numbered = ap not (none_needed t 0 es empty) }
 
 pub promised : (t : Table) (m placed : ModuleTree) → IsPlacedModule t m placed → HasNumberedNames t placed
-promised t m placed p = subst (HasNumberedNames t) (sym p.is) (by (to_place t (names_of t m)) p.pins refl p.taken.is_assignment)
+promised t m placed p = subst (HasNumberedNames t) (sym p.pinned.is) (by (to_place t (names_of t m)) p.pinned.pins refl p.pinned.taken.is_assignment)
   where
     by : (ss ps : List ℕ) → to_place t (names_of t m) ≡ ss → IsAssignment (module_wishes t m) ps → HasNumberedNames t (placed_with (names_of t m) (with_pins ss ps) m)
     by [] ps same is = nothing_placed t m p.names ps is same

@@ -54,12 +54,16 @@ placed_with es [] m = m
 placed_with es (x ∷ xs) m =
     placed_module (pin_of es (x ∷ xs)) (node_pin_of es (x ∷ xs)) (dc_of es) (all_released es (has_enable es m.sections) (x ∷ xs)) m
 
--- nothing is refused of its names, and this is it with the pins of the assignment that is taken
-pub record IsPlacedModule (t : Table) (m placed : ModuleTree) : Type 0 where
-  pub names : name_refusals t m ≡ []
+-- this is it with the pins of the assignment that is taken
+pub record IsPinned (t : Table) (m placed : ModuleTree) : Type 0 where
   pub pins : List ℕ
   pub taken : IsTaken (module_wishes t m) pins
   pub is : placed ≡ placed_with (names_of t m) (with_pins (to_place t (names_of t m)) pins) m
+
+-- so it is, and nothing is refused of its names
+pub record IsPlacedModule (t : Table) (m placed : ModuleTree) : Type 0 where
+  pub names : name_refusals t m ≡ []
+  pub pinned : IsPinned t m placed
 
 -- nothing is refused of its names, and these signals, by their numbers, have but so many fitting pins
 pub record HasNoPlacement (t : Table) (m : ModuleTree) (signals : List ℕ) (places : ℕ) : Type 0 where
