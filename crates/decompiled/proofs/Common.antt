@@ -80,8 +80,8 @@ pub use Rattle.pld_device.specs.declared.cell.Cell.{Cell}
 pub use Rattle.pld_device.specs.declared.enable.Enable.{Enable}
 pub use Rattle.pld_device.specs.declared.enable.Enable.TheVariants.{PinLow, Row}
 pub use Rattle.pld_device.specs.declared.flip.Flip.{Flip}
-pub use Rattle.pld_machine.specs.Comparison.{AllowsOne, DoesTheSame, HasNoDontCare, IsValuedOf, NodeValues, RefinesValued, SameValues, ValuesOnce}
-pub use Rattle.pld_machine.specs.Refines.{Refines}
+pub use Rattle.pld_machine.specs.Comparison.{AllowsOne, DoesTheSame, HasNoDontCare, IsValuedOf, NodeValues, ValuesOnce}
+pub use Rattle.pld_machine.specs.Refines.{RefinesValued, SameValues, Refines}
 pub use Rattle.pld_machine.specs.Steps.{IsDetermined}
 pub use Rattle.decompiled.specs.Alike.{AreAlike, IsCellAsked, IsFusesNetlist, LogicsAreAlike, enable_formula, shared_formula}
 pub use Rattle.decompiled.specs.LineGives.{IsKnownLine, LinesGive, OneLineIsAFunction, is_control_line, is_data_line, line_gives}

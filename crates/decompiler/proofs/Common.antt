@@ -134,7 +134,8 @@ pub use Rattle.pld_device.specs.declared.flip.Flip.{Flip}
 pub use Rattle.pld_device.specs.declared.flip.Flip.TheVariants.{AfterRegister, Always, BeforeRegister}
 pub use Rattle.pld_device.specs.declared.kinds.Kinds.{Kinds}
 pub use Rattle.pld_device.specs.declared.kinds.Kinds.TheVariants.{Combinational, Either, Registered}
-pub use Rattle.pld_machine.specs.Comparison.{DoesTheSame, HasNoDontCare, HasNoNodes, IsShownAs, NodeValues}
+pub use Rattle.pld_machine.specs.Comparison.{DoesTheSame, HasNoDontCare, IsShownAs, NodeValues}
+pub use Rattle.pld_machine.specs.Refines.{HasNoNodes}
 pub use Rattle.pld_order.specs.Graphs.{HasNoLoop, HasNoPath, IsChain, has}
 pub use Rattle.section_targets.specs.Manners.{differs_from, first_manner, is_against_kind, is_cell_pin, is_output, is_output_kind, is_same_part}
 pub use Rattle.section_targets.specs.Manners.{may_be_assigned, mixed, no_output, part_of}

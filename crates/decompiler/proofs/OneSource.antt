@@ -2,7 +2,7 @@
 use Rattle.std.proofs.Common.{◌≡◌, ◌≢◌, ◌<◌, Bool, List, [], ◌∷◌, sym, subst, ◌∙◌}
 use Rattle.decompiler.proofs.Common.{Logic, Levels, DoesTheSame, HasNoDontCare, HasNoNodes, IsShownAs, NodeValues}
 use Rattle.pld_machine.specs.Steps.{Run}
-use Rattle.pld_machine.specs.Through.{AreSeen}
+use Rattle.pld_machine.specs.Comparison.{AreSeen}
 use Rattle.pld_machine.proofs.WithoutNodes.{plain_runs}
 use Rattle.fuse_compare.specs.Alike.{RunsAlike, SameShown}
 

@@ -1,8 +1,7 @@
 -- The mismatches of a device and of the source that it does the same as.
 use Rattle.std.proofs.Common.{◌≡◌, ◌≢◌, ℕ, zero, suc, ◌+◌, ◌-◌, ◌<◌, ◌≤◌, ◌==◌, ◌&&◌, Bool, true, false, Option, None, Some, List, [], ◌∷◌, ◌++◌, length, drop, slice_get, flat_map, refl, ap, sym, ◌∙◌, subst, arith}
 use Rattle.device_sim.proofs.Common.{All, list_any, range_with_len, is_on, Levels, Logic, Run, Mismatch, IsVectorRun, found, found_at, if_mismatch, is_driven, mismatch_at, mismatches_of, mismatches_where, outsides_of, vector_mismatches}
-use Rattle.pld_machine.specs.Comparison.{DoesTheSame, HasNoDontCare, IsShownAs, NodeValues}
-use Rattle.pld_machine.specs.Through.{AreSeen, SameCells}
+use Rattle.pld_machine.specs.Comparison.{DoesTheSame, HasNoDontCare, IsShownAs, NodeValues, AreSeen, SameCells}
 use Rattle.device_sim.specs.Compared.{DisagreeAlike, VectorsDisagreeAlike}
 use Rattle.device_sim.proofs.OneList.{IsNarrow, one_list, outsides_wide, some_outsides}
 

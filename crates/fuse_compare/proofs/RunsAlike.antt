@@ -1,7 +1,7 @@
 -- Logics that are alike have the same runs, with the same cells enabled at each point.
 use Rattle.std.proofs.Common.{◌≡◌, ◌≢◌, ℕ, ◌<◌, Bool, true, false, not, ◌&&◌, ◌==◌, List, [], ◌∷◌, set, refl, ap, sym, ◌∙◌, subst, inl, inr, MatchBool, length-set, get_or-set_same}
 use Rattle.fuse_compare.proofs.Common.{All, cases_Bool, and_parts, true≢false, eqb-false, All-head, All-tail, is_on, Levels, Logic, same_levels, IsWide, RestsOnce, AtRest, Step, ClockedStep, Steps, rises, clock_held, allows_q, power_up, levels_equal, ShowSame, AreAlike, RunsAlike, SameShown}
-use Rattle.pld_machine.specs.Comparison.{HasNoNodes}
+use Rattle.pld_machine.specs.Refines.{HasNoNodes}
 
 -- two truth values that can't differ are the same
 decided : (x y : Bool) → ((x ≡ y → ⊥) → ⊥) → x ≡ y

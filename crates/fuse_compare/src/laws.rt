@@ -2,8 +2,7 @@
 
 ghost use Rattle.std.specs.Prelude.{◌≡◌, ◌<◌};
 ghost use Rattle.fuse_compare.specs.Prelude.{Logic, RestsOnce};
-ghost use Rattle.pld_machine.specs.Refines.{Refines};
-ghost use Rattle.pld_machine.specs.Comparison.{HasNoNodes};
+ghost use Rattle.pld_machine.specs.Refines.{Refines, HasNoNodes};
 ghost use Rattle.fuse_compare.specs.Alike.{AreAlike, RunsAlike};
 
 /// Logics that are alike have the same runs, with the same cells enabled; and those that allow the same

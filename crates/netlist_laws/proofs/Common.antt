@@ -67,10 +67,10 @@ pub use Rattle.pld_device.specs.declared.flip.Flip.{Flip}
 pub use Rattle.pld_device.specs.declared.kinds.Kinds.{Kinds}
 pub use Rattle.pld_device.specs.declared.kinds.Kinds.TheVariants.{Combinational, Either, Registered}
 pub use Rattle.pld_machine.proofs.ExchangedLogics.{exchanged_refines, values_exchanged}
-pub use Rattle.pld_machine.specs.Comparison.{AllowsOne, HasNoDontCare, IsTheValuedOf}
+pub use Rattle.pld_machine.specs.Comparison.{AllowsOne, HasNoDontCare, IsTheValuedOf, SameCells}
 pub use Rattle.pld_machine.specs.Exchanged.{exchanged, exchanged_at, exchanged_from, exchanged_values, in_sense}
 pub use Rattle.pld_machine.specs.Refines.{Refines}
-pub use Rattle.pld_machine.specs.Through.{AllowsAt, SameCells}
+pub use Rattle.pld_machine.specs.Through.{AllowsAt}
 pub use Rattle.pld_order.proofs.Lists.{eqb_same, has_push}
 pub use Rattle.pld_order.proofs.Ranks.{Ranked, no_loop_by_rank, ranked}
 pub use Rattle.pld_order.specs.Graphs.{HasNoLoop, HasNoPath, IsChain, has}

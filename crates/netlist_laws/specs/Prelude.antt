@@ -32,7 +32,7 @@ pub use Rattle.pld_device.specs.Table.{IsDataRow, Table, cell_at, registered_at}
 pub use Rattle.pld_device.specs.declared.enable.Enable.{Enable}
 pub use Rattle.pld_device.specs.declared.enable.Enable.TheVariants.{PinLow, Row}
 pub use Rattle.pld_device.specs.declared.flip.Flip.TheVariants.{AfterRegister, Always}
-pub use Rattle.pld_machine.specs.Comparison.{DoesTheSame, IsValued, IsValuedOf, NodeValues, RefinesValued, SameValues}
+pub use Rattle.pld_machine.specs.Comparison.{DoesTheSame, IsValued, IsValuedOf, NodeValues}
+pub use Rattle.pld_machine.specs.Refines.{RefinesValued, SameValues, Refines}
 pub use Rattle.pld_machine.specs.Exchanged.{exchanged, exchanged_at, exchanged_values, in_sense}
-pub use Rattle.pld_machine.specs.Refines.{Refines}
 pub use Rattle.pld_order.specs.Graphs.{HasNoLoop, has}

@@ -1,9 +1,8 @@
 -- What it is for a device to do what a source says: a logic without nodes against one that may have nodes and
 -- don't-cares (the main statement of any compiler of sources for devices).
-use Rattle.std.specs.Prelude.{◌≡◌, ◌≢◌, ℕ, ◌<◌, Bool, true, false, List}
+use Rattle.std.specs.Prelude.{◌≡◌, ◌≢◌, ℕ, ◌<◌, Bool, true, false, List, [], ◌∷◌}
 use Rattle.pld_machine.specs.Prelude.{is_on, Levels, IsPoint, Logic}
 use Rattle.pld_machine.specs.Steps.{Run, RestsOnce, RunsOnce}
-use Rattle.pld_machine.specs.Through.{SameCells, AllowsAt, AreSeen}
 
 -- ---- points whose nodes are valued (any as 0)
 
@@ -32,25 +31,25 @@ pub record IsTheValuedOf (m : Logic) (values : NodeValues) (at valued : Levels) 
 abbrev pub ValuesOnce : Logic → NodeValues → Type 0
 ValuesOnce m values = (at : Levels) → IsPoint at → (valued : Levels) × IsTheValuedOf m values at valued
 
--- at every point the logic allows each node its value
-abbrev pub AllowsValues : Logic → NodeValues → Type 0
-AllowsValues m values =
-    (at : Levels) → IsPoint at → (n : ℕ) → n < 128 → m.is_node n ≡ true → m.allows_node at n (values at n) ≡ true
-
--- no entry of a point belongs to a node
-abbrev pub HasNoNodes : Logic → Type 0
-HasNoNodes m = (n : ℕ) → n < 128 → m.is_node n ≡ false
-
--- at every point the same values stand for the nodes
-abbrev pub SameValues : Logic → NodeValues → NodeValues → Type 0
-SameValues m values others =
-    (at : Levels) → IsPoint at → (n : ℕ) → n < 128 → m.is_node n ≡ true → values at n ≡ others at n
-
 -- ---- the comparison
+
+-- as many cells, with the same pins, the same of them registers, and the same clock
+pub record SameCells (d s : Logic) : Type 0 where
+  pub cells : d.cells ≡ s.cells
+  pub pin : (c : ℕ) → c < s.cells → d.pin c ≡ s.pin c
+  pub stores : (c : ℕ) → c < s.cells → d.stores c ≡ s.stores c
+  pub clock : d.clock ≡ s.clock
 
 -- the same cells are enabled in the device at the first point and in the source at the second
 abbrev pub SameEnables : Logic → Logic → Levels → Levels → Type 0
 SameEnables device source at valued = (c : ℕ) → c < device.cells → device.enabled at c ≡ source.enabled valued c
+
+-- the points of the second list are seen for those of the first, one for one
+abbrev pub AreSeen : (Levels → Levels → Type 0) → List Levels → List Levels → Type 0
+AreSeen Sees [] [] = Unit {0}
+AreSeen Sees (at ∷ points) (seen ∷ others) = Sees at seen × AreSeen Sees points others
+AreSeen Sees [] (seen ∷ others) = ⊥
+AreSeen Sees (at ∷ points) [] = ⊥
 
 -- the source shows, drives and stores at the second point what the device does at the first: it is the first with
 -- the source's nodes valued, and the same cells are enabled there
@@ -85,13 +84,3 @@ pub record DoesTheSame (device source : Logic) (values : NodeValues) : Type 0 wh
   pub one_value : ValuesOnce source values
   pub runs : HasValuedRunsOf source device values
   pub source_run : HasNoDontCare source → RunsOnce source
-
--- the device has no nodes and no don't-care; and at each point, with the source's nodes valued there, the source
--- allows what the device does
-pub record RefinesValued (device source : Logic) (values : NodeValues) : Type 0 where
-  pub same_cells : SameCells device source
-  pub no_nodes : HasNoNodes device
-  pub one_each : HasNoDontCare device
-  pub one_value : ValuesOnce source values
-  pub allowed : AllowsValues source values
-  pub allows : (at valued : Levels) → IsPoint at → IsValuedOf source values at valued → AllowsAt device source at valued

@@ -4,10 +4,10 @@ use Rattle.std.specs.Prelude.{◌≡◌, ℕ, Bool, true, false, List, [], ◌�
 use Rattle.pld_machine.specs.Prelude.{Levels, Logic, is_register}
 use Rattle.pld_machine.specs.Lookups.{Lookups, logic_of}
 use Rattle.pld_machine.specs.Order.{IsOrdered}
-use Rattle.pld_machine.specs.Refines.{Refines}
+use Rattle.pld_machine.specs.Refines.{Refines, SameValues}
 use Rattle.pld_machine.specs.Rest.{AtRest}
 use Rattle.pld_machine.specs.Steps.{Step, Steps}
-use Rattle.pld_machine.specs.Comparison.{NodeValues, SameValues}
+use Rattle.pld_machine.specs.Comparison.{NodeValues}
 use Rattle.pld_machine.specs.Exchanged.{exchanged, exchanged_at, exchanged_lookups, exchanged_qs, exchanged_values}
 
 -- at rest at the first outside levels with these Qs stored, then a step for each of the others; a run is one from all 0

@@ -1,15 +1,9 @@
 -- A logic that allows no more than another does at the points that are seen in place of its own (this project's
 -- rule).
-use Rattle.std.specs.Prelude.{◌≡◌, ℕ, ◌<◌, Bool, true, false, List, [], ◌∷◌}
+use Rattle.std.specs.Prelude.{◌≡◌, ℕ, ◌<◌, Bool, true, false, List}
 use Rattle.pld_machine.specs.Prelude.{is_on, Levels, IsPoint, Logic}
 use Rattle.pld_machine.specs.Rest.{AtRest}
-
--- as many cells, with the same pins, the same of them registers, and the same clock
-pub record SameCells (d s : Logic) : Type 0 where
-  pub cells : d.cells ≡ s.cells
-  pub pin : (c : ℕ) → c < s.cells → d.pin c ≡ s.pin c
-  pub stores : (c : ℕ) → c < s.cells → d.stores c ≡ s.stores c
-  pub clock : d.clock ≡ s.clock
+use Rattle.pld_machine.specs.Comparison.{SameCells}
 
 -- at a point and the one seen for it, the same cells are enabled and the same registers reset and preset; and
 -- `s` allows an enabled cell's levels and a register's next Qs that `d` allows
@@ -38,10 +32,3 @@ pub record RefinesThrough (d s : Logic) (Sees : Levels → Levels → Type 0) : 
       → (seen : Levels) × Sees at seen
   pub seen : (at seen : Levels) → Sees at seen → IsSeenBy s at seen
   pub allows : (at seen : Levels) → Sees at seen → AllowsAt d s at seen
-
--- the points of the second list are seen for those of the first, one for one
-abbrev pub AreSeen : (Levels → Levels → Type 0) → List Levels → List Levels → Type 0
-AreSeen Sees [] [] = Unit {0}
-AreSeen Sees (at ∷ points) (seen ∷ others) = Sees at seen × AreSeen Sees points others
-AreSeen Sees [] (seen ∷ others) = ⊥
-AreSeen Sees (at ∷ points) [] = ⊥

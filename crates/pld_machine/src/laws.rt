@@ -1,11 +1,11 @@
 //! Laws of all logics, as the contracts of calls that do nothing.
 
 ghost use Rattle.pld_machine.specs.Prelude.{Logic};
-ghost use Rattle.pld_machine.specs.Comparison.{DoesTheSame, RefinesValued, NodeValues, HasNoNodes, SameValues};
+ghost use Rattle.pld_machine.specs.Comparison.{DoesTheSame, NodeValues};
+ghost use Rattle.pld_machine.specs.Refines.{RefinesValued, HasNoNodes, SameValues, Refines, HasRestsOf, HasStepsOf, HasRunsOf};
 ghost use Rattle.pld_machine.specs.ExchangeLaws.{ExchangedLookups, ExchangedRefines, ExchangedValues, ExchangedRests, ExchangedRuns, ExchangedSteps};
 ghost use Rattle.pld_machine.specs.Lookups.{Lookups, logic_of};
 ghost use Rattle.pld_machine.specs.Order.{IsOrdered};
-ghost use Rattle.pld_machine.specs.Refines.{Refines, HasRestsOf, HasStepsOf, HasRunsOf};
 ghost use Rattle.pld_machine.specs.Steps.{IsDetermined, RestsOnce, RunsOnce};
 
 /// A logic in order comes to rest, steps and runs in exactly one way, from every state. Does nothing.

@@ -1,7 +1,8 @@
 -- The netlist of a module and the module have the same one values with any as 0.
 use Rattle.std.proofs.Common.{◌≡◌, ℕ, ◌<◌, Bool, true, false, not, List, [], ◌∷◌, map, length, Option, Some, None, refl, sym, subst, ap, ◌∙◌, inl, inr}
 use Rattle.source_machine.proofs.Common.{option_map, cases_Bool, same_level, Levels, IsPoint, Refines, IsDevice, complement_if, Table, cell_at, formula_value, ModuleTree, signal_on, cell_stores, cell_stores_for, Design, design_of, name_at, function_of, is_raw_signal, value_with_any_0, Wanted, PlainNetlist, function_at, wanted_at, drives, given_formulas, is_negated, logic_with_any_0, next_allows, node_allows, node_signal, node_value_by, pin_allows, q_complements, takes_any_as_0, MeansTheSame, netlist_of, wanted_for, data_with_any_0, level_with_any_0, next_with_any_0, netlist_with_any_0, AllowTheSame, GatheredAs0}
-use Rattle.pld_machine.specs.Through.{SameCells, AllowsAt}
+use Rattle.pld_machine.specs.Through.{AllowsAt}
+use Rattle.pld_machine.specs.Comparison.{SameCells}
 use Rattle.abel_tree.specs.Entries.{is_stored, follows_q}
 use Rattle.abel_meaning.specs.AtPoints.{truth_at, given_at}
 use Rattle.abel_meaning.specs.Contributions.{Contribution}
