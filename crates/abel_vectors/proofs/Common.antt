@@ -32,6 +32,7 @@ pub use Rattle.truth_tables.specs.EntryTerms.{IsOver}
 pub use Rattle.truth_tables.specs.RowEntries.{entry_refused, unless_met}
 pub use Rattle.abel_vectors.specs.{AnswersVectors, Finds, FindsRows, FindsSection, IsAnswer, IsFound, IsReadAs, IsRowRead, IsRowVector, NamesPins, NothingFound}
 pub use Rattle.abel_vectors.specs.{all_given, all_read, all_vectors_refused, char_for, chars_for, chars_read, disagree, entries_refused, fault_in, found_at}
-pub use Rattle.abel_vectors.specs.{header_refused, header_term, if_none, is_pin_or_unknown, marks_refused, names_pins, one_too_many, pin_of, position_gives}
+pub use Rattle.abel_vectors.specs.{header_refused, header_term, is_pin_or_unknown, marks_refused, names_pins, one_too_many, pin_of, position_gives}
+pub use Rattle.truth_tables.specs.TableUnits.{if_none}
 pub use Rattle.abel_vectors.specs.{pulse_read, refused_behind, row_refused, rows_refused, side_refused, tests_pulse, vectors_refused, view_vectors}
 pub use Rattle.abel_vectors.specs.declared.finding.Found.{Found}

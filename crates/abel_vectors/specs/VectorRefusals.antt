@@ -5,6 +5,7 @@ use Rattle.abel_vectors.specs.Prelude.{list_all, list_any, Place, Entry, Kind, A
 use Rattle.set_expr.specs.declared.fault.SectionFault.TheVariants.{BadVector}
 use Rattle.std.specs.Option.{is_none, is_some}
 use Rattle.truth_tables.specs.HeaderSignals.{names_positions}
+use Rattle.truth_tables.specs.TableUnits.{if_none}
 
 -- ---- headers
 
@@ -86,10 +87,6 @@ marks_refused d inputs outputs row =
 abbrev pub entries_refused : Context → (inputs outputs : Term) → RowTree → List SectionFault
 entries_refused d inputs outputs row =
     entry_refused d (BadVector row.place) inputs row.inputs ++ entry_refused d (BadVector row.place) outputs row.outputs
-
-abbrev pub if_none : List SectionFault → List SectionFault → List SectionFault
-if_none [] more = more
-if_none (x ∷ xs) more = x ∷ xs
 
 abbrev pub row_refused : Context → (inputs outputs : Term) → RowTree → List SectionFault
 row_refused d inputs outputs row =

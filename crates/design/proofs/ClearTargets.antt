@@ -93,10 +93,6 @@ header_aimed s [] = refl
 header_aimed s (None ∷ xs) = header_aimed s xs
 header_aimed s (Some a ∷ xs) = ap (λ b. (a.signal == s) || b) (header_aimed s xs)
 
-outputs_clear : (rs more : List SectionFault) → tables.if_none rs more ≡ [] → (rs ≡ []) × (more ≡ [])
-outputs_clear [] more h = (refl, h)
-outputs_clear (r ∷ rs) more h = absurd cc
-
 table_header_clear : (rs : List SectionFault) (p : Place) (us : List CountedUnit) → units_refused (tables.units_behind rs p us) ≡ [] → rs ≡ []
 table_header_clear [] p us h = refl
 table_header_clear (r ∷ rs) p us h = absurd cc
@@ -106,7 +102,7 @@ pub table_output : (d : Context) (s : ℕ) (ks : List Named) (within : IsWithin 
 table_output d s ks within before p inputs k outputs rows h a =
     let x = output_header d outputs in
     let us = row_units d k (term_of d.known inputs) (term_of d.known outputs) rows (table_units d inputs rows) in
-    let parts = outputs_clear x.refusals (aims_refused d before None false k (some_aims x.outputs))
+    let parts = both_clear x.refusals (aims_refused d before None false k (some_aims x.outputs))
     (right_empty (expression_found d.names inputs).refusals (outputs_refused d before k x) (table_header_clear (header_refused d before k inputs outputs) p us h)) in
     aimed_output d s before None false k (some_aims x.outputs) parts.1
     (sym (header_aimed s x.outputs) ∙ ap (λ ts. among s (some_signals ts)) (sym (header_signals d outputs parts.0)) ∙ within outputs (sym (assigned_among s k (signals_of ks outputs)) ∙ a))

@@ -94,7 +94,8 @@ pub use Rattle.set_expr.specs.declared.fault.SectionFault.TheVariants.{NotAnOutp
 pub use Rattle.source_sections.specs.SectionUnits.{section_manners, units_of_section, units_of_sections}
 pub use Rattle.state_diagrams.specs.DiagramUnits.{branch_manners, register_manners, registers_refused, state_guard, state_manners, units_behind}
 pub use Rattle.state_diagrams.specs.DiagramUnits.{units_of_branch, units_of_branches, units_of_choices, units_of_diagram, units_of_other, units_of_states}
-pub use Rattle.state_diagrams.specs.StateValues.{if_none, listed_after}
+pub use Rattle.state_diagrams.specs.StateValues.{listed_after}
+pub use Rattle.truth_tables.specs.TableUnits.{if_none}
 pub use Rattle.design.specs.{AllLeadNowhere, AnyPlace, AreSignals, AssignedAreOnCells, AssignedHaveData, FreeMayChoose, HasBareHeader, HasNoRefusal}
 pub use Rattle.design.specs.{HasSoundDeclarations, HasSoundSections, HaveBareHeaders, IsAccepted, IsChainTold, IsDesignRefused, IsFirstFound, IsFirstOf}
 pub use Rattle.design.specs.{IsFirstPath, IsFoundOf, IsGathered, IsLinkedDesign, IsPathOf, IsResetAt, IsResetOf, IsUnrefused, LeadsNowhereAt, NamesAreAccepted}

@@ -82,7 +82,8 @@ pub use Rattle.state_diagrams.specs.{AreRegisters, BuildsConditions, IsState, Ma
 pub use Rattle.state_diagrams.specs.{WalksStates, WalksUnder, WalksUnit, WalksValue, WalksWithin, WalksWork, aims_places, all_zero, arm_guards, bare_read}
 pub use Rattle.state_diagrams.specs.{branch_manners, branch_work, branches_manners, branches_work, case_arms, case_choices, case_place, case_unit}
 pub use Rattle.state_diagrams.specs.{choices_manners, choices_refused, choices_work, context_of_machine, diagram_manners, given_by, goal_parts, goal_places}
-pub use Rattle.state_diagrams.specs.{goal_unit, goal_work, header_work, if_none, is_among, listed_after, listed_if, listed_with, manners_behind, no_block}
+pub use Rattle.state_diagrams.specs.{goal_unit, goal_work, header_work, is_among, listed_after, listed_if, listed_with, manners_behind, no_block}
+pub use Rattle.truth_tables.specs.TableUnits.{if_none}
 pub use Rattle.state_diagrams.specs.{number_guard, other_branch_places, other_manners, other_places, other_signal, others_work, places_by, pushed_beside}
 pub use Rattle.state_diagrams.specs.{pushed_for, pushed_if, regarded, register_literal, register_manners, registers_refused, seen_if, signals_of, state_bit}
 pub use Rattle.state_diagrams.specs.{state_bits, state_guard, state_manners, state_number, state_places, state_refused, state_unit, state_work, states_manners}

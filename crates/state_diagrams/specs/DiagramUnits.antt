@@ -2,7 +2,8 @@
 -- diagrams; units are this project's rule).
 use Rattle.std.specs.Prelude.{ℕ, true, false, None, List, [], ◌∷◌, ◌++◌, length, map}
 use Rattle.state_diagrams.specs.Prelude.{Place, Made, Formula, Const, Tree, statements_of, Branch, AGoal, AnIf, ACase, OtherBranch, NoBranch, ABranch, Choices, NoChoice, MoreChoices, StateTree, register_literals, choices_nodes, has_other, value_nodes, choice_nodes, condition_of, guard_then, guard_else, Context, with_statements, digits, SectionFault, expression_found, Aim, Manner, manner_of, aims_refused, TargetFound, target_member, CountedUnit, value_refused, assigned_aims, condition_refused, statements_manners, units_of_statements}
-use Rattle.state_diagrams.specs.StateValues.{if_none, listed_after, state_number, state_refused}
+use Rattle.state_diagrams.specs.StateValues.{listed_after, state_number, state_refused}
+use Rattle.truth_tables.specs.TableUnits.{if_none}
 
 -- ---- the header
 

@@ -7,11 +7,7 @@ use Rattle.set_expr.specs.declared.fault.SectionFault.TheVariants.{BadState}
 use Rattle.set_expr.specs.Refusals.{Found}
 use Rattle.pld_base.specs.Points.{Levels, levels_of}
 use Rattle.state_diagrams.specs.declared.values.StateFound.{StateFound}
-
--- the second refusals where there are none of the first
-abbrev pub if_none : List SectionFault → List SectionFault → List SectionFault
-if_none [] more = more
-if_none (x ∷ xs) more = x ∷ xs
+use Rattle.truth_tables.specs.TableUnits.{if_none}
 
 abbrev pub is_empty : List SectionFault → Bool
 is_empty [] = true

@@ -9,6 +9,7 @@ use Rattle.truth_tables.specs.OutputHeaders.{HeaderFound, output_header}
 abbrev pub some_aims : List (Option Aim) → List Aim
 some_aims xs = filter_map (λ (x : Option Aim). x) xs
 
+-- the second refusals where there are none of the first
 abbrev pub if_none : List SectionFault → List SectionFault → List SectionFault
 if_none [] more = more
 if_none (x ∷ xs) more = x ∷ xs
