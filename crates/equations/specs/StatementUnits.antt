@@ -7,6 +7,7 @@ use Rattle.abel_tree.specs.Assigned.{target_extension, is_clocked}
 use Rattle.abel_tree.specs.declared.words.Sign.{Sign}
 use Rattle.abel_tree.specs.declared.words.Extension.{Extension}
 use Rattle.section_targets.specs.declared.aim.Aim.{Aim}
+use Rattle.section_targets.specs.Given.{places_of}
 
 -- ---- conditions and assignments
 
@@ -59,9 +60,6 @@ abbrev mutual
   statements_manners d (MoreStatements s ss) = statement_manners d s ++ statements_manners d ss
 
 -- the places of the signals that statements assign, in order
-abbrev pub places_of : List Aim → List Place
-places_of aims = map (λ (a : Aim). a.place) aims
-
 abbrev mutual
   pub statement_places : Context → Statement → List Place
   statement_places d (AnAssign place complement target sign q value) =

@@ -64,7 +64,7 @@ others_walk d h xs all ms ss ids old mid new clear walks bits e =
 header_signals : (xs : List Aim) → header.signals_of (map Some xs) ≡ map Some (signals_of xs)
 header_signals xs = map-map (λ (x : Option Aim). option_map (λ (a : Aim). a.signal) x) Some xs ∙ sym (map-map Some (λ (a : Aim). a.signal) xs)
 
-header_places : (xs : List Aim) → tables.places_of (tables.some_aims (map Some xs)) ≡ places_of xs
+header_places : (xs : List Aim) → places_of (tables.some_aims (map Some xs)) ≡ places_of xs
 header_places [] = refl
 header_places (x ∷ xs) = ap (λ ps. x.place ∷ ps) (header_places xs)
 
@@ -73,10 +73,10 @@ header_aims [] = refl
 header_aims (x ∷ xs) = ap (λ ys. x ∷ ys) (header_aims xs)
 
 pub header_there : (d : Context) (h : meant.Guard Formula) (xs : List Aim) (outputs : List (Option Aim)) (old new : Contributions) (r : Result Unit SectionFault) → outputs ≡ map Some xs
-    → Builds [] (no_matches (formulas d) d h false true (header.signals_of outputs)) (tables.places_of (tables.some_aims outputs)) old new r → DoesWork (header_work d h xs) old new r
+    → Builds [] (no_matches (formulas d) d h false true (header.signals_of outputs)) (places_of (tables.some_aims outputs)) old new r → DoesWork (header_work d h xs) old new r
 header_there d h xs outputs old new r e b =
     subst₂ (λ ss ps. Builds [] (no_matches (formulas d) d h false true ss) ps old new r) (ap header.signals_of e ∙ header_signals xs)
-    (ap (λ ys. tables.places_of (tables.some_aims ys)) e ∙ header_places xs) b
+    (ap (λ ys. places_of (tables.some_aims ys)) e ∙ header_places xs) b
 
 -- registers of which nothing is refused are those of their term
 registers_clear : (rs more : List SectionFault) → if_none rs more ≡ [] → rs ≡ []

@@ -67,7 +67,7 @@ pub use Rattle.section_targets.proofs.OneUnit.{one_unit, two_parts}
 pub use Rattle.section_targets.proofs.OverNames.{found_in}
 pub use Rattle.section_targets.proofs.WalksBehind.{both_clear, walks_alike, walks_made, walks_none, walks_then}
 pub use Rattle.section_targets.specs.Building.{AreBits, Builds, BuildsNodes, IsBit, IsBuilt, StopsWith}
-pub use Rattle.section_targets.specs.Given.{AreNamed}
+pub use Rattle.section_targets.specs.Given.{AreNamed, places_of}
 pub use Rattle.section_targets.specs.Manners.{AreFirsts, aims_refused, manner_of}
 pub use Rattle.section_targets.specs.Units.{CountedUnit, part, units_refused}
 pub use Rattle.section_targets.specs.Walking.{AfterMaking, Walks, standing}
@@ -102,7 +102,7 @@ pub use Rattle.truth_tables.specs.{header_of, header_range, header_refused, head
 pub use Rattle.truth_tables.specs.{is_computed, is_number, is_operand, is_plain, is_pulse_named, is_set, kind_signs, level_refused, levels_of, listing}
 pub use Rattle.truth_tables.specs.{literals, matched_guard, meeting, meets, meets_whole, member_holds_pulse, member_refused_inside, named_outputs, names_left}
 pub use Rattle.truth_tables.specs.{names_positions, names_refused, no_matches_work, nodes_at, nodes_left, nothing, output_header, output_member, output_members}
-pub use Rattle.truth_tables.specs.{outputs_at, outputs_refused, paired, part_parts, places_by, places_for, places_of, position_literal, refused_header}
+pub use Rattle.truth_tables.specs.{outputs_at, outputs_refused, paired, part_parts, places_by, places_for, position_literal, refused_header}
 pub use Rattle.truth_tables.specs.{refused_inside, row_places, row_refused, row_units, row_work, rows_places, rows_work, seen, signals_of, signs_left}
 pub use Rattle.truth_tables.specs.{some_aims, steps_left, steps_up_to, term_parts, terms_parts, units_behind, units_of, units_of_table, unless_met}
 pub use Rattle.truth_tables.specs.{unless_refused, up_to, view_mark}

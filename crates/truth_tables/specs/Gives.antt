@@ -5,7 +5,8 @@ use Rattle.abel_meaning.specs.Contributions.{contribution}
 use Rattle.abel_meaning.specs.Contributions as meant
 use Rattle.set_expr.specs.declared.contributions.Gives.{Gives}
 use Rattle.set_expr.specs.declared.contributions.Gives.TheVariants as gives
-use Rattle.truth_tables.specs.TableUnits.{some_aims, places_of, row_places}
+use Rattle.truth_tables.specs.TableUnits.{some_aims, row_places}
+use Rattle.section_targets.specs.Given.{places_of}
 use Rattle.truth_tables.specs.declared.giving.Assigning.{Assigning}
 
 -- the signals of positions, none at X

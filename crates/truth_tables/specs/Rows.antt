@@ -5,7 +5,8 @@ use Rattle.truth_tables.specs.Prelude.{ExprId, Node, arena, formula_at, Formula,
 use Rattle.bit_expr.specs.Folding.{Made, free}
 use Rattle.set_expr.specs.declared.shaped.Shaped.{Shaped}
 use Rattle.abel_meaning.specs.Contributions as meant
-use Rattle.truth_tables.specs.TableUnits.{row_places, row_refused, row_units, rows_places, places_of, some_aims}
+use Rattle.truth_tables.specs.TableUnits.{row_places, row_refused, row_units, rows_places, some_aims}
+use Rattle.section_targets.specs.Given.{places_of}
 use Rattle.truth_tables.specs.declared.checked_rows.RowFound.{RowFound}
 use Rattle.truth_tables.specs.Gives.{signals_of}
 use Rattle.truth_tables.specs.Works.{Work, before, given_freely}

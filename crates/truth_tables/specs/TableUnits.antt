@@ -4,6 +4,7 @@ use Rattle.std.specs.Prelude.{ℕ, Bool, false, Option, None, Some, List, [], �
 use Rattle.truth_tables.specs.Prelude.{filter_map, Place, Tree, RowTree, differ, table_units, Context, entry_levels, Term, term_of, SectionFault, BadRow, names_found, expression_found, Aim, Manner, manner_of, aims_refused, CountedUnit}
 use Rattle.truth_tables.specs.RowEntries.{holds_pulse, entry_refused}
 use Rattle.truth_tables.specs.OutputHeaders.{HeaderFound, output_header}
+use Rattle.section_targets.specs.Given.{places_of}
 
 -- the outputs alone
 abbrev pub some_aims : List (Option Aim) → List Aim
@@ -86,10 +87,6 @@ abbrev pub rows_places : Context → List (Option Aim) → (outputs : Term) → 
 rows_places d xs outputs [] = []
 rows_places d xs outputs (row ∷ rows) =
     row_places xs (entry_levels d outputs (term_of d.known row.outputs)) ++ rows_places d xs outputs rows
-
-abbrev pub places_of : List Aim → List Place
-places_of [] = []
-places_of (a ∷ aims) = a.place ∷ places_of aims
 
 abbrev pub table_places : Context → (outputs : Tree) → List RowTree → List Place
 table_places d outputs rows =
