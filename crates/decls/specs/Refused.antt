@@ -6,7 +6,7 @@ use Rattle.abel_tree.specs.declared.words.Span.{Span}
 use Rattle.decls.specs.declared.fault.NameFault.{NameFault}
 use Rattle.decls.specs.declared.fault.NameFault.TheVariants as fault
 use Rattle.decls.specs.NamesBefore.{names_behind, added, words_of_names}
-use Rattle.abel_meaning.specs.SignalPins.{is_taken}
+use Rattle.abel_meaning.specs.SignalPins.{is_signal_pin, is_taken}
 use Rattle.decls.specs.Attributes.{strings_refused}
 
 abbrev pub refused_if : Bool → NameFault → List NameFault
