@@ -1,0 +1,1 @@
+"""Old ABEL-HDL sources, rewritten into the language of `abel`."""

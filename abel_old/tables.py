@@ -1,0 +1,71 @@
+"""The rewritings that need no function: what is found, what is written, and what is said."""
+
+GONE = 'no effect'
+STANDARD = 'operators are written in the standard set'
+
+# A directive without effect: what goes with the word, and why it may go.
+DIRECTIVES = {
+    '@ALTERNATE': ('a ;', STANDARD), '@STANDARD': ('a ;', STANDARD), '@PAGE': ('a ;', GONE),
+    '@DCSTATE': ('a ;', GONE), '@CARRY': ('all to ;', GONE), '@SETSIZE': ('all to ;', GONE),
+    '@MESSAGE': ('a string', 'a message'),
+}
+
+# An operator of the alternate set, and that of the standard set.
+OPERATORS = {'/': '!', '*': '&', '+': '#', ':+:': '$', ':*:': '!$'}
+
+# Reserved words that were names before ABEL 4, and the words that begin a section.
+RESERVED = {'ASYNC_RESET', 'EXTERNAL', 'FUNCTIONAL_BLOCK', 'FUSES', 'IN', 'INTERFACE', 'LIBRARY',
+            'PROPERTY', 'STATE_REGISTER', 'SYNC_RESET', 'TRACE', 'XOR_FACTORS'}
+HEADERS = {'EQUATIONS', 'TRUTH_TABLE', 'STATE_DIAGRAM', 'TEST_VECTORS', 'DECLARATIONS', 'END',
+           'MODULE'}
+SECTIONS = HEADERS | {'FUSES', 'XOR_FACTORS', 'TRACE'}
+
+# A part of a source that goes: why, and whether that is a loss.
+PARTS = {
+    'TRACE': ('it only chose what a listing shows', False),
+    'XOR_FACTORS': ('a hint to the minimiser', False),
+    'FUSES': ("fuses can't be set here (NOT_HERE.md)", True),
+    'PROPERTY': ('a fitter of another chip read it', True),
+}
+
+# The devices that stay as they are.
+DEVICES = {'P16L8', 'P16R4', 'P16R6', 'P16R8', 'P22V10', 'GAL22V10', 'GAL16V8C', 'GAL16V8R4',
+           'GAL16V8R6', 'GAL16V8R8'}
+# What is left of a part's number without maker, grade and package; what is written, what is said.
+COUNTERPARTS = [
+    (r'16L8|16R[468]', r'P\g<0>', ''),
+    (r'16RP([468])', r'GAL16V8R\1', 'a GAL16V8 takes its place'),
+    (r'10L8|12L6|14L4|16L2', 'P16L8', 'the PAL16L8 has its pins'),
+    (r'10H8|12H6|14H4|16H2|16H8|16P8|18P8', 'GAL16V8C', 'a GAL16V8 takes its place'),
+    (r'12L10|14L8|16L6|18L4|20L2|20L8|20L10|20R[468]|20V8|20P8|20RP[468]', 'GAL22V10',
+     'it has the pins of a %s: program a 22V10'),
+]
+# The pin of the 24-pin package for each connected pin of the 28-pin package.
+PLCC = dict(zip([2, 3, 4, 5, 6, 7, 9, 10, 11, 12, 13, 14, 16, 17, 18, 19, 20, 21, 23, 24, 25, 26,
+                 27, 28], range(1, 25)))
+UNCONNECTED = {1, 8, 15, 22}
+# The old numbers of the nodes of a 22V10, in both packages.
+NODES = {25: '.AR', 26: '.SP', 29: '.AR', 30: '.SP'}
+
+# An attribute, and what is written for it.
+ATTRIBUTES = {word: word for word in 'reg_d reg com buffer invert dc pos neg keep collapse '
+              'retain'.split()}
+ATTRIBUTES.update(dict.fromkeys('reg_t reg_jk reg_sr reg_g reg_jkd'.split(), 'reg'))
+ATTRIBUTES.update(dict.fromkeys('feed_pin feed_reg feed_or xor share eqn fuse pin'.split(), ''))
+
+# An extension, and what is written for it on a 22V10.
+EXTENSIONS = {'.C': '.CLK', '.ACLR': '.AR', '.RE': '.AR', '.PR': '.SP'}
+# An extension that only other devices have, and what these have in its place.
+NO_EXTENSIONS = {
+    '.AP': 'only a preset at the clock, .SP (NOT_HERE.md)',
+    '.ASET': 'only a preset at the clock, .SP (NOT_HERE.md)',
+    '.LE': 'no latches (HAZARDS.md, Latches)', '.LH': 'no latches (HAZARDS.md, Latches)',
+    '.L': 'no latches (HAZARDS.md, Latches)',
+    '.LD': 'no such input (NOT_HERE.md)', '.FC': 'no such input (NOT_HERE.md)',
+}
+INPUTS = {'.T', '.J', '.K', '.S', '.R'}           # of registers that aren't D registers
+CONTROLS = {'.OE', '.CLK', '.C', '.AR', '.SP', '.RE', '.PR', '.ACLR', '.ASET', '.AP', '.CE', '.SR',
+            '.CLR', '.SET'}
+
+# A special of test vectors, and the levels of the rows that are written for it.
+EDGES = {'.K.': '101', '.U.': '01', '.D.': '10'}

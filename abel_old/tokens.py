@@ -1,0 +1,110 @@
+"""The text as tokens, each with the blanks and comments before it."""
+from __future__ import annotations
+
+import re
+from typing import Iterable
+
+TOKEN = re.compile(r"""
+  (?P<str>'(?:\\.|[^'\\])*'?)
+| (?P<dir>@[A-Za-z_]\w*)
+| (?P<spec>\.[Ss][Vv]\d\.|\.[A-Za-z]\.)
+| (?P<op>\?:=|:\+:|:\*:|\?=|:=|->|:>|!\$|==|!=|<=|>=|<<|>>|\.\.)
+| (?P<ext>\.(?:[A-Za-z_~]|\?[A-Za-z_])[\w~?]*)
+| (?P<num>\^[bodhBODH][\w?]+|\d(?:\w|\?[A-Za-z_])*)
+| (?P<id>(?:[A-Za-z_~]|\?[A-Za-z_~])(?:[\w~]|\?[A-Za-z_~])*)
+| (?P<one>.)
+""", re.X | re.S | re.A)
+BLANKS = re.compile(r'(?:[ \t\r\n\f\x1a]+|"[^"\n]*"?|//[^\n]*)*')
+COMMENT = re.compile(r'"[^"\n]*"?|//[^\n]*')
+APART = re.compile(r'["\n]|//')          # blanks with a line end or a comment in them
+SIGNS = {'=', ':=', '?=', '?:='}
+
+
+class Stop(Exception):
+    """The source can't be read on."""
+
+
+class Token:
+    """`text` is never changed; `before`, `out` and `after` are what is written in its place."""
+    __slots__ = ('kind', 'text', 'word', 'blanks', 'line', 'file', 'before', 'out', 'after',
+                 'alternate', 'radix', 'at')
+
+    def __init__(self, kind: str, text: str, blanks: str, line: int, file: str = '') -> None:
+        self.kind, self.text, self.blanks, self.line, self.file = kind, text, blanks, line, file
+        self.word = text.upper() if kind in ('id', 'ext', 'dir', 'spec') else text
+        self.before, self.out, self.after = '', text, ''
+        self.alternate, self.radix, self.at = False, 10, 0
+
+    @property
+    def untouched(self) -> bool:
+        return self.out == self.text
+
+    def join(self) -> None:
+        """Takes the blanks before it away, unless a line end or a comment is in them."""
+        if not APART.search(self.blanks):
+            self.blanks = ''
+
+
+def cut(text: str, file: str = '') -> list[Token]:
+    tokens: list[Token] = []
+    place, line = 0, 1
+    while True:
+        found = BLANKS.match(text, place)
+        blanks = found.group() if found else ''
+        place += len(blanks)
+        line += blanks.count('\n')
+        token = TOKEN.match(text, place)
+        if not token:
+            tokens.append(Token('eof', '', blanks, line, file))
+            return tokens
+        kind = token.lastgroup or ''
+        tokens.append(Token('op' if kind == 'one' else kind, token.group(), blanks, line, file))
+        line += token.group().count('\n')
+        place = token.end()
+
+
+def raw(tokens: Iterable[Token]) -> str:
+    """The old text, without the blanks before its first token."""
+    return ''.join((x.blanks if k else '') + x.text for k, x in enumerate(tokens))
+
+
+def written(tokens: Iterable[Token]) -> str:
+    """The new text, without the blanks before its first token."""
+    return ''.join((x.blanks if k else '') + x.before + x.out + x.after
+                   for k, x in enumerate(tokens))
+
+
+def squeeze(tokens: Iterable[Token]) -> str:
+    """The old text as the report shows it: in one line, without comments, not too long."""
+    text = raw(tokens)
+    text = text if "'" in text else COMMENT.sub(' ', text)
+    text = re.sub(r'\s+', ' ', text).strip()
+    return text if len(text) <= 90 else text[:60] + ' .. ' + text[-24:]
+
+
+def number(token: Token) -> int | None:
+    """The value of a number in the radix that holds at it."""
+    try:
+        if token.text[:1] == '^':
+            return int(token.text[2:], {'b': 2, 'o': 8, 'd': 10, 'h': 16}[token.text[1].lower()])
+        return int(token.text, token.radix)
+    except ValueError:
+        return None
+
+
+def numeral(value: int, token: Token) -> str:
+    """The value as a number that is read alike in the radix that holds at the token."""
+    return str(value) if value < 2 or token.radix == 10 else '^d%d' % value
+
+
+def split(tokens: Iterable[Token]) -> list[list[Token]]:
+    """The parts between the commas outside of brackets; empty parts are left out."""
+    parts: list[list[Token]] = [[]]
+    depth = 0
+    for x in tokens:
+        depth += (x.text in ('(', '[')) - (x.text in (')', ']'))
+        if x.text == ',' and depth == 0:
+            parts.append([])
+        else:
+            parts[-1].append(x)
+    return [part for part in parts if part]
