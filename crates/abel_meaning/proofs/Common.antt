@@ -26,7 +26,7 @@ pub use Rattle.abel_meaning.specs.Functions.{is_both, is_complement, is_data_in,
 pub use Rattle.abel_meaning.specs.Numbers.{Number, Set, Shape, Single, Value, digits, digits_low_first, either_unknown, kept, meeting, member_width, met}
 pub use Rattle.abel_meaning.specs.Numbers.{met_number, met_unknown, number_with, one_bit, width_of, zipped}
 pub use Rattle.abel_meaning.specs.SignalReads.{given_formulas}
-pub use Rattle.abel_meaning.specs.Sources.{Held, Source, Zero, source_of, source_value}
+pub use Rattle.abel_meaning.specs.Sources.{LeafRead, Source, Zero, source_of, source_value}
 pub use Rattle.abel_meaning.specs.Terms.{Term, Terms, term_of}
 pub use Rattle.abel_meaning.specs.Values.{binary_by, binary_value, compares, compares_kept, computes, computes_numbers, constant_of, is_relation, joined_value}
-pub use Rattle.abel_meaning.specs.Values.{nowhere, operator_number, set_value, term_value, unary_number, unary_value}
+pub use Rattle.abel_meaning.specs.Values.{empty_point, operator_number, set_value, term_value, unary_number, unary_value}

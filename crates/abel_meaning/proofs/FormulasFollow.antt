@@ -1,6 +1,6 @@
 -- The formulas of all terms follow their values, and so the formulas of a module follow its contributions.
 use Rattle.std.proofs.Common.{◌≡◌, ℕ, ◌+◌, ◌-◌, ◌*◌, ◌%◌, ◌^◌, ◌<◌, Bool, false, not, List, [], ◌∷◌, ◌++◌, map, reverse, refl, sym, ap, ap₂, subst, subst₂, ◌∙◌, arith, pow_pos}
-use Rattle.abel_meaning.proofs.Common.{map-append, pow-add, mod-eq_of_lt, mod-lt, mul-le-mul_right, Levels, Term, Terms, Context, Design, source_of, source_value, Shape, Number, Single, Set, width_of, member_width, Value, met_number, met, digits_low_first, number_with, term_value, set_value, constant_of, nowhere, is_relation, binary_value, unary_number, unary_value, joined_value, Const, formula_value, Word, unary_word, each_not, met_word, bits_of, bits_of_all, formulas, truth_at, given_at, given_formulas, Follows, seen, not_value, and_value, or_value}
+use Rattle.abel_meaning.proofs.Common.{map-append, pow-add, mod-eq_of_lt, mod-lt, mul-le-mul_right, Levels, Term, Terms, Context, Design, source_of, source_value, Shape, Number, Single, Set, width_of, member_width, Value, met_number, met, digits_low_first, number_with, term_value, set_value, constant_of, empty_point, is_relation, binary_value, unary_number, unary_value, joined_value, Const, formula_value, Word, unary_word, each_not, met_word, bits_of, bits_of_all, formulas, truth_at, given_at, given_formulas, Follows, seen, not_value, and_value, or_value}
 use Rattle.abel_meaning.specs.Terms as term
 use Rattle.abel_tree.specs.declared.words.Unary.TheVariants as unary
 use Rattle.abel_tree.specs.declared.words.Unary.{Unary}
@@ -65,7 +65,7 @@ joined_agrees at c1 cr n r xs ys has low e =
           ∙ sym (digits_joined (member_width c1.shape) (width_of cr.shape) n r low);
     }
 
-as_set : (d : Context) (at : Levels) (ts : Terms) (bs : List Bool) → SetAgrees (set_value d nowhere ts) (set_value d at ts) bs → Agrees (set_value d nowhere ts) (set_value d at ts) bs
+as_set : (d : Context) (at : Levels) (ts : Terms) (bs : List Bool) → SetAgrees (set_value d empty_point ts) (set_value d at ts) bs → Agrees (set_value d empty_point ts) (set_value d at ts) bs
 as_set d at term.NoTerm bs p = record { same = p.same; has = (p.small, p.bits) }
 as_set d at (term.Before t ts) bs p = record { same = p.same; has = (p.small, p.bits) }
 
@@ -95,13 +95,13 @@ mutual
       subst₂ (λ (v w : Value). Agrees (binary_value sign (constant_of d t) (constant_of d u)) (binary_value sign v w) (map (formula_value at) (bits_of d (term.BinaryOf sign t u)).what)) (sym p.same) (sym q.same)
       (binary_agrees at (is_relation sign) sign (constant_of d t) (constant_of d u) (term_value d at t).number (term_value d at u).number (bits_of d t).what (bits_of d u).what p.has q.has)
 
-  terms_agree : (d : Context) (at : Levels) (ts : Terms) → SetAgrees (set_value d nowhere ts) (set_value d at ts) (map (formula_value at) (bits_of_all d ts).what)
+  terms_agree : (d : Context) (at : Levels) (ts : Terms) → SetAgrees (set_value d empty_point ts) (set_value d at ts) (map (formula_value at) (bits_of_all d ts).what)
   terms_agree d at term.NoTerm = record { same = refl; small = omega arith; bits = refl }
   terms_agree d at (term.Before t ts) =
       let p = term_agrees d at t in
       let q = terms_agree d at ts in
-      subst₂ (λ (v w : Value). SetAgrees (joined_value (constant_of d t) (set_value d nowhere ts)) (joined_value v w) (map (formula_value at) (bits_of_all d (term.Before t ts)).what)) (sym p.same) (sym q.same)
-      (joined_agrees at (constant_of d t) (set_value d nowhere ts) (term_value d at t).number (set_value d at ts).number (bits_of d t).what (bits_of_all d ts).what p.has q.small q.bits)
+      subst₂ (λ (v w : Value). SetAgrees (joined_value (constant_of d t) (set_value d empty_point ts)) (joined_value v w) (map (formula_value at) (bits_of_all d (term.Before t ts)).what)) (sym p.same) (sym q.same)
+      (joined_agrees at (constant_of d t) (set_value d empty_point ts) (term_value d at t).number (set_value d at ts).number (bits_of d t).what (bits_of_all d ts).what p.has q.small q.bits)
 
 -- the word of a term has its digits at every point
 pub word_follows : (d : Context) (at : Levels) (w : ℕ) (t : Term) → map (formula_value at) ((formulas d).word w t) ≡ (truth_at d at).word w t

@@ -1,6 +1,6 @@
 -- The bit formulas of a term have the value of its arithmetic, also where the term is refused.
 use Rattle.std.proofs.Common.{◌≡◌, ℕ, zero, suc, ◌+◌, ◌-◌, ◌*◌, ◌%◌, ◌^◌, ◌<◌, Bool, true, false, not, List, [], ◌∷◌, map, length, replicate, get_or, refl, sym, ap, ap₂, ◌∙◌, arith, ◌==◌}
-use Rattle.abel_meaning.proofs.Common.{Levels, Source, Zero, Held, source_value, Shape, Number, Single, Set, met_number, digits_low_first, one_bit, number_with, Formula, Const, Read, formula_value, make_source, met_by, resized, Word, each_not, difference_bits, not_value}
+use Rattle.abel_meaning.proofs.Common.{Levels, Source, Zero, LeafRead, source_value, Shape, Number, Single, Set, met_number, digits_low_first, one_bit, number_with, Formula, Const, Read, formula_value, make_source, met_by, resized, Word, each_not, difference_bits, not_value}
 use Rattle.abel_meaning.proofs.WordValues.{added, added_value, digits_of_sum, lowest_bit}
 use Rattle.abel_meaning.proofs.DigitLaws.{digits_mod, digits_spread, digits_resized, resized_bits, length_digits, digits_of_number, number_of_digits, complement_adds}
 
@@ -46,8 +46,8 @@ met_value at w (Set v) k n xs has =
 -- what is read
 pub source_formula : (at : Levels) (s : Source) → formula_value at (make_source s).what ≡ source_value at s
 source_formula at Zero = refl
-source_formula at (Held false leaf) = refl
-source_formula at (Held true leaf) = not_value at (Read leaf)
+source_formula at (LeafRead false leaf) = refl
+source_formula at (LeafRead true leaf) = not_value at (Read leaf)
 
 pub one_digit : (b : Bool) → b ∷ [] ≡ digits_low_first 1 (one_bit b)
 one_digit true = refl

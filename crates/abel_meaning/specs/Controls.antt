@@ -30,14 +30,14 @@ abbrev pub control_of : {W : Type 0} → Evaluator W → List (Contribution W) �
 control_of ev cs s e = control_by ev (filter (is_control s e) cs)
 
 -- the name is declared as this pin
-abbrev pub is_pin : ℕ → Kind → Bool
-is_pin pin (APin other negated) = other == pin
-is_pin pin _ = false
+abbrev pub is_on_pin : (pin : ℕ) → Kind → Bool
+is_on_pin pin (APin other negated) = other == pin
+is_on_pin pin _ = false
 
 -- the signal that is assigned on a cell, none where nothing is
 abbrev pub signal_on : Context → (cell : ℕ) → Option ℕ
 signal_on d c =
-    position (λ (x : Entry). x.assigned && is_pin (cell_at d.device c).pin x.kind) d.names
+    position (λ (x : Entry). x.assigned && is_on_pin (cell_at d.device c).pin x.kind) d.names
 
 -- a cell that nothing assigns stores where it can't be combinational
 abbrev pub must_register : Kinds → Bool

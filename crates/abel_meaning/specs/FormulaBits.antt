@@ -4,7 +4,7 @@ use Rattle.abel_meaning.specs.Prelude.{Leaf, Made, free, fresh, ◌>>=◌, make_
 use Rattle.abel_meaning.specs.Terms.{Term, Terms}
 use Rattle.abel_meaning.specs.Terms as term
 use Rattle.abel_meaning.specs.Designs.{Context}
-use Rattle.abel_meaning.specs.Sources.{Source, Zero, Held, source_of}
+use Rattle.abel_meaning.specs.Sources.{Source, Zero, LeafRead, source_of}
 use Rattle.abel_meaning.specs.Numbers.{Shape, Number, Single, Set, width_of, member_width, meeting, Value, met_unknown, either_unknown, digits_low_first}
 use Rattle.abel_meaning.specs.Values.{is_relation, constant_of}
 use Rattle.abel_meaning.specs.Contributions.{Evaluator}
@@ -18,7 +18,7 @@ make_held true leaf = fresh (Read leaf) >>= make_not
 -- what is read; the value 0 makes nothing
 abbrev pub make_source : Source → Made Formula
 make_source Zero = free (Const false)
-make_source (Held complement leaf) = make_held complement leaf
+make_source (LeafRead complement leaf) = make_held complement leaf
 
 -- the first w positions, filled with zeros
 abbrev pub resized : ℕ → Word → Word

@@ -4,18 +4,13 @@ use Rattle.std.specs.Prelude.{ℕ, ◌==◌, Bool, true, false, not, ◌&&◌, �
 use Rattle.abel_meaning.specs.Prelude.{list_any, Kinds, Combinational, Registered, Either, Table, pair_pins, cell_on, carries_cell, Extension, Kind, APin, ANode, Entry, is_stored}
 use Rattle.pld_device.specs.declared.cell.Cell.{Cell}
 use Rattle.abel_tree.specs.declared.words.Extension.TheVariants as extension
-use Rattle.abel_meaning.specs.Controls.{must_register}
+use Rattle.abel_meaning.specs.Controls.{must_register, is_on_pin}
 
 -- ---- names
 
 -- a pin that a name may have: not 0, ground, the supply or above
 abbrev pub is_signal_pin : Table → ℕ → Bool
 is_signal_pin t n = not (n == 0) && not (n == t.ground_pin) && nat_lt n t.pins
-
--- the name is declared as this pin
-abbrev pub is_on_pin : (pin : ℕ) → Kind → Bool
-is_on_pin n (APin pin negated) = pin == n
-is_on_pin n _ = false
 
 -- some name has this pin
 abbrev pub is_taken : List Entry → (pin : ℕ) → Bool

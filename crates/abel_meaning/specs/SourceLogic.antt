@@ -9,11 +9,11 @@ use Rattle.abel_meaning.specs.Functions.{Function, function_of, allows, value_wi
 use Rattle.abel_meaning.specs.Controls.{signal_on, cell_stores, cell_is_enabled, register_control}
 
 -- a set of values for the signals, as a test
-abbrev pub Choice : Type 0
-Choice = Function Bool → Bool → Bool
+abbrev pub FunctionReading : Type 0
+FunctionReading = Function Bool → Bool → Bool
 
 -- the one value that counts any as 0
-abbrev pub takes_any_as_0 : Choice
+abbrev pub takes_any_as_0 : FunctionReading
 takes_any_as_0 f value = same_level value (value_with_any_0 f)
 
 -- the pin is declared with `!`
@@ -22,18 +22,18 @@ is_negated (APin pin negated) = negated
 is_negated _ = false
 
 -- the values of a signal at the point
-abbrev pub signal_allows : Choice → Context → Levels → List (Contribution Bool) → ℕ → Bool → Bool
+abbrev pub signal_allows : FunctionReading → Context → Levels → List (Contribution Bool) → ℕ → Bool → Bool
 signal_allows choice d at cs s value = choice (function_of (truth_at d at) cs s) value
 
 -- the pin of a signal: its pin polarity where it is stored, else a value that the name may have
-abbrev pub assigned_level : Choice → Context → Levels → List (Contribution Bool) → (cell signal : ℕ)
+abbrev pub assigned_level : FunctionReading → Context → Levels → List (Contribution Bool) → (cell signal : ℕ)
     → Entry → Bool → Bool
 assigned_level choice d at cs c s x level =
     if is_stored x then same_level level (complement_if (not (follows_q x)) (is_on at.q c))
     else signal_allows choice d at cs s (complement_if (is_negated x.kind) level)
 
 -- the levels of a cell's pin: a register that nothing assigns inverts, and any other such cell is never enabled
-abbrev pub pin_allows : Choice → Context → Levels → List (Contribution Bool) → (cell : ℕ) → Option ℕ
+abbrev pub pin_allows : FunctionReading → Context → Levels → List (Contribution Bool) → (cell : ℕ) → Option ℕ
     → Bool → Bool
 pin_allows choice d at cs c None level = if cell_stores d c then same_level level (not (is_on at.q c)) else false
 pin_allows choice d at cs c (Some s) level = assigned_level choice d at cs c s (name_at d s) level
@@ -44,7 +44,7 @@ q_complements true x = false
 q_complements false x = complement_if (is_negated x.kind) (not (follows_q x))
 
 -- the next Qs of a register
-abbrev pub next_allows : Choice → Context → Levels → List (Contribution Bool) → Option ℕ → Bool → Bool
+abbrev pub next_allows : FunctionReading → Context → Levels → List (Contribution Bool) → Option ℕ → Bool → Bool
 next_allows choice d at cs None q = not q
 next_allows choice d at cs (Some s) q =
     signal_allows choice d at cs s (complement_if (q_complements (is_raw_signal cs s) (name_at d s)) q)
@@ -59,12 +59,12 @@ abbrev pub node_signal : Context → (node : ℕ) → Option ℕ
 node_signal d n = position (λ (x : Entry). is_node_number n x.kind) d.names
 
 -- a node that is assigned nothing is 0
-abbrev pub node_allows : Choice → Context → Levels → List (Contribution Bool) → Option ℕ → Bool → Bool
+abbrev pub node_allows : FunctionReading → Context → Levels → List (Contribution Bool) → Option ℕ → Bool → Bool
 node_allows choice d at cs None value = not value
 node_allows choice d at cs (Some s) value = signal_allows choice d at cs s value
 
 -- a design as a logic, cells in the device's order
-abbrev pub logic_by : Choice → Design → Logic
+abbrev pub logic_by : FunctionReading → Design → Logic
 logic_by choice d =
     record {
       cells = length d.context.device.cells;

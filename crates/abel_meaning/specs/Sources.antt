@@ -9,30 +9,30 @@ use Rattle.abel_meaning.specs.Designs.{Context, name_at}
 -- what is read: 0, or what a leaf carries, or its complement
 pub data Source : Type 0 where
   Zero : Source
-  Held : (complement : Bool) → Leaf → Source
+  LeafRead : (complement : Bool) → Leaf → Source
 
 -- its value at a point
 abbrev pub source_value : Levels → Source → Bool
 source_value at Zero = false
-source_value at (Held complement leaf) = complement_if complement (leaf_value at leaf)
+source_value at (LeafRead complement leaf) = complement_if complement (leaf_value at leaf)
 
 -- a combinational signal on a pin: the pin's level
 abbrev pub pin_source : (pin : ℕ) → (negated : Bool) → Option Extension → Source
-pin_source pin negated None = Held negated (leaf.Pin pin)
-pin_source pin negated (Some extension.Pin) = Held negated (leaf.Pin pin)
+pin_source pin negated None = LeafRead negated (leaf.Pin pin)
+pin_source pin negated (Some extension.Pin) = LeafRead negated (leaf.Pin pin)
 pin_source pin negated (Some _) = Zero
 
 -- a register: its pin polarity, or Q itself
 abbrev pub register_source : (negated buffer : Bool) → (cell : Option ℕ) → Option Extension → Source
 register_source negated buffer None e = Zero
-register_source negated buffer (Some c) None = Held (complement_if negated (not buffer)) (leaf.Q c)
-register_source negated buffer (Some c) (Some extension.Fb) = Held (complement_if negated (not buffer)) (leaf.Q c)
-register_source negated buffer (Some c) (Some extension.Q) = Held false (leaf.Q c)
+register_source negated buffer (Some c) None = LeafRead (complement_if negated (not buffer)) (leaf.Q c)
+register_source negated buffer (Some c) (Some extension.Fb) = LeafRead (complement_if negated (not buffer)) (leaf.Q c)
+register_source negated buffer (Some c) (Some extension.Q) = LeafRead false (leaf.Q c)
 register_source negated buffer (Some c) (Some _) = Zero
 
 -- a node: its value
 abbrev pub node_source : (node : ℕ) → Option Extension → Source
-node_source n None = Held false (leaf.Node n)
+node_source n None = LeafRead false (leaf.Node n)
 node_source n (Some e) = Zero
 
 -- a signal on a pin

@@ -134,9 +134,9 @@ abbrev mutual
   set_value d at (term.Before t ts) = joined_value (term_value d at t) (set_value d at ts)
 
 -- a point that gives no level
-abbrev pub nowhere : Levels
-nowhere = record { pins = []; q = []; nodes = [] }
+abbrev pub empty_point : Levels
+empty_point = record { pins = []; q = []; nodes = [] }
 
 -- shapes, X positions and the numbers of constants are the same at every point, and so at that one
 abbrev pub constant_of : Context → Term → Value
-constant_of d t = term_value d nowhere t
+constant_of d t = term_value d empty_point t

@@ -9,7 +9,7 @@ use Rattle.abel_grammar.specs.ModuleReaders.{read_source}
 use Rattle.abel_grammar.proofs.Verdict.{is_stopped, is_left_over, is_too_deep, is_end, is_rest}
 use Rattle.abel_parser.specs.declared.fault.ParseFault.TheVariants as fault
 use Rattle.abel_grammar.proofs.ModuleLaws.{source_laws}
-use Rattle.abel_parser.specs.Refusals.{place_at, IsAccepted, IsRefused}
+use Rattle.abel_parser.specs.Refusals.{place_at, IsParsed, IsRefused}
 
 -- the token behind so many is the first of the others
 place_behind : (c left : List Token) (end : Place) → place_at (c ++ left) end (length c) ≡ place_at left end 0
@@ -47,5 +47,5 @@ none_left ts t (x ∷ rest) e none =
     absurd cc
 
 -- what is read to the end is accepted
-pub is_accepted : (ts : List Token) (t : ModuleTree) → read_source 64 ts ≡ Ok (t, []) → IsAccepted ts t
+pub is_accepted : (ts : List Token) (t : ModuleTree) → read_source 64 ts ≡ Ok (t, []) → IsParsed ts t
 is_accepted ts t e = (source_laws 64).sound ts (t, []) e

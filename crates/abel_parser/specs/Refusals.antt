@@ -13,8 +13,8 @@ abbrev pub nestings : ℕ
 nestings = 64
 
 -- the tokens, all of them, spell the module with at most so many nestings
-abbrev pub IsAccepted : List Token → ModuleTree → Type 0
-IsAccepted ts m = SpellsWhole (source nestings) ts m
+abbrev pub IsParsed : List Token → ModuleTree → Type 0
+IsParsed ts m = SpellsWhole (source nestings) ts m
 
 -- the place of a token by its number, or the place behind the last byte of the text
 abbrev pub place_at : List Token → Place → ℕ → Place

@@ -7,7 +7,7 @@ ghost use Rattle.abel_tree.specs.View.{view_module};
 ghost use Rattle.abel_grammar.specs.Places.{places_of_module};
 ghost use Rattle.abel_grammar.specs.Order.{Along, TokensRise, SectionsRise};
 ghost use Rattle.abel_grammar.specs.Modules as grammar;
-ghost use Rattle.abel_parser.specs.Refusals.{place_at, IsAccepted, IsRefused};
+ghost use Rattle.abel_parser.specs.Refusals.{place_at, IsParsed, IsRefused};
 
 use crate::fault::ParseFault;
 use abel_grammar::Halt;
@@ -32,7 +32,7 @@ fn place_of(tokens: &[Token], end: Place) -> Place
 
 /// The one tree that the tokens spell, all of them. `end` is the place behind the last byte of the text.
 pub fn parse(alloc: Global, tokens: &[Token], end: Place) -> Result<Module, ParseFault>
-    ensures tree { IfOk result (λ m. IsAccepted tokens.now (view_module m)) }
+    ensures tree { IfOk result (λ m. IsParsed tokens.now (view_module m)) }
     ensures only { IfOk result (λ m. (t : ModuleTree) → Spells grammar.source tokens.now t
         → t ≡ view_module m) }
     ensures places { IfOk result (λ m. Along tokens.now (places_of_module (view_module m))) }

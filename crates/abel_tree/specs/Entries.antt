@@ -31,11 +31,11 @@ pub record Words : Type 0 where
   pub invert : Bool
   pub dc : Bool
 
-abbrev pub has : ℕ → Attributes → Bool
-has bit a = bit_and a.0 bit == bit
+abbrev pub has_bit : ℕ → Attributes → Bool
+has_bit bit a = bit_and a.0 bit == bit
 
 abbrev pub view_attributes : Attributes → Words
-view_attributes a = record { combinational = has 1 a; registered = has 2 a; buffer = has 4 a; invert = has 8 a; dc = has 16 a }
+view_attributes a = record { combinational = has_bit 1 a; registered = has_bit 2 a; buffer = has_bit 4 a; invert = has_bit 8 a; dc = has_bit 16 a }
 
 -- a declared name
 pub record Entry : Type 0 where

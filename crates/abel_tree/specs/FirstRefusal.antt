@@ -7,6 +7,10 @@ pub record Ranks (F : Type 0) : Type 0 where
   pub place : F → Place
   pub rank : F → ℕ
 
+-- the place of what has none: want of memory
+abbrev pub nowhere : Place
+nowhere = record { line = 0; column = 0 }
+
 -- places by themselves
 abbrev pub place_order : Ranks Place
 place_order = record { place = λ p. p; rank = λ p. 0 }

@@ -19,5 +19,5 @@ pub use Rattle.set_expr.specs.FoundNames.{expression_found}
 pub use Rattle.set_expr.specs.SectionOrder.{section_order}
 pub use Rattle.set_expr.specs.declared.fault.SectionFault.{SectionFault}
 pub use Rattle.source_sections.specs.SectionAnswers.{AreContributed, IsTold, sections_refused}
-pub use Rattle.truth_tables.specs.EntryMarks.{IsRead, view_mark}
+pub use Rattle.truth_tables.specs.EntryMarks.{IsEntryRead, view_mark}
 pub use Rattle.truth_tables.specs.RowEntries.{entry_refused, unless_met}

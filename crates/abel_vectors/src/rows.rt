@@ -1,7 +1,7 @@
 //! Rows of vectors under a header in which nothing is refused.
 
 ghost use Rattle.std.specs.Prelude.{◌≡◌, ℕ, ◌+◌, ◌-◌, IfOk, OnOk, map};
-ghost use Rattle.abel_vectors.specs.Prelude.{first_refusal, view_vector_row, context_for, section_order, Tree, Context, marks_of, Term, term_of, SectionFault, IsRead, view_mark, entry_refused};
+ghost use Rattle.abel_vectors.specs.Prelude.{first_refusal, view_vector_row, context_for, section_order, Tree, Context, marks_of, Term, term_of, SectionFault, IsEntryRead, view_mark, entry_refused};
 ghost use Rattle.abel_vectors.specs.{IsReadAs, IsRowRead, FindsRows, IsRowVector, NamesPins, one_too_many};
 
 use crate::chars::Role;
@@ -45,7 +45,7 @@ fn row_vector<D: Device>(
 
 /// The marks of an entry, or its refusal.
 fn marks_in(entry: Entry) -> Result<Vec<Mark>, SectionFault>
-    ensures { (d : Context) (r : SectionFault) (h : Term) (t : Tree) → IsRead d r h t entry
+    ensures { (d : Context) (r : SectionFault) (h : Term) (t : Tree) → IsEntryRead d r h t entry
         → IsReadAs (entry_refused d r h t) (λ ms. map view_mark ms.items ≡ marks_of d h (term_of d.known t)) result }
 {
     match entry {

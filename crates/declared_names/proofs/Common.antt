@@ -41,7 +41,8 @@ pub use Rattle.decls.specs.FaultOrder.{name_order}
 pub use Rattle.decls.specs.NameRefusals.{all_buffered, always_inverts, buffered, buffers_refused, first_name_refusal, is_register_at, module_buffers_refused}
 pub use Rattle.decls.specs.NameRefusals.{name_refusals, names_once, read_refusals}
 pub use Rattle.decls.specs.NamesBefore.{names_behind}
-pub use Rattle.abel_meaning.specs.SignalPins.{is_on_pin, is_taken}
+pub use Rattle.abel_meaning.specs.SignalPins.{is_taken}
+pub use Rattle.abel_meaning.specs.Controls.{is_on_pin}
 pub use Rattle.decls.specs.Numbers.{buffered_names, number_if, numbered}
 pub use Rattle.decls.specs.Shown.{kept, kept_kind}
 pub use Rattle.decls.specs.declared.fault.NameFault.{NameFault}

@@ -4,7 +4,7 @@ use Rattle.declared_names.specs.Prelude.{Table, Entry, entries_of, is_stored, fo
 use Rattle.pld_base.specs.declared.device_name.DeviceName.{DeviceName}
 use Rattle.pld_device.specs.declared.flip.Flip.TheVariants.{AfterRegister}
 use Rattle.abel_tree.specs.declared.names.Names.{Names}
-use Rattle.abel_meaning.specs.Controls.{is_pin}
+use Rattle.abel_meaning.specs.Controls.{is_on_pin}
 use Rattle.abel_meaning.specs.Designs.{no_name}
 
 -- the names are those of a device with so many pins: each pin that has a number is one of them, nodes are below 128, and
@@ -17,12 +17,12 @@ pub record AreDeclaredFor (name : DeviceName) (pins : ℕ) (n : Names) : Type 0 
 -- no two names have one number
 abbrev pub NumbersAreApart : List Entry → Type 0
 NumbersAreApart es =
-    (pin i j : ℕ) → (pin == 0) ≡ false → is_pin pin (get_or es i no_name).kind ≡ true → is_pin pin (get_or es j no_name).kind ≡ true → i ≡ j
+    (pin i j : ℕ) → (pin == 0) ≡ false → is_on_pin pin (get_or es i no_name).kind ≡ true → is_on_pin pin (get_or es j no_name).kind ≡ true → i ≡ j
 
 -- no two names are one pin
 abbrev pub PinsAreApart : List Entry → Type 0
 PinsAreApart es =
-    (pin i j : ℕ) → is_pin pin (get_or es i no_name).kind ≡ true → is_pin pin (get_or es j no_name).kind ≡ true → i ≡ j
+    (pin i j : ℕ) → is_on_pin pin (get_or es i no_name).kind ≡ true → is_on_pin pin (get_or es j no_name).kind ≡ true → i ≡ j
 
 -- on a device that has registers, none follows Q, or may, where the device can't complement behind it
 abbrev pub BuffersAreAllowed : Table → List Entry → Type 0

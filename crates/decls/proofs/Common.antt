@@ -59,7 +59,8 @@ pub use Rattle.decls.specs.Devices.{first_string}
 pub use Rattle.decls.specs.FaultOrder.{name_order, place_of, rank_of}
 pub use Rattle.decls.specs.NameRefusals.{all_buffered, buffered, first_name_refusal, read_refusals, sections_refused}
 pub use Rattle.decls.specs.NamesBefore.{added, enter, first_entries, names_behind, words_named, words_of_names}
-pub use Rattle.abel_meaning.specs.SignalPins.{is_on_pin, is_taken, is_signal_pin}
+pub use Rattle.abel_meaning.specs.SignalPins.{is_taken, is_signal_pin}
+pub use Rattle.abel_meaning.specs.Controls.{is_on_pin}
 pub use Rattle.decls.specs.Numbers.{number_if, numbered}
 pub use Rattle.decls.specs.PartUses.{name_step, part_step, parted_step, use_of, value_step}
 pub use Rattle.decls.specs.Passed.{Adds, AreAt, AreBehind, Follows, HasNumbers, MayLeave, Way, is_behind, items_behind, items_told, stands_before, wants_names}

@@ -1,12 +1,9 @@
 -- The order of the refusals of names: by place, and at one place by kind (this project's rule).
 use Rattle.std.specs.Prelude.{ℕ}
 use Rattle.decls.specs.Prelude.{Place, Ranks}
+use Rattle.abel_tree.specs.FirstRefusal.{nowhere}
 use Rattle.decls.specs.declared.fault.NameFault.{NameFault}
 use Rattle.decls.specs.declared.fault.NameFault.TheVariants as fault
-
--- want of memory has no place
-abbrev pub nowhere : Place
-nowhere = record { line = 0; column = 0 }
 
 abbrev pub place_of : NameFault → Place
 place_of (fault.Redeclared p name) = p

@@ -31,7 +31,7 @@ pub use Rattle.abel_macros.specs.Rules.{Cause, Done, Move, behind_directive, dir
 pub use Rattle.abel_macros.specs.Turns.{Config, moved, nothing_defined, turn}
 pub use Rattle.abel_meaning.specs.Choices.{inverting, is_free, is_free_signal}
 pub use Rattle.abel_meaning.specs.Contributions.{Any, Contribution, Guard, One}
-pub use Rattle.abel_meaning.specs.Controls.{control_by, control_if_stored, control_of, is_control, is_pin, is_the_control, shared_from, signal_on}
+pub use Rattle.abel_meaning.specs.Controls.{control_by, control_if_stored, control_of, is_control, is_on_pin, is_the_control, shared_from, signal_on}
 pub use Rattle.abel_meaning.specs.Declarations.{all_said, declared, declared_names, entry, no_words}
 pub use Rattle.abel_meaning.specs.Designs.{Context, Design, design_of, name_at, no_name}
 pub use Rattle.abel_meaning.specs.FormulaBits.{bits_of, formulas, make_source, met_by, met_word, operator_word}
@@ -44,7 +44,7 @@ pub use Rattle.abel_meaning.specs.Netlists.{PlainNetlist, Wanted, as_named, func
 pub use Rattle.abel_meaning.specs.Sections.{section_gives, sections_give, unguarded}
 pub use Rattle.abel_meaning.specs.SignalReads.{given_formulas}
 pub use Rattle.abel_meaning.specs.SourceLogic.{is_negated, is_node_number, node_signal, source_logic, source_values}
-pub use Rattle.abel_meaning.specs.Sources.{Held, Source, on_pin, source_of as read_of, register_source, source_by}
+pub use Rattle.abel_meaning.specs.Sources.{LeafRead, Source, on_pin, source_of as read_of, register_source, source_by}
 pub use Rattle.abel_meaning.specs.Terms.{BinaryOf, Known, Read, Read as ReadTerm, Term, UnaryOf, extended_if, known_after, known_of, term_meant, term_named}
 pub use Rattle.abel_meaning.specs.Terms.{term_of}
 pub use Rattle.abel_tree.specs.Assigned.{Assigned, Named, assigned_by, is_assigned, is_clocked_target, list_assigns, named_of, sections_assign, signals_of_name}

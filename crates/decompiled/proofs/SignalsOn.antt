@@ -1,6 +1,6 @@
 -- The signal that is assigned on a cell: that of its pin, where the cell has lines.
 use Rattle.std.proofs.Common.{◌≡◌, ℕ, zero, suc, ◌+◌, ◌<◌, ◌≤◌, ◌⊎◌, inl, inr, Bool, true, false, Option, Some, None, List, ◌++◌, length, slice_get, get_or, flat_map, refl, sym, ap, subst, ◌∙◌, arith, ◌&&◌, ◌||◌, position, IsSome}
-use Rattle.decompiled.proofs.Common.{list_any, range_with_len, and_parts, cases_Bool, cases_lt, eq-eqb, eqb-true, or_right, true≢false, list_any-append, get_or_from_slice_get, slice_get_within, IsDevice, Table, cell_at, Kind, APin, Entry, is_stored, ModuleTree, cell_on, is_pin, signal_on, design_of, name_at, no_name, names_of, cell_by, cell_of, SumLine, IsSourceTree, cell_lines, first_register, has_lines, lines_of, names_pin, pins_of, shared_lines, source_of, place_of, signal_of}
+use Rattle.decompiled.proofs.Common.{list_any, range_with_len, and_parts, cases_Bool, cases_lt, eq-eqb, eqb-true, or_right, true≢false, list_any-append, get_or_from_slice_get, slice_get_within, IsDevice, Table, cell_at, Kind, APin, Entry, is_stored, ModuleTree, cell_on, is_on_pin, signal_on, design_of, name_at, no_name, names_of, cell_by, cell_of, SumLine, IsSourceTree, cell_lines, first_register, has_lines, lines_of, names_pin, pins_of, shared_lines, source_of, place_of, signal_of}
 use Rattle.std.proofs.lemmas.List.Quantifiers.{position-Some}
 use Rattle.abel_tree.specs.declared.words.Extension.TheVariants as extension
 use Rattle.netlist_laws.specs.Takeable.{RegistersHaveCells}
@@ -69,20 +69,20 @@ module _ (t : Table) (fuses : List Bool) (laws : IsDevice t) where
   module _ (m : ModuleTree) (is : IsSourceTree (source_of t fuses) m) where
     -- the name is assigned on the cell
     abbrev is_here : ℕ → Entry → Bool
-    is_here c x = x.assigned && is_pin (cell_at t c).pin x.kind
+    is_here c x = x.assigned && is_on_pin (cell_at t c).pin x.kind
 
     -- it is the name of the cell's pin, which is declared
     here_named : (c j : ℕ) → c < length t.cells → is_here c (get_or (names_of t m) j no_name) ≡ true
         → (j ≡ signal_of t fuses (cell_at t c).pin) × IsDeclared t fuses laws (cell_at t c).pin
     here_named c j within hit = by_name (names_at t fuses laws m is j)
       where
-        parts : ((get_or (names_of t m) j no_name).assigned ≡ true) × (is_pin (cell_at t c).pin (get_or (names_of t m) j no_name).kind ≡ true)
-        parts = and_parts (get_or (names_of t m) j no_name).assigned (is_pin (cell_at t c).pin (get_or (names_of t m) j no_name).kind) hit
+        parts : ((get_or (names_of t m) j no_name).assigned ≡ true) × (is_on_pin (cell_at t c).pin (get_or (names_of t m) j no_name).kind ≡ true)
+        parts = and_parts (get_or (names_of t m) j no_name).assigned (is_on_pin (cell_at t c).pin (get_or (names_of t m) j no_name).kind) hit
 
         by_name : IsNameAt t fuses laws m is j → (j ≡ signal_of t fuses (cell_at t c).pin) × IsDeclared t fuses laws (cell_at t c).pin
-        by_name (inl device) = absurd (true≢false (sym parts.1 ∙ ap (is_pin (cell_at t c).pin) device.0))
+        by_name (inl device) = absurd (true≢false (sym parts.1 ∙ ap (is_on_pin (cell_at t c).pin) device.0))
         by_name (inr of) =
-            let same : of.1 ≡ (cell_at t c).pin = eqb-true of.1 (cell_at t c).pin (sym (ap (is_pin (cell_at t c).pin) of.4) ∙ parts.1) in
+            let same : of.1 ≡ (cell_at t c).pin = eqb-true of.1 (cell_at t c).pin (sym (ap (is_on_pin (cell_at t c).pin) of.4) ∙ parts.1) in
             let there : slice_get (pins_of t fuses) of.0 ≡ Some (cell_at t c).pin = subst (λ (p : ℕ). slice_get (pins_of t fuses) of.0 ≡ Some p) same of.3 in
             let dec = declared_there t fuses laws of.0 (cell_at t c).pin there in (
               of.2 ∙ ap suc (taken_once (is_named t fuses laws) 1 t.pins of.0 (place_of (pins_of t fuses) (cell_at t c).pin) (cell_at t c).pin there dec.there),
@@ -96,7 +96,7 @@ module _ (t : Table) (fuses : List Bool) (laws : IsDevice t) where
         let x = cell_name t fuses laws m is c within dec in
         only_place (is_here c) no_name (names_of t m) (signal_of t fuses pin)
         (slice_get_within (names_of t m) (signal_of t fuses pin) _ (pin_named t fuses laws m is pin dec).there)
-        (ap (λ (b : Bool). b && is_pin pin (name t fuses laws m is pin).kind) (x.assigned ∙ some) ∙ ap (is_pin pin) x.kind ∙ eq-eqb pin pin refl)
+        (ap (λ (b : Bool). b && is_on_pin pin (name t fuses laws m is pin).kind) (x.assigned ∙ some) ∙ ap (is_on_pin pin) x.kind ∙ eq-eqb pin pin refl)
         (λ j hit. (here_named c j within hit).0)
 
     pub on_none : (c : ℕ) → c < length t.cells → has_lines t fuses c ≡ false → signal_on (design_of t m).context c ≡ None
@@ -113,7 +113,7 @@ module _ (t : Table) (fuses : List Bool) (laws : IsDevice t) where
                 let at = here_named c j within hit in
                 let x = cell_name t fuses laws m is c within at.1 in
                 sym x.assigned ∙ ap (λ (i : ℕ). (name_at (design_of t m).context i).assigned) (sym at.0)
-                ∙ (and_parts (get_or (names_of t m) j no_name).assigned (is_pin (cell_at t c).pin (get_or (names_of t m) j no_name).kind) hit).0
+                ∙ (and_parts (get_or (names_of t m) j no_name).assigned (is_on_pin (cell_at t c).pin (get_or (names_of t m) j no_name).kind) hit).0
 
     -- ---- registers
 

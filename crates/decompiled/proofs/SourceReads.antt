@@ -1,6 +1,6 @@
 -- What the literals of a decompiled source read, and what its lines give.
 use Rattle.std.proofs.Common.{◌≡◌, ℕ, ◌<◌, Bool, true, false, Option, Some, None, List, length, map, unwrap_or, refl, sym, ap, subst, ◌∙◌, append-nil, if◌then◌else◌}
-use Rattle.decompiled.proofs.Common.{AllByRecursion, eq-eqb, eqb-true, true≢false, Carry, Cell, IsPair, IsDevice, stores, Table, cell_at, no_cell, Formula, Extension, Kind, Entry, follows_q, is_stored, SectionTree, Equations, ModuleTree, cell_on, Contribution, Design, design_of, formulas, section_gives, sections_give, given_formulas, Source, Held, on_pin, register_source, source_by, read_of, is_cell, is_cell_on, PinLiteral, SumLine, q_if, IsSourceTree, IsKnownLine, line_gives, ReadsLeaf, lines_of, named_by, source_of, pair_leaf, leaf_of, signal_of}
+use Rattle.decompiled.proofs.Common.{AllByRecursion, eq-eqb, eqb-true, true≢false, Carry, Cell, IsPair, IsDevice, stores, Table, cell_at, no_cell, Formula, Extension, Kind, Entry, follows_q, is_stored, SectionTree, Equations, ModuleTree, cell_on, Contribution, Design, design_of, formulas, section_gives, sections_give, given_formulas, Source, LeafRead, on_pin, register_source, source_by, read_of, is_cell, is_cell_on, PinLiteral, SumLine, q_if, IsSourceTree, IsKnownLine, line_gives, ReadsLeaf, lines_of, named_by, source_of, pair_leaf, leaf_of, signal_of}
 use Rattle.pld_device.specs.declared.carry.Carry.TheVariants as carry
 use Rattle.bit_expr.specs.declared.node.Leaf.TheVariants as leaf
 use Rattle.abel_tree.specs.declared.words.Extension.TheVariants as extension
@@ -42,7 +42,7 @@ module _ (t : Table) (fuses : List Bool) (laws : IsDevice t) (m : ModuleTree) (i
       ∙ ap (λ (b : Bool). on_pin t (entry_on pin) pin false b e) by
 
   pair_reads : (higher : Bool) (x : Carry) → IsPair t x → IsDeclared t fuses laws (named_by t fuses higher x).pin
-      → read_of d.context (signal (named_by t fuses higher x).pin) (q_if (named_by t fuses higher x).of_q) ≡ Held false (leaf_of t (named_by t fuses higher x))
+      → read_of d.context (signal (named_by t fuses higher x).pin) (q_if (named_by t fuses higher x).of_q) ≡ LeafRead false (leaf_of t (named_by t fuses higher x))
   pair_reads higher (carry.Pin pin) law dec = reads_as pin None false dec (free_plain t fuses laws m is pin dec none)
     where
       none : HasNoCell t fuses laws m is pin
@@ -52,11 +52,11 @@ module _ (t : Table) (fuses : List Bool) (laws : IsDevice t) (m : ModuleTree) (i
       x_stored : is_stored (entry_on (cell_at t c).pin) ≡ stores t fuses c
       x_stored = (cell_name t fuses laws m is c law dec).stored
 
-      by_kind : (b : Bool) → stores t fuses c ≡ b → read_of d.context (signal (cell_at t c).pin) (q_if b) ≡ Held false (if b then leaf.Q (unwrap_or (cell_on t (cell_at t c).pin) 0) else leaf.Pin (cell_at t c).pin)
+      by_kind : (b : Bool) → stores t fuses c ≡ b → read_of d.context (signal (cell_at t c).pin) (q_if b) ≡ LeafRead false (if b then leaf.Q (unwrap_or (cell_on t (cell_at t c).pin) 0) else leaf.Pin (cell_at t c).pin)
       by_kind true e =
           reads_as (cell_at t c).pin (Some extension.Q) true dec (x_stored ∙ e)
           ∙ ap (λ (o : Option ℕ). on_pin_by o) (cell_here t laws c law)
-          ∙ ap (λ (o : Option ℕ). Held false (leaf.Q (unwrap_or o 0))) (sym (cell_here t laws c law))
+          ∙ ap (λ (o : Option ℕ). LeafRead false (leaf.Q (unwrap_or o 0))) (sym (cell_here t laws c law))
         where
           on_pin_by : Option ℕ → Source
           on_pin_by o = register_source false (follows_q (entry_on (cell_at t c).pin)) o (Some extension.Q)
@@ -66,7 +66,7 @@ module _ (t : Table) (fuses : List Bool) (laws : IsDevice t) (m : ModuleTree) (i
   literal_reads l of = record {
     signal = signal l.pin;
     known = known_is t fuses laws m is l.pin of.1;
-    reads = subst (λ (k : PinLiteral). read_of d.context (signal k.pin) (q_if k.of_q) ≡ Held false (leaf_of t k)) (sym of.0.is)
+    reads = subst (λ (k : PinLiteral). read_of d.context (signal k.pin) (q_if k.of_q) ≡ LeafRead false (leaf_of t k)) (sym of.0.is)
         (pair_reads of.0.higher of.0.pair of.0.law (subst (λ (k : PinLiteral). IsDeclared t fuses laws k.pin) of.0.is of.1));
   }
 

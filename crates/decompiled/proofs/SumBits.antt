@@ -1,6 +1,6 @@
 -- A printed sum is a number of one bit, or one bit, with its formula.
 use Rattle.std.proofs.Common.{◌≡◌, ℕ, ◌⊎◌, inl, inr, Bool, true, false, Option, None, Some, List, [], ◌∷◌, refl, sym, ap, subst, ◌∙◌, ◌||◌, if◌then◌else◌, fold, reverse}
-use Rattle.decompiled.proofs.Common.{AllByRecursion, Leaf, make_not, make_and, make_or, Formula, Const, Not, Extension, Tree, ABinary, Context, formulas, bits_of, met_word, met_by, make_source, operator_word, Source, Held, Term, ReadTerm, UnaryOf, BinaryOf, term_of, extended_if, PinLiteral, q_if, IsNumber, IsNamed, IsSigned, IsLiteral, IsJoined, IsProduct, IsSum, ReadsLeaf, literal_formula, product_formula, sum_formula, SumsHaveFormulas}
+use Rattle.decompiled.proofs.Common.{AllByRecursion, Leaf, make_not, make_and, make_or, Formula, Const, Not, Extension, Tree, ABinary, Context, formulas, bits_of, met_word, met_by, make_source, operator_word, Source, LeafRead, Term, ReadTerm, UnaryOf, BinaryOf, term_of, extended_if, PinLiteral, q_if, IsNumber, IsNamed, IsSigned, IsLiteral, IsJoined, IsProduct, IsSum, ReadsLeaf, literal_formula, product_formula, sum_formula, SumsHaveFormulas}
 use Rattle.bit_expr.specs.Formulas.{Read}
 use Rattle.abel_tree.specs.declared.words.Unary.TheVariants as unary
 use Rattle.abel_tree.specs.declared.words.Binary.TheVariants as binary
@@ -47,7 +47,7 @@ word_is d t f e = ap reverse (met_either d t f e)
 
 -- ---- literals
 
-named_bit : (d : Context) (s : ℕ) (e : Option Extension) (leaf : Leaf) → source_of d s e ≡ Held false leaf → IsBit d (ReadTerm s e) (Read leaf)
+named_bit : (d : Context) (s : ℕ) (e : Option Extension) (leaf : Leaf) → source_of d s e ≡ LeafRead false leaf → IsBit d (ReadTerm s e) (Read leaf)
 named_bit d s e leaf reads =
     record { shape = refl; bits = ap (λ (x : Source). (make_source x).what ∷ []) reads }
 

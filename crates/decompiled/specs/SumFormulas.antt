@@ -3,7 +3,7 @@ use Rattle.std.specs.Prelude.{◌≡◌, ℕ, true, false, if◌then◌else◌, 
 use Rattle.decompiled.specs.Prelude.{AllByRecursion, Leaf, Formula, Const, Not, Tree, Context, formulas, ReadTerm, term_named, term_of}
 use Rattle.bit_expr.specs.Folding.{make_and, make_or}
 use Rattle.bit_expr.specs.Formulas.{Read}
-use Rattle.abel_meaning.specs.Sources.{Held, source_of}
+use Rattle.abel_meaning.specs.Sources.{LeafRead, source_of}
 use Rattle.decompiled.specs.declared.literal.PinLiteral.{PinLiteral}
 use Rattle.decompiled.specs.SourceText.{q_if, name_text}
 use Rattle.decompiled.specs.SourceTrees.{IsSum}
@@ -12,7 +12,7 @@ use Rattle.decompiled.specs.SourceTrees.{IsSum}
 pub record ReadsLeaf (d : Context) (leaf_of : PinLiteral → Leaf) (l : PinLiteral) : Type 0 where
   pub signal : ℕ
   pub known : term_named d.known (name_text l.pin) ≡ ReadTerm signal None
-  pub reads : source_of d signal (q_if l.of_q) ≡ Held false (leaf_of l)
+  pub reads : source_of d signal (q_if l.of_q) ≡ LeafRead false (leaf_of l)
 
 -- the leaf, or its complement
 abbrev pub literal_formula : (PinLiteral → Leaf) → PinLiteral → Formula

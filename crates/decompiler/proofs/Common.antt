@@ -10,7 +10,7 @@ pub use Rattle.std.specs.List.{All, AllByRecursion, find, flat_map, list_any, po
 unfoldable pub use Rattle.std.specs.List.{IsDistinct}
 pub use Rattle.std.specs.Option.{option_map}
 pub use Rattle.abel_meaning.specs.BitWords.{Word, each_not, word_by_position}
-pub use Rattle.abel_meaning.specs.Controls.{control_by, control_if_stored, control_of, is_control, is_pin, is_the_control, must_register, signal_on}
+pub use Rattle.abel_meaning.specs.Controls.{control_by, control_if_stored, control_of, is_control, is_on_pin, is_the_control, must_register, signal_on}
 pub use Rattle.abel_meaning.specs.CountedNodes.{guard_nodes, value_nodes}
 pub use Rattle.abel_meaning.specs.Declarations.{GivenName, all_said, declared, entry, is_unnumbered, no_words}
 pub use Rattle.abel_meaning.specs.Designs.{Context, Design, design_of, name_at, no_name}
@@ -24,7 +24,7 @@ pub use Rattle.abel_meaning.specs.Numbers.{Number, Set, Shape, Single, Value, me
 pub use Rattle.abel_meaning.specs.SignalReads.{HasNoSignalLoop, HasNoSignalPath, function_names, given_formulas, is_one_of, is_stored_signal, leaf_by}
 pub use Rattle.abel_meaning.specs.SignalReads.{leaf_of as leaf_of_signal, names_if_any, reset_equation_reads, settles, settles_by, signal_names, signal_reads}
 pub use Rattle.abel_meaning.specs.SoundIds.{IsCellIn, IsControlIn, IsFunctionIn, IsIn, IsSoundNetlist, no_pair, pair_of_cell, pair_of_pin}
-pub use Rattle.abel_meaning.specs.Sources.{Held, Source, Zero}
+pub use Rattle.abel_meaning.specs.Sources.{LeafRead, Source, Zero}
 pub use Rattle.abel_meaning.specs.Targets.{targets_of}
 pub use Rattle.abel_meaning.specs.Terms.{BinaryOf, Known, Read as ReadTerm, Term, UnaryOf, extended_if, known_after, term_meant, term_named, term_of}
 pub use Rattle.abel_meaning.specs.Values.{binary_value, constant_of, plain_value, unary_value}
@@ -50,7 +50,7 @@ pub use Rattle.covers.specs.declared.cube.Cube.{Cube}
 pub use Rattle.decls.specs.NameRefusals.{all_buffered, always_inverts, buffered, buffers_refused, module_buffers_refused, name_refusals, names_once}
 pub use Rattle.decls.specs.NameRefusals.{read_refusals, sections_refused}
 pub use Rattle.decls.specs.NamesBefore.{added, names_behind}
-pub use Rattle.abel_meaning.specs.SignalPins.{is_on_pin, is_taken, is_signal_pin, has_wrong_kind, has_wrong_kind_by, has_wrong_kind_on, is_registered_node, is_wrong_cell, is_wrong_kind, carries_level, carries_q, has_read_path, reads_by}
+pub use Rattle.abel_meaning.specs.SignalPins.{is_taken, is_signal_pin, has_wrong_kind, has_wrong_kind_by, has_wrong_kind_on, is_registered_node, is_wrong_cell, is_wrong_kind, carries_level, carries_q, has_read_path, reads_by}
 pub use Rattle.decls.specs.Refused.{declaration_refused, declarations_refused, given_count, name_refused, names_refused, parts_refused}
 pub use Rattle.decls.specs.Refused.{use_refused, uses_refused}
 pub use Rattle.decls.specs.declared.fault.NameFault.{NameFault}

@@ -1,6 +1,6 @@
 -- The bits of a sum over signals have no more nodes than were counted for it.
 use Rattle.std.proofs.Common.{◌≡◌, ℕ, ◌+◌, ◌≤◌, Bool, true, false, Option, Some, None, [], ◌∷◌, length, reverse, refl, sym, ap, subst, ◌∙◌, arith}
-use Rattle.decompiler.proofs.Common.{Leaf, Made, make_not, make_and, make_or, Formula, Read, Not, all_nodes_of, nodes_of, Extension, Tree, Word, each_not, word_by_position, Context, bits_of, formulas, make_held, make_source, met_by, met_word, operator_word, Shape, Number, Single, Set, meeting, width_of, Source, Zero, Held, Term, ReadTerm, UnaryOf, BinaryOf, extended_if, term_of, constant_of, q_if}
+use Rattle.decompiler.proofs.Common.{Leaf, Made, make_not, make_and, make_or, Formula, Read, Not, all_nodes_of, nodes_of, Extension, Tree, Word, each_not, word_by_position, Context, bits_of, formulas, make_held, make_source, met_by, met_word, operator_word, Shape, Number, Single, Set, meeting, width_of, Source, Zero, LeafRead, Term, ReadTerm, UnaryOf, BinaryOf, extended_if, term_of, constant_of, q_if}
 use Rattle.abel_tree.specs.declared.words.Unary.TheVariants as unary
 use Rattle.abel_tree.specs.declared.words.Binary.TheVariants as binary
 use Rattle.abel_meaning.specs.Sources.{source_of}
@@ -54,7 +54,7 @@ held_paid true l = let one = not_paid (Read l) in omega (arith, one)
 
 source_paid : (x : Source) → nodes_of (make_source x).what ≤ (make_source x).nodes
 source_paid Zero = omega arith
-source_paid (Held complement l) = held_paid complement l
+source_paid (LeafRead complement l) = held_paid complement l
 
 -- a number or one bit, with no more nodes than were counted
 pub record IsPaid (d : Context) (u : Term) (weight : ℕ) : Type 0 where

@@ -1,6 +1,6 @@
 -- A sum over signals makes few nodes.
 use Rattle.std.proofs.Common.{◌≡◌, ℕ, ◌+◌, ◌≤◌, Bool, true, false, Option, Some, None, List, [], ◌∷◌, length, refl, sym, ap, subst, ◌∙◌, arith}
-use Rattle.decompiler.proofs.Common.{Made, free, fresh, make_not, make_and, make_or, Formula, Const, Read, Not, And, Or, Xor, constant_level, Extension, Tree, AName, AUnary, ABinary, Word, each_not, word_by_position, guard_nodes, Context, bits_of, make_source, met_by, met_word, operator_word, Shape, Number, Single, Set, meeting, width_of, Source, Zero, Held, Term, ReadTerm, UnaryOf, BinaryOf, extended_if, term_named, term_of, constant_of, PinLiteral, name_text, q_if}
+use Rattle.decompiler.proofs.Common.{Made, free, fresh, make_not, make_and, make_or, Formula, Const, Read, Not, And, Or, Xor, constant_level, Extension, Tree, AName, AUnary, ABinary, Word, each_not, word_by_position, guard_nodes, Context, bits_of, make_source, met_by, met_word, operator_word, Shape, Number, Single, Set, meeting, width_of, Source, Zero, LeafRead, Term, ReadTerm, UnaryOf, BinaryOf, extended_if, term_named, term_of, constant_of, PinLiteral, name_text, q_if}
 use Rattle.bit_expr.proofs.FoldingCases.{and_makes, and_one_left, and_one_right, and_zero_left, and_zero_right, or_makes, or_one_left, or_one_right, or_zero_left, or_zero_right}
 use Rattle.abel_tree.specs.declared.words.Unary.TheVariants as unary
 use Rattle.abel_tree.specs.declared.words.Binary.TheVariants as binary
@@ -93,8 +93,8 @@ pub record IsSmall (d : Context) (u : Term) (weight : ℕ) : Type 0 where
 
 source_nodes : (x : Source) → (make_source x).nodes ≤ 2
 source_nodes Zero = omega arith
-source_nodes (Held false l) = omega arith
-source_nodes (Held true l) = let one = one_not (Read l) in omega (arith, one)
+source_nodes (LeafRead false l) = omega arith
+source_nodes (LeafRead true l) = let one = one_not (Read l) in omega (arith, one)
 
 module _ (d : Context) where
   pub read_small : (s : ℕ) (e : Option Extension) → IsSmall d (ReadTerm s e) 2

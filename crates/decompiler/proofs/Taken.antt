@@ -1,6 +1,6 @@
 -- A device can take the netlist of a decompiled source.
 use Rattle.std.proofs.Common.{◌≡◌, ℕ, suc, ◌<◌, inl, inr, Bool, true, false, not, Some, List, slice_get, refl, sym, ap, ◌∙◌, eqb-true}
-use Rattle.decompiler.proofs.Common.{true≢false, Flip, Always, AfterRegister, BeforeRegister, IsDevice, pin_complements, is_inverted, Table, arena, Kind, ANode, follows_q, ModuleTree, is_pin, Design, design_of, name_at, HasNoSignalLoop, HasNoSignalPath, NodesAreFew, PinsApart, Contributions, AreContributed, IsSourceTree, pins_of, source_of, taken_once, cell_name, IsNameAt, names_at, is_named, DesignsAreTakeable}
+use Rattle.decompiler.proofs.Common.{true≢false, Flip, Always, AfterRegister, BeforeRegister, IsDevice, pin_complements, is_inverted, Table, arena, Kind, ANode, follows_q, ModuleTree, is_on_pin, Design, design_of, name_at, HasNoSignalLoop, HasNoSignalPath, NodesAreFew, PinsApart, Contributions, AreContributed, IsSourceTree, pins_of, source_of, taken_once, cell_name, IsNameAt, names_at, is_named, DesignsAreTakeable}
 use Rattle.design.specs.Accepted.{BuffersAreBehind}
 use Rattle.design.specs.Unrefused.{IsUnrefused, UnrefusedIsTakeable}
 use Rattle.design.specs.AssignedCorrect.{HasSoundDeclarations}
@@ -31,13 +31,13 @@ module _ (t : Table) (fuses : List Bool) (laws : IsDevice t) (m : ModuleTree) (i
     pub number : i ≡ suc place
     pub there : slice_get (pins_of t fuses) place ≡ Some pin
 
-  pin_at : (pin i : ℕ) → is_pin pin (name_at d.context i).kind ≡ true → IsPinAt pin i
+  pin_at : (pin i : ℕ) → is_on_pin pin (name_at d.context i).kind ≡ true → IsPinAt pin i
   pin_at pin i has = by_name (names_at t fuses laws m is i)
     where
       by_name : IsNameAt t fuses laws m is i → IsPinAt pin i
-      by_name (inl device) = absurd (true≢false (sym has ∙ ap (is_pin pin) device.0))
+      by_name (inl device) = absurd (true≢false (sym has ∙ ap (is_on_pin pin) device.0))
       by_name (inr of) =
-          let same : of.1 ≡ pin = eqb-true of.1 pin (sym (ap (is_pin pin) of.4) ∙ has) in
+          let same : of.1 ≡ pin = eqb-true of.1 pin (sym (ap (is_on_pin pin) of.4) ∙ has) in
           record { place = of.0; number = of.2; there = of.3 ∙ ap Some same }
 
   pins_apart : PinsApart d.context

@@ -10,7 +10,7 @@ pub use Rattle.std.proofs.lemmas.Option.{get_or_from_slice_get, same_Some, slice
 pub use Rattle.std.specs.List.{AllByRecursion, IsDistinct, flat_map, list_all, list_any}
 pub use Rattle.std.specs.Option.{option_map}
 pub use Rattle.abel_meaning.specs.Contributions.{Contribution, Evaluator, Gives, Guard, condition, guarded}
-pub use Rattle.abel_meaning.specs.Controls.{control_by, control_if_stored, control_of, is_control, is_pin, is_the_control}
+pub use Rattle.abel_meaning.specs.Controls.{control_by, control_if_stored, control_of, is_control, is_on_pin, is_the_control}
 pub use Rattle.abel_meaning.specs.Declarations.{declared_names}
 pub use Rattle.abel_meaning.specs.Designs.{Context, Design, design_of, name_at, no_name}
 pub use Rattle.abel_meaning.specs.Diagrams.{branch_gives, branches_give, choices_give, first_of_each, goal_gives, in_state, is_other, is_state, once}

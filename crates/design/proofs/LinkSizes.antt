@@ -1,6 +1,6 @@
 -- The links of a design are few, and each leaf has a number that leaves may have.
 use Rattle.std.proofs.Common.{◌≡◌, ◌≢◌, ℕ, zero, suc, ◌+◌, ◌<◌, ◌≤◌, Bool, true, false, ◌||◌, eqb, List, [], ◌∷◌, length, map, get_or, Option, Some, None, refl, sym, ap, ◌∙◌, subst, inl, inr, arith, if◌then◌else◌, is_some}
-use Rattle.design.proofs.Common.{IsDistinct, option_map, cases_lt, eqb-true, eq-eqb, ne_eqb, get_or-map, length-map, position-Some, slice_get_past, same_Some, has, few, place_of, IsDevice, Table, cell_at, no_cell, Leaf, IsLeaf, Kind, APin, ANode, Entry, is_stored, cell_on, is_pin, Design, name_at, no_name, given_formulas, settles, leaf_by, PinsApart, NodesAreFew, cell_by, Link, is_linked, IsLinkOf, AreLinks, AreSignals, is_node_kind}
+use Rattle.design.proofs.Common.{IsDistinct, option_map, cases_lt, eqb-true, eq-eqb, ne_eqb, get_or-map, length-map, position-Some, slice_get_past, same_Some, has, few, place_of, IsDevice, Table, cell_at, no_cell, Leaf, IsLeaf, Kind, APin, ANode, Entry, is_stored, cell_on, is_on_pin, Design, name_at, no_name, given_formulas, settles, leaf_by, PinsApart, NodesAreFew, cell_by, Link, is_linked, IsLinkOf, AreLinks, AreSignals, is_node_kind}
 use Rattle.std.proofs.lemmas.Map.Keys.{IsDistinct-from_apart}
 use Rattle.bit_expr.specs.declared.node.Leaf.TheVariants as leaf
 use Rattle.netlist_laws.proofs.CellsFound.{has_pin}
@@ -83,7 +83,7 @@ module _ (d : Design) (laws : IsDevice d.context.device) (nodes : NodesAreFew d.
     unlike s r (APin p negated) (ANode b) less one other linked too same = absurd (omega (arith, nodes r b other, same))
     unlike s r (APin p negated) (APin q turned) less one other linked too same =
         let pins : q ≡ p = omega (arith, same) in
-        let e = apart p s r (ap (is_pin p) one ∙ eq-eqb p p refl) (ap (is_pin p) other ∙ eq-eqb q p pins) in
+        let e = apart p s r (ap (is_on_pin p) one ∙ eq-eqb p p refl) (ap (is_on_pin p) other ∙ eq-eqb q p pins) in
         absurd (omega (arith, less, e))
     unlike s r _ _ less one other linked too same = absurd cc
 

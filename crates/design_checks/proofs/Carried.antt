@@ -9,7 +9,7 @@ use Rattle.pld_device.specs.Pins.{pair_pins, cell_on, carries_cell}
 use Rattle.bit_expr.specs.declared.node.Leaf.{Leaf}
 use Rattle.bit_expr.specs.declared.node.Leaf.TheVariants as leaf
 use Rattle.abel_tree.specs.declared.words.Extension.TheVariants as extension
-use Rattle.abel_meaning.specs.Controls.{is_pin, signal_on, cell_stores_for, must_register}
+use Rattle.abel_meaning.specs.Controls.{is_on_pin, signal_on, cell_stores_for, must_register}
 use Rattle.abel_meaning.specs.Sources.{pin_source, register_source, node_source, on_pin, source_by}
 use Rattle.netlist_laws.specs.Takeable.{PinsApart, HasColumns}
 use Rattle.netlist_laws.proofs.CoverReads.{leaf_is}
@@ -52,7 +52,7 @@ module _ (d : Context) (apart : PinsApart d) where
     abbrev needs : Cell → Bool
     needs c = (c.pin == pin) && must_register c.kinds
 
-    here : (c : ℕ) → (cell_at d.device c).pin ≡ pin → is_pin (cell_at d.device c).pin (name_at d s).kind ≡ true
+    here : (c : ℕ) → (cell_at d.device c).pin ≡ pin → is_on_pin (cell_at d.device c).pin (name_at d s).kind ≡ true
     here c on = rw kind (eq-eqb pin (cell_at d.device c).pin (sym on))
 
     within : s < length d.names
@@ -61,13 +61,13 @@ module _ (d : Context) (apart : PinsApart d) where
     -- what is assigned on the cell is this signal
     stores : (c : ℕ) → c < length d.device.cells → (cell_at d.device c).pin ≡ pin → (found : Option ℕ) → signal_on d c ≡ found → ((name_at d s).assigned || not (list_any needs d.device.cells)) ≡ true → cell_stores_for d c found ≡ false
     stores c low on (Some r) is free =
-        let at = position-Some (λ (x : Entry). x.assigned && is_pin (cell_at d.device c).pin x.kind) d.names r no_name is in
-        let same : r ≡ s = apart (cell_at d.device c).pin r s (and_parts (name_at d r).assigned (is_pin (cell_at d.device c).pin (name_at d r).kind) at.1).1 (here c on) in
+        let at = position-Some (λ (x : Entry). x.assigned && is_on_pin (cell_at d.device c).pin x.kind) d.names r no_name is in
+        let same : r ≡ s = apart (cell_at d.device c).pin r s (and_parts (name_at d r).assigned (is_on_pin (cell_at d.device c).pin (name_at d r).kind) at.1).1 (here c on) in
         ap (λ n. is_stored (name_at d n)) same ∙ loose
     stores c low on None is free =
         elim (cases_Bool (name_at d s).assigned) [
           | inl assigned ↦
-              let first = some_place (λ (x : Entry). x.assigned && is_pin (cell_at d.device c).pin x.kind) no_name d.names s within (rw assigned (here c on)) in
+              let first = some_place (λ (x : Entry). x.assigned && is_on_pin (cell_at d.device c).pin x.kind) no_name d.names s within (rw assigned (here c on)) in
               absurd (let no : Some first.0 ≡ None = sym first.1 ∙ is in cc)
           | inr other ↦
               elim (cases_Bool (must_register (cell_at d.device c).kinds)) [

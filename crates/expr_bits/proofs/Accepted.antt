@@ -1,6 +1,6 @@
 -- What an accepted expression comes to: what is X in it has the bit 0.
 use Rattle.std.proofs.Common.{◌≡◌, ℕ, zero, suc, Bool, true, false, List, [], ◌∷◌, ◌++◌, length, replicate, refl, sym, ap, ◌∙◌, arith, length-append, ◌<◌, ◌≤◌, Option, None, Some, Ok, subst}
-use Rattle.expr_bits.proofs.Common.{length-map, length-replicate, Formula, formula_value, Binary, Word, Context, bits_of, bits_of_all, met_by, resized, Shape, Single, Set, Value, width_of, member_width, meeting, met_unknown_by, Term, Terms, constant_of, set_value, nowhere, is_relation, binary_by, IsBlank, Node, arena, Names, entries_of, Tree, known_of, term_of, MakesBits, IsMade, IsShaped, refusal_of, SectionFault, Shaped, expression_found, Bits, Form, IsPart, HasForm, IsBits, term_part}
+use Rattle.expr_bits.proofs.Common.{length-map, length-replicate, Formula, formula_value, Binary, Word, Context, bits_of, bits_of_all, met_by, resized, Shape, Single, Set, Value, width_of, member_width, meeting, met_unknown_by, Term, Terms, constant_of, set_value, empty_point, is_relation, binary_by, IsBlank, Node, arena, Names, entries_of, Tree, known_of, term_of, MakesBits, IsMade, IsShaped, refusal_of, SectionFault, Shaped, expression_found, Bits, Form, IsPart, HasForm, IsBits, term_part}
 use Rattle.abel_meaning.specs.Terms as term
 use Rattle.abel_meaning.proofs.DigitLaws.{length_digits}
 use Rattle.abel_meaning.proofs.FormulasFollow.{term_agrees}
@@ -64,20 +64,20 @@ mutual
   term_flags d (term.BinaryOf sign t u) k e = flags_by (is_relation sign) sign (constant_of d t) (constant_of d u) k e
   term_flags d _ k e = absurd cc
 
-  set_flags : (d : Context) (ts : Terms) → length (set_value d nowhere ts).unknown ≡ width_of (set_value d nowhere ts).shape
+  set_flags : (d : Context) (ts : Terms) → length (set_value d empty_point ts).unknown ≡ width_of (set_value d empty_point ts).shape
   set_flags d term.NoTerm = refl
   set_flags d (term.Before t ts) =
       let c = constant_of d t in
       let rest = set_flags d ts in
       let own = member_flags c.shape c.unknown (term_flags d t) in
-      length-append (set_value d nowhere ts).unknown (met_unknown_by (member_width c.shape) c.shape c.unknown) ∙ omega (arith, rest, own)
+      length-append (set_value d empty_point ts).unknown (met_unknown_by (member_width c.shape) c.shape c.unknown) ∙ omega (arith, rest, own)
 
-set_long : (d : Context) (ts : Terms) → length (bits_of_all d ts).what ≡ width_of (set_value d nowhere ts).shape
+set_long : (d : Context) (ts : Terms) → length (bits_of_all d ts).what ≡ width_of (set_value d empty_point ts).shape
 set_long d term.NoTerm = refl
 set_long d (term.Before t ts) =
-    let agrees = term_agrees d nowhere (term.Set (term.Before t ts)) in
-    let v = set_value d nowhere (term.Before t ts) in
-    sym (length-map (bits_of_all d (term.Before t ts)).what (formula_value nowhere)) ∙ ap length agrees.has.1 ∙ length_digits (width_of v.shape) v.number
+    let agrees = term_agrees d empty_point (term.Set (term.Before t ts)) in
+    let v = set_value d empty_point (term.Before t ts) in
+    sym (length-map (bits_of_all d (term.Before t ts)).what (formula_value empty_point)) ∙ ap length agrees.has.1 ∙ length_digits (width_of v.shape) v.number
 
 -- ---- terms
 
@@ -90,11 +90,11 @@ mutual
   blank d (term.BinaryOf sign t u) s = known_blank _ _ (known_binary sign (constant_of d t) (constant_of d u))
   blank d _ s = tt
 
-  all_blank : (d : Context) (ts : Terms) → AllSound d ts → IsBlank (set_value d nowhere ts).unknown (bits_of_all d ts).what
+  all_blank : (d : Context) (ts : Terms) → AllSound d ts → IsBlank (set_value d empty_point ts).unknown (bits_of_all d ts).what
   all_blank d term.NoTerm s = tt
   all_blank d (term.Before t ts) s =
       let c = constant_of d t in
-      blank_append (set_value d nowhere ts).unknown (met_unknown_by (member_width c.shape) c.shape c.unknown) (bits_of_all d ts).what (met_by (member_width c.shape) c.shape c.number (bits_of d t).what)
+      blank_append (set_value d empty_point ts).unknown (met_unknown_by (member_width c.shape) c.shape c.unknown) (bits_of_all d ts).what (met_by (member_width c.shape) c.shape c.number (bits_of d t).what)
       (set_flags d ts ∙ sym (set_long d ts)) (all_blank d ts s.1) (blank_met (member_width c.shape) c.shape c.number c.unknown (bits_of d t).what (blank d t s.0))
 
 -- ---- values

@@ -14,10 +14,10 @@ pub use Rattle.abel_meaning.specs.Designs.{Context, name_at, no_name}
 pub use Rattle.abel_meaning.specs.FormulaBits.{bits_of, bits_of_all, kept_bits, make_source, met_by, met_word, operator_word, resized}
 pub use Rattle.abel_meaning.specs.Numbers.{Number, Set, Shape, Single, Value, digits_low_first, either_unknown, meeting, member_width, met_unknown}
 pub use Rattle.abel_meaning.specs.Numbers.{met_unknown_by, width_of}
-pub use Rattle.abel_meaning.specs.Sources.{Held, Source, Zero, source_of, source_value}
+pub use Rattle.abel_meaning.specs.Sources.{LeafRead, Source, Zero, source_of, source_value}
 pub use Rattle.abel_meaning.specs.Terms.{Before, Known, NoTerm, Read, Term, Terms, extended, extended_each, extended_if, known_after, known_of, member_before}
 pub use Rattle.abel_meaning.specs.Terms.{named_before, special_term, term_meant, term_named, term_of, terms_of}
-pub use Rattle.abel_meaning.specs.Values.{binary_by, binary_value, bit_value, constant_of, is_relation, nowhere, plain_value, set_value, unary_value}
+pub use Rattle.abel_meaning.specs.Values.{binary_by, binary_value, bit_value, constant_of, is_relation, empty_point, plain_value, set_value, unary_value}
 pub use Rattle.abel_tree.specs.Entries.{AConstant, ADeviceName, Entry, Kind, entries_of, find, view_declared, view_meaning}
 pub use Rattle.abel_tree.specs.Extensions.{innermost}
 pub use Rattle.abel_tree.specs.Ranges.{range_names}
@@ -56,7 +56,7 @@ pub use Rattle.expr_bits.specs.{IsKeptIf, IsMade, IsPart, IsReads, IsRow, Makes,
 pub use Rattle.expr_bits.specs.{ShowsStack, ShowsTwo, Task, after_all, after_task, along, any_reads_leaf, as_set, below, bit_id, both_part, computed_part}
 pub use Rattle.expr_bits.specs.{computed_value, digit_ids, each_extended, entry_weight, found_weight, here_term, inside, is_last, is_leaf, joined_part}
 pub use Rattle.expr_bits.specs.{kept_ids, leaf_under, left_by, list_of, made_by, member_weight, members_weight, name_weight, named_answer, named_term}
-pub use Rattle.expr_bits.specs.{named_weight, names_to, no_part, no_reads, number_part, number_weight, or_and_of, place_of, places_of, positions_of, pushed}
+pub use Rattle.expr_bits.specs.{named_weight, names_to, no_part, no_reads, number_part, number_weight, or_and_of, place_of, shown_ids, positions_of, pushed}
 pub use Rattle.expr_bits.specs.{range_weight, reads_at, reads_leaf, reads_of_row, reads_signal, related_part, relation_of, relation_step, relation_steps}
 pub use Rattle.expr_bits.specs.{resized_ids, set_by, shape_of, some_of_read, some_read, stack_weight, start_id, start_of, step_by, step_of, sum_step, task_of}
 pub use Rattle.expr_bits.specs.{tasks_of, term_part, told_by, top, tree_weight, under_of, under_part, upto_of, used_answer, width_of_two, with_value, word_at}

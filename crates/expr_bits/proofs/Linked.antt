@@ -1,5 +1,5 @@
 -- What is found of expressions over names, and their terms.
-use Rattle.expr_bits.proofs.Common.{nat_tests, Place, Binary, Extension, Unary, Entry, Kind, AConstant, ADeviceName, range_names, Tree, ANumber, ASpecial, AName, ASet, AParen, AUnary, ABinary, SetMember, OneMember, SpanMember, Members, NoMember, MoreMembers, Context, Shape, Number, Single, Set, Value, width_of, member_width, meeting, Term, Terms, Known, term_named, term_of, terms_of, member_before, named_before, term_meant, known_after, known_of, extended_if, constant_of, set_value, nowhere, plain_value, unary_value, binary_value, binary_by, is_relation, SectionFault, NameFound, found_value, found_use, refused_there, at_name, name_found, named, nothing_found, one_position, range_found, found_of, all_found, found_before, found_constant, found_kind, found_entry, found_after, names_found, expression_found, is_pulse_kind}
+use Rattle.expr_bits.proofs.Common.{nat_tests, Place, Binary, Extension, Unary, Entry, Kind, AConstant, ADeviceName, range_names, Tree, ANumber, ASpecial, AName, ASet, AParen, AUnary, ABinary, SetMember, OneMember, SpanMember, Members, NoMember, MoreMembers, Context, Shape, Number, Single, Set, Value, width_of, member_width, meeting, Term, Terms, Known, term_named, term_of, terms_of, member_before, named_before, term_meant, known_after, known_of, extended_if, constant_of, set_value, empty_point, plain_value, unary_value, binary_value, binary_by, is_relation, SectionFault, NameFound, found_value, found_use, refused_there, at_name, name_found, named, nothing_found, one_position, range_found, found_of, all_found, found_before, found_constant, found_kind, found_entry, found_after, names_found, expression_found, is_pulse_kind}
 use Rattle.std.proofs.Common.{◌≡◌, ℕ, suc, ◌+◌, ◌≤◌, nat_lt, arith, Bool, true, false, Option, None, Some, List, [], ◌∷◌, ◌++◌, if◌then◌else◌, unwrap_or, bytes_eq, codes, refl, sym, ap, ap₂, subst}
 use Rattle.abel_meaning.specs.Terms as term
 use Rattle.set_expr.specs.declared.fault.SectionFault.TheVariants.{MisplacedSpecial, BadWidth}
@@ -83,8 +83,8 @@ AreLinked d (f ∷ fs) (term.Before t ts) = IsLinked d f t × AreLinked d fs ts
 AreLinked d _ _ = ⊥
 
 record SetLinked (d : Context) (fs : List Found) (ts : Terms) : Type 0 where
-  shape : (set_value d nowhere ts).shape ≡ (members_value fs).shape
-  known : members_specials fs ≡ [] → AllKnown (set_value d nowhere ts).unknown
+  shape : (set_value d empty_point ts).shape ≡ (members_value fs).shape
+  known : members_specials fs ≡ [] → AllKnown (set_value d empty_point ts).unknown
   sound : AllSound d ts
   width : (members_value fs).shape ≡ Set (members_width fs)
 
@@ -103,16 +103,16 @@ linked_members d p (f ∷ fs) (term.Before t ts) l e =
     let h = there d f.value f.specials t (l.0.valued own) l.0.linked in
     let rest = linked_members d p fs ts l.1 (right_empty (f.refusals ++ large_member p f.value) (members_refused p fs) e) in
     record {
-      shape = first_shape f.value (constant_of d t) (members_value fs) (set_value d nowhere ts) h.0 rest.shape;
+      shape = first_shape f.value (constant_of d t) (members_value fs) (set_value d empty_point ts) h.0 rest.shape;
       known = λ x.
-          known_append (set_value d nowhere ts).unknown _ (rest.known (right_empty f.specials (members_specials fs) x))
+          known_append (set_value d empty_point ts).unknown _ (rest.known (right_empty f.specials (members_specials fs) x))
           (known_met (member_width (constant_of d t).shape) (constant_of d t).shape (constant_of d t).unknown (h.1 (left_empty f.specials (members_specials fs) x)));
       sound = (h.2, rest.sound);
       width = first_width f.value (constant_of d t) (members_value fs) (members_width fs) h.0 rest.width;
     }
 linked_members d p _ _ l e = absurd l
 
-set_number : (d : Context) (fs : List Found) (ts : Terms) → (set_value d nowhere ts).shape ≡ (members_value fs).shape → SameKind (members_value fs) (set_value d nowhere ts)
+set_number : (d : Context) (fs : List Found) (ts : Terms) → (set_value d empty_point ts).shape ≡ (members_value fs).shape → SameKind (members_value fs) (set_value d empty_point ts)
 set_number d [] ts e = record { shape = e; number = λ n. absurd cc }
 set_number d (f ∷ fs) ts e = record { shape = e; number = λ n. absurd cc }
 

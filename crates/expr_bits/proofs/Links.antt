@@ -1,6 +1,6 @@
 -- What is found of an expression and what its term comes to: the same shape, and X only where nothing is made of it.
 use Rattle.std.proofs.Common.{◌≡◌, ℕ, zero, suc, ◌+◌, Bool, true, false, None, Some, List, [], ◌∷◌, ◌++◌, replicate, refl, sym, ap, ap₂, ◌∙◌, subst}
-use Rattle.expr_bits.proofs.Common.{Binary, Extension, Unary, Context, Shape, Number, Single, Set, Value, width_of, member_width, meeting, met_unknown_by, Term, Terms, extended, extended_each, constant_of, set_value, nowhere, is_relation, binary_by, binary_value, unary_value}
+use Rattle.expr_bits.proofs.Common.{Binary, Extension, Unary, Context, Shape, Number, Single, Set, Value, width_of, member_width, meeting, met_unknown_by, Term, Terms, extended, extended_each, constant_of, set_value, empty_point, is_relation, binary_by, binary_value, unary_value}
 use Rattle.abel_meaning.specs.Terms as term
 
 -- ---- values of one kind
@@ -105,7 +105,7 @@ mutual
       }
   extended_alike d e _ = record { kind = same_kind _; unknown = refl; sound = λ s. tt }
 
-  set_alike : (d : Context) (e : Extension) (ts : Terms) → Alike (set_value d nowhere ts) (set_value d nowhere (extended_each e ts)) (AllSound d ts) (AllSound d (extended_each e ts))
+  set_alike : (d : Context) (e : Extension) (ts : Terms) → Alike (set_value d empty_point ts) (set_value d empty_point (extended_each e ts)) (AllSound d ts) (AllSound d (extended_each e ts))
   set_alike d e term.NoTerm = record { kind = same_kind _; unknown = refl; sound = λ s. tt }
   set_alike d e (term.Before t ts) =
       let a = extended_alike d e t in

@@ -1,6 +1,6 @@
 -- Rows by the places of their names, and bits that are kept: built alone, the same under each extension with which no leaf is read.
 use Rattle.std.proofs.Common.{◌≡◌, ℕ, zero, suc, ◌+◌, ◌<◌, Option, None, Some, List, [], ◌∷◌, ◌++◌, get_or, length, slice_get, take, refl, sym, ap, ◌∙◌, subst, arith, Ok, ap₂, ◌||◌, Bool, true, false}
-use Rattle.expr_bits.proofs.Common.{slice_get_within, slice_get-get_or, Table, Names, Entry, entries_of, find, Context, name_at, no_name, Read, known_of, term_meant, term_named, context_for, Reads, IsReads, here_term, AreRows, IsRow, reads_at, reads_of_row, ExprId, Node, arena, arena_count, low_formula, Term, AllIn, word_at, Makes, Bits, Part, IsPart, term_part, IsKept, Made, free, ◌>>=◌, Extension, bits_of_all, make_source, Source, Zero, Held, source_of, source_value, Terms, NoTerm, Before, extended, extended_each, extended_if, bit_value, nowhere, set_value, with_value, under_part, both_part, joined_part, any_reads_leaf, is_leaf, reads_leaf}
+use Rattle.expr_bits.proofs.Common.{slice_get_within, slice_get-get_or, Table, Names, Entry, entries_of, find, Context, name_at, no_name, Read, known_of, term_meant, term_named, context_for, Reads, IsReads, here_term, AreRows, IsRow, reads_at, reads_of_row, ExprId, Node, arena, arena_count, low_formula, Term, AllIn, word_at, Makes, Bits, Part, IsPart, term_part, IsKept, Made, free, ◌>>=◌, Extension, bits_of_all, make_source, Source, Zero, LeafRead, source_of, source_value, Terms, NoTerm, Before, extended, extended_each, extended_if, bit_value, empty_point, set_value, with_value, under_part, both_part, joined_part, any_reads_leaf, is_leaf, reads_leaf}
 use Rattle.expr_bits.specs.declared.rows.Row.{Row}
 use Rattle.expr_bits.proofs.NamesBefore.{here_is, named_past, none_past}
 use Rattle.expr_bits.proofs.ReadLaws.{nothing_read}
@@ -83,17 +83,17 @@ neither true b h = absurd cc
 
 zero_of : (s : Source) → is_leaf s ≡ false → s ≡ Zero
 zero_of Zero h = refl
-zero_of (Held c l) h = absurd cc
+zero_of (LeafRead c l) h = absurd cc
 
 -- ---- it comes to the same
 
 read_alike : (d : Context) (s : ℕ) (e f : Option Extension) → is_leaf (source_of d s e) ≡ false → is_leaf (source_of d s f) ≡ false → term_part d (term.Read s e) ≡ term_part d (term.Read s f)
 read_alike d s e f h k =
-    ap (λ x. with_value (bit_value (source_value nowhere x)) (make_source x >>= λ g. free (g ∷ [])))
+    ap (λ x. with_value (bit_value (source_value empty_point x)) (make_source x >>= λ g. free (g ∷ [])))
     (zero_of (source_of d s e) h ∙ sym (zero_of (source_of d s f) k))
 
 abbrev set_part : Context → Terms → Made Part
-set_part d ts = with_value (set_value d nowhere ts) (bits_of_all d ts)
+set_part d ts = with_value (set_value d empty_point ts) (bits_of_all d ts)
 
 mutual
   alike : (d : Context) (e : Extension) (f : Option Extension) (t : Term) → reads_leaf d (Some e) t ≡ false → reads_leaf d f t ≡ false → term_part d (extended e t) ≡ term_part d (extended_if f t)

@@ -1,6 +1,6 @@
 -- Values in so many positions, and the shape and the positions of bits as those of a value.
 use Rattle.std.proofs.Common.{◌≡◌, ℕ, zero, suc, ◌/◌, ◌<◌, ◌≤◌, max, Bool, false, ◌||◌, List, [], ◌∷◌, ◌++◌, length, get_or, take, replicate, refl, sym, ap, ap₂, ◌∙◌, subst, arith, add-one, true, Option, None, Some}
-use Rattle.expr_bits.proofs.Common.{take_all, take_more, or-false, ExprId, Node, arena, Formula, Word, met_by, met_word, Value, either_unknown, AllIn, word_at, ShowsAll, digit_ids, resized_ids, Bits, HasForm, IsBits, formula_at, IsShaped, AreIn, bits_at, unknown_at, positions, Shaped, Form, HasUnknown, IsBlank, place_of, places_of, shape_of}
+use Rattle.expr_bits.proofs.Common.{take_all, take_more, or-false, ExprId, Node, arena, Formula, Word, met_by, met_word, Value, either_unknown, AllIn, word_at, ShowsAll, digit_ids, resized_ids, Bits, HasForm, IsBits, formula_at, IsShaped, AreIn, bits_at, unknown_at, positions, Shaped, Form, HasUnknown, IsBlank, place_of, shown_ids, shape_of}
 use Rattle.abel_meaning.specs.Numbers as number
 use Rattle.expr_bits.proofs.PositionWords.{digits_in, digits_at, resized_in, resized_at, spread_in, spread_at}
 use Rattle.expr_bits.specs.declared.forms.Form.TheVariants as form
@@ -59,7 +59,7 @@ either_all xs ys i h = ap₂ either_unknown (take_all i xs (omega (arith, h))) (
 
 -- ---- the loop: what is there of the first positions
 
-pub places_next : (ids : List ExprId) (xs : List Bool) (i : ℕ) (d : ExprId) (x : Bool) → i < length ids → length xs ≡ length ids → places_of (take (suc i) ids) (take (suc i) xs) ≡ places_of (take i ids) (take i xs) ++ place_of (get_or ids i d) (get_or xs i x) ∷ []
+pub places_next : (ids : List ExprId) (xs : List Bool) (i : ℕ) (d : ExprId) (x : Bool) → i < length ids → length xs ≡ length ids → shown_ids (take (suc i) ids) (take (suc i) xs) ≡ shown_ids (take i ids) (take i xs) ++ place_of (get_or ids i d) (get_or xs i x) ∷ []
 places_next [] xs i d x h e = absurd (omega (arith, h))
 places_next (y ∷ ids) [] i d x h e = absurd (omega (arith, e))
 places_next (y ∷ ids) (z ∷ xs) zero d x h e = refl
@@ -67,23 +67,23 @@ places_next (y ∷ ids) (z ∷ xs) (suc i) d x h e = ap (λ ps. place_of y z ∷
 
 -- ---- positions
 
-unknown_places : (ids : List ExprId) (xs : List Bool) → length xs ≡ length ids → unknown_at (places_of ids xs) ≡ xs
+unknown_places : (ids : List ExprId) (xs : List Bool) → length xs ≡ length ids → unknown_at (shown_ids ids xs) ≡ xs
 unknown_places [] [] e = refl
 unknown_places (id ∷ ids) (true ∷ xs) e = ap (λ ys. true ∷ ys) (unknown_places ids xs (omega (arith, e)))
 unknown_places (id ∷ ids) (false ∷ xs) e = ap (λ ys. false ∷ ys) (unknown_places ids xs (omega (arith, e)))
 unknown_places _ _ e = absurd (omega (arith, e))
 
-places_long : (ids : List ExprId) (xs : List Bool) → length xs ≡ length ids → length (places_of ids xs) ≡ length ids
+places_long : (ids : List ExprId) (xs : List Bool) → length xs ≡ length ids → length (shown_ids ids xs) ≡ length ids
 places_long [] xs e = refl
 places_long (id ∷ ids) [] e = absurd (omega (arith, e))
 places_long (id ∷ ids) (x ∷ xs) e = ap suc (places_long ids xs (omega (arith, e)))
 
-places_in : (count : ℕ) (ids : List ExprId) (xs : List Bool) → AllIn count ids → AreIn count (places_of ids xs)
+places_in : (count : ℕ) (ids : List ExprId) (xs : List Bool) → AllIn count ids → AreIn count (shown_ids ids xs)
 places_in count (id ∷ ids) (true ∷ xs) a = places_in count ids xs a.1
 places_in count (id ∷ ids) (false ∷ xs) a = (a.0, places_in count ids xs a.1)
 places_in count _ _ a = tt
 
-places_bits : (fs : List Formula) (ids : List ExprId) (xs : List Bool) → length xs ≡ length ids → IsBlank xs (word_at fs ids) → bits_at fs (places_of ids xs) ≡ word_at fs ids
+places_bits : (fs : List Formula) (ids : List ExprId) (xs : List Bool) → length xs ≡ length ids → IsBlank xs (word_at fs ids) → bits_at fs (shown_ids ids xs) ≡ word_at fs ids
 places_bits fs [] xs e b = refl
 places_bits fs (id ∷ ids) [] e b = absurd (omega (arith, e))
 places_bits fs (id ∷ ids) (true ∷ xs) e b = ap₂ (λ y ys. y ∷ ys) (sym b.0) (places_bits fs ids xs (omega (arith, e)) b.1)
@@ -112,7 +112,7 @@ blank_as : (fs : List Formula) (f : Form) (v : Value) (ids : List ExprId) (xs : 
 blank_as fs (form.Number n) v ids xs h u e b = no_blank fs ids xs h.1 e
 blank_as fs _ v ids xs h u e b = subst (λ ys. IsBlank ys (word_at fs ids)) (sym u) b
 
-pub shaped_is : (fs : List Formula) (b : Bits) (s : Shaped) (v : Value) (w : Word) → s.shape ≡ shape_of b.form (length b.word) → s.places ≡ places_of b.word b.unknown → IsBits fs b v w → IsBlank v.unknown w → IsShaped fs s v w
+pub shaped_is : (fs : List Formula) (b : Bits) (s : Shaped) (v : Value) (w : Word) → s.shape ≡ shape_of b.form (length b.word) → s.places ≡ shown_ids b.word b.unknown → IsBits fs b v w → IsBlank v.unknown w → IsShaped fs s v w
 shaped_is fs b s v w e p is blank =
     let k = length b.word in
     let same = is.positions in

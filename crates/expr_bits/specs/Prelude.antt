@@ -6,7 +6,7 @@ pub use Rattle.abel_meaning.specs.BitWords.{unary_word}
 pub use Rattle.abel_meaning.specs.Designs.{Context, name_at}
 pub use Rattle.abel_meaning.specs.FormulaBits.{binary_word, bits_of, kept_bits, make_source, met_word}
 pub use Rattle.abel_meaning.specs.Numbers.{Number, Set, Shape, Single, Value, either_unknown, meeting, member_width, met_unknown, width_of}
-pub use Rattle.abel_meaning.specs.Sources.{Held, Source, Zero, node_source, on_pin, pin_source, register_source, source_by, source_of}
+pub use Rattle.abel_meaning.specs.Sources.{LeafRead, Source, Zero, node_source, on_pin, pin_source, register_source, source_by, source_of}
 pub use Rattle.abel_meaning.specs.Terms.{Before, Known, NoTerm, Read, Term, Terms, extended_if, known_of, member_before, named_before, special_term, term_meant}
 pub use Rattle.abel_meaning.specs.Terms.{term_named, term_of, terms_of}
 pub use Rattle.abel_meaning.specs.Values.{binary_by, binary_value, constant_of, is_relation, joined_value, no_position, operator_value, plain_value}

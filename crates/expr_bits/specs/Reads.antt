@@ -1,7 +1,7 @@
 -- What values read: a signal at all, and a leaf under an extension at the signals that have none (ABEL-HDL Reference
 -- Manual, constants and extensions; that only leaves make nodes is this project's rule).
 use Rattle.std.specs.Prelude.{◌≡◌, ℕ, Bool, true, false, ◌||◌, Option, None, Some, List, [], ◌∷◌}
-use Rattle.expr_bits.specs.Prelude.{list_any, Extension, innermost, Context, Source, Zero, Held, source_of, Term, Terms, Known, term_named, range_names}
+use Rattle.expr_bits.specs.Prelude.{list_any, Extension, innermost, Context, Source, Zero, LeafRead, source_of, Term, Terms, Known, term_named, range_names}
 use Rattle.abel_tree.specs.declared.words.Extension.TheVariants as extension
 use Rattle.abel_tree.specs.declared.words.Word.{Word}
 use Rattle.abel_meaning.specs.Terms as term
@@ -33,7 +33,7 @@ any_reads_signal ts = some_of_read (λ s e. true) None ts
 
 abbrev pub is_leaf : Source → Bool
 is_leaf Zero = false
-is_leaf (Held complement leaf) = true
+is_leaf (LeafRead complement leaf) = true
 
 -- some leaf is read under an extension
 abbrev pub reads_leaf : Context → Option Extension → Term → Bool

@@ -17,10 +17,10 @@ abbrev pub place_of : ExprId → (unknown : Bool) → Option ExprId
 place_of id true = None
 place_of id false = Some id
 
-abbrev pub places_of : List ExprId → List Bool → List (Option ExprId)
-places_of [] xs = []
-places_of (id ∷ ids) [] = []
-places_of (id ∷ ids) (x ∷ xs) = place_of id x ∷ places_of ids xs
+abbrev pub shown_ids : List ExprId → List Bool → List (Option ExprId)
+shown_ids [] xs = []
+shown_ids (id ∷ ids) [] = []
+shown_ids (id ∷ ids) (x ∷ xs) = place_of id x ∷ shown_ids ids xs
 
 -- what is X has the bit 0
 abbrev pub IsBlank : List Bool → Word → Type 0

@@ -2,7 +2,7 @@
 
 ghost use Rattle.std.specs.Prelude.{◌≡◌, ◌<◌, List, length, IfOk};
 ghost use Rattle.expr_bits.specs.Prelude.{Formula, Word, Value, IsShaped};
-ghost use Rattle.expr_bits.specs.{IsBits, IsBlank, place_of, places_of, shape_of};
+ghost use Rattle.expr_bits.specs.{IsBits, IsBlank, place_of, shown_ids, shape_of};
 
 use crate::forms::{Bits, Form};
 use bit_expr::ExprId;
@@ -30,13 +30,13 @@ fn place_of(bit: ExprId, unknown: bool) -> Option<ExprId>
 }
 
 /// The positions of bits.
-fn places_of(
+fn shown_ids(
     alloc: Global,
     word: &[ExprId],
     unknown: &[bool],
 ) -> Result<Vec<Option<ExprId>>, OutOfMemory>
     requires { length unknown.now ≡ length word.now }
-    ensures { IfOk result (λ ps. ps.items ≡ places_of word.now unknown.now) }
+    ensures { IfOk result (λ ps. ps.items ≡ shown_ids word.now unknown.now) }
 {
     let mut places = Vec::new(alloc);
     for index in 0..word.len() {
@@ -52,7 +52,7 @@ pub(crate) fn shaped(alloc: Global, bits: &Bits) -> Result<Shaped, OutOfMemory>
     ensures { IfOk result (λ s. (fs : List Formula) (v : Value) (w : Word) → IsBits fs bits.now v w → IsBlank v.unknown w → IsShaped fs s v w) }
 {
     let shape = shape_of(bits);
-    let places = places_of(alloc, bits.word.as_slice(), bits.unknown.as_slice())?;
+    let places = shown_ids(alloc, bits.word.as_slice(), bits.unknown.as_slice())?;
     Ok(Shaped {
         shape,
         places: ListOf::from_vec(places),

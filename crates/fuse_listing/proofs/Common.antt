@@ -8,5 +8,6 @@ pub use Rattle.std.specs.List.{range_with_len}
 pub use Rattle.abel_tree.specs.Entries.{Entry, entries_of, view_declared}
 pub use Rattle.abel_tree.specs.declared.names.Declared.{Declared}
 pub use Rattle.pld_device.specs.Table.{Table, cell_at, no_cell}
-pub use Rattle.fuse_listing.specs.Listing.{CarryIsThere, assigned_text, chosen_text, column_literal, enable_text, given_line, given_lines, head_text, is_on_pin}
+pub use Rattle.fuse_listing.specs.Listing.{CarryIsThere, assigned_text, chosen_text, column_literal, enable_text, given_line, given_lines, head_text}
+pub use Rattle.abel_meaning.specs.Controls.{is_on_pin}
 pub use Rattle.fuse_listing.specs.Listing.{is_opened, kind_text, line_if_used, name_on, pin_text, polarity_text, product_text, use_text}

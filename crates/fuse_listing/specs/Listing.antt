@@ -14,14 +14,10 @@ use Rattle.pld_device.specs.Rows.{is_switched_on}
 use Rattle.pld_device.specs.Table.{Table, cell_at}
 use Rattle.abel_tree.specs.Entries.{Kind, APin, Entry}
 use Rattle.abel_meaning.specs.Choices.{is_free}
+use Rattle.abel_meaning.specs.Controls.{is_on_pin}
 use Rattle.abel_meaning.specs.Declarations.{is_unnumbered}
 
 -- ---- names of pins
-
--- the name is declared as this pin, as the complement of its level or not
-abbrev pub is_on_pin : (pin : ℕ) → Kind → Bool
-is_on_pin pin (APin other negated) = other == pin
-is_on_pin pin _ = false
 
 abbrev pub is_complement : Kind → Bool
 is_complement (APin pin negated) = negated

@@ -2,7 +2,8 @@
 
 ghost use Rattle.std.specs.Prelude.{◌≡◌, ◌++◌, OnOk, option_map};
 ghost use Rattle.abel_tree.specs.Entries.{entries_of, view_declared};
-ghost use Rattle.fuse_listing.specs.Listing.{is_complement, is_on_pin, name_on, name_text, names_complement};
+ghost use Rattle.fuse_listing.specs.Listing.{is_complement, name_on, name_text, names_complement};
+ghost use Rattle.abel_meaning.specs.Controls.{is_on_pin};
 
 use abel_tree::{Declared, Meaning, Names};
 use pld_base::{OutOfMemory, put_decimal};

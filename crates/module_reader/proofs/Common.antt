@@ -21,7 +21,7 @@ pub use Rattle.abel_lexer.specs.declared.fault.ScanFault.{ScanFault}
 pub use Rattle.abel_lexer.specs.declared.token.Token.{Token}
 pub use Rattle.abel_macros.specs.Rules.{BadDirective, Cause, Done, ExpansionLimit, Move, Tables, TooLong, Unsupported, move}
 pub use Rattle.abel_macros.specs.Turns.{Config, moved, turn}
-pub use Rattle.abel_parser.specs.Refusals.{IsAccepted, IsRefused, place_at}
+pub use Rattle.abel_parser.specs.Refusals.{IsParsed, IsRefused, place_at}
 pub use Rattle.abel_parser.specs.declared.fault.ParseFault.{ParseFault}
 pub use Rattle.abel_tree.specs.Tree.{Branch, ModuleTree, RowTree, Statement, Tree}
 pub use Rattle.abel_tree.specs.declared.words.Word.{Word}

@@ -1,6 +1,6 @@
 -- Expanding, scanning and parsing have one fate each, and so has the text.
 use Rattle.std.proofs.Common.{◌≡◌, ◌≢◌, ℕ, List, [], Ok, refl, sym, ap, subst, ◌∙◌}
-use Rattle.module_reader.proofs.Common.{Spells, Place, ScanFault, Token, IsTokensOf, IsFirstFault, first_place, place_past, IsExpanded, ModuleTree, source, ParseFault, IsAccepted, IsRefused, place_at, HasTokens, IsNotScanned}
+use Rattle.module_reader.proofs.Common.{Spells, Place, ScanFault, Token, IsTokensOf, IsFirstFault, first_place, place_past, IsExpanded, ModuleTree, source, ParseFault, IsParsed, IsRefused, place_at, HasTokens, IsNotScanned}
 use Rattle.abel_grammar.proofs.VerdictLaws.{tree_only}
 use Rattle.abel_lexer.proofs.Found.{only_tokens, only_fault}
 use Rattle.abel_grammar.specs.ModuleReaders.{read_source}
@@ -33,7 +33,7 @@ no_fault text f P h n = (only_tokens h.expanded h.tokens h.scanned).faults f (fa
 -- ---- read, or refused
 
 -- tokens that are accepted are not refused
-no_refused : (ts : List Token) (m : ModuleTree) (end : Place) (f : ParseFault) → f ≢ parse.OutOfMemory → IsAccepted ts m → IsRefused ts end f → ⊥
+no_refused : (ts : List Token) (m : ModuleTree) (end : Place) (f : ParseFault) → f ≢ parse.OutOfMemory → IsParsed ts m → IsRefused ts end f → ⊥
 no_refused ts m end (parse.Syntax p) some s r = no_syntax source 64 source_begun ts m s r.0 r.2
 no_refused ts m end (parse.TooDeep p) some s r = no_too_deep source 64 source_begun ts m s r.0 r.2
 no_refused ts m end parse.OutOfMemory some s r = some refl

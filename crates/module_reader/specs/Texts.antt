@@ -12,7 +12,7 @@ use Rattle.abel_tree.specs.Tree.{ModuleTree}
 use Rattle.abel_grammar.specs.Modules.{source}
 use Rattle.abel_parser.specs.declared.fault.ParseFault.{ParseFault}
 use Rattle.abel_parser.specs.declared.fault.ParseFault.TheVariants as parse
-use Rattle.abel_parser.specs.Refusals.{IsAccepted, IsRefused}
+use Rattle.abel_parser.specs.Refusals.{IsParsed, IsRefused}
 use Rattle.module_reader.specs.declared.fault.ReadFault.{ReadFault}
 use Rattle.module_reader.specs.declared.fault.ReadFault.TheVariants.{Expand, Scan, Parse, OutOfMemory}
 
@@ -30,7 +30,7 @@ SpellsModule text m = HasTokens text (λ expanded tokens. Spells source tokens m
 
 -- it spells the module with no nesting too deep
 abbrev pub IsRead : List ℕ → ModuleTree → Type 0
-IsRead text m = HasTokens text (λ expanded tokens. IsAccepted tokens m)
+IsRead text m = HasTokens text (λ expanded tokens. IsParsed tokens m)
 
 -- the expanded text has no tokens, and this is the first thing wrong with it
 pub record IsNotScanned (text : List ℕ) (f : ScanFault) : Type 0 where

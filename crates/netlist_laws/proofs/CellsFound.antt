@@ -1,6 +1,6 @@
 -- What the netlist of a design asks of a cell is what the signal asks that is assigned on it.
 use Rattle.std.proofs.Common.{◌≡◌, ℕ, zero, suc, ◌+◌, ◌<◌, Bool, true, false, ◌==◌, ◌&&◌, eqb, cond, List, [], ◌∷◌, length, get_or, Option, Some, None, refl, sym, ap, ◌∙◌, inl, inr, arith, find, position, if◌then◌else◌}
-use Rattle.netlist_laws.proofs.Common.{position_from, option_map, cases_Bool, eqb-true, eqb-false, eq-eqb, ne_eqb, position-Some, Cell, IsDevice, Table, cell_at, no_cell, own_pins, Formula, Kind, APin, ANode, AConstant, ADeviceName, Entry, cell_on, Contribution, is_pin, signal_on, Context, name_at, no_name, Wanted, wanted_at, wanted_for, cell_by, cell_of, and_cell, cells_from, gathered_from}
+use Rattle.netlist_laws.proofs.Common.{position_from, option_map, cases_Bool, eqb-true, eqb-false, eq-eqb, ne_eqb, position-Some, Cell, IsDevice, Table, cell_at, no_cell, own_pins, Formula, Kind, APin, ANode, AConstant, ADeviceName, Entry, cell_on, Contribution, is_on_pin, signal_on, Context, name_at, no_name, Wanted, wanted_at, wanted_for, cell_by, cell_of, and_cell, cells_from, gathered_from}
 use Rattle.std.proofs.lemmas.Iterator.Adapters.{position_from-zero}
 
 -- the first place is the first from 0 on
@@ -56,7 +56,7 @@ module _ (t : Table) (laws : IsDevice t) where
   is_cell_on pin c within = by_found pin c within (cell_on t pin) refl
 
   -- the assigned signal is on the cell just where the cell is its own
-  assigned_here : (c : ℕ) (x : Entry) (kind : Kind) → c < length t.cells → is_cell (cell_by t x kind) c ≡ (x.assigned && is_pin (cell_at t c).pin kind)
+  assigned_here : (c : ℕ) (x : Entry) (kind : Kind) → c < length t.cells → is_cell (cell_by t x kind) c ≡ (x.assigned && is_on_pin (cell_at t c).pin kind)
   assigned_here c x (APin pin negated) within = by x.assigned
     where
       by : (b : Bool) → is_cell (if b then cell_on t pin else None) c ≡ (b && (pin == (cell_at t c).pin))
@@ -80,7 +80,7 @@ module _ (t : Table) (laws : IsDevice t) where
 
 module _ (d : Context) (cs : List (Contribution Formula)) (laws : IsDevice d.device) (c : ℕ) (within : c < length d.device.cells) where
   abbrev is_here : Entry → Bool
-  is_here x = x.assigned && is_pin (cell_at d.device c).pin x.kind
+  is_here x = x.assigned && is_on_pin (cell_at d.device c).pin x.kind
 
   -- what the signal of a number asks of the cell
   abbrev pub wanted_here : ℕ → Wanted

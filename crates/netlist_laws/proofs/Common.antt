@@ -13,7 +13,7 @@ pub use Rattle.abel_meaning.proofs.FunctionValues.{formula_control, formula_func
 pub use Rattle.abel_meaning.specs.AtPoints.{given_at, truth_at}
 pub use Rattle.abel_meaning.specs.Choices.{inverting, is_free, is_free_signal}
 pub use Rattle.abel_meaning.specs.Contributions.{Any, Contribution, Evaluator, Gives, Match, One}
-pub use Rattle.abel_meaning.specs.Controls.{cell_enabled_by, cell_stores, cell_stores_for, control_by, control_if_stored, control_of, is_control, is_pin}
+pub use Rattle.abel_meaning.specs.Controls.{cell_enabled_by, cell_stores, cell_stores_for, control_by, control_if_stored, control_of, is_control, is_on_pin}
 pub use Rattle.abel_meaning.specs.Controls.{is_the_control, must_register, register_control, shared_control, shared_from, signal_on}
 pub use Rattle.abel_meaning.specs.Designs.{Context, Design, design_of, name_at, no_name}
 pub use Rattle.abel_meaning.specs.Follows.{Follows, seen}
@@ -33,7 +33,7 @@ pub use Rattle.abel_meaning.specs.Soundness.{HasNoControls, IsReadable, IsSound,
 pub use Rattle.abel_meaning.specs.Soundness.{MayRegister}
 pub use Rattle.abel_meaning.specs.SourceLogic.{is_negated, is_node_number, next_allows, node_allows, node_signal, node_value_by, pin_allows, q_complements}
 pub use Rattle.abel_meaning.specs.SourceLogic.{source_logic, source_values}
-pub use Rattle.abel_meaning.specs.Sources.{Held, Source, Zero, node_source, on_pin, pin_source, register_source, source_by, source_of}
+pub use Rattle.abel_meaning.specs.Sources.{LeafRead, Source, Zero, node_source, on_pin, pin_source, register_source, source_by, source_of}
 pub use Rattle.abel_tree.specs.Entries.{AConstant, ADeviceName, ANode, APin, Entry, Kind, Words, follows_q, is_stored}
 pub use Rattle.abel_tree.specs.Tree.{ADevice, Declaration, DontCareFor, ModuleTree, SomeAttributes, SomeConstants, SomeNodes, SomeOptions, SomePins, Tree}
 pub use Rattle.abel_tree.specs.declared.words.Extension.{Extension}

@@ -1,6 +1,6 @@
 -- The signals of a gathered netlist, which are the cells and the nodes, read what the module's signals read.
 use Rattle.std.proofs.Common.{◌≡◌, ℕ, ◌-◌, ◌<◌, Bool, true, false, not, ◌&&◌, ◌||◌, nat_lt, length, Option, Some, None, refl, sym, ap, ◌∙◌, subst, inl, inr, arith, unwrap_or, if◌then◌else◌}
-use Rattle.netlist_laws.proofs.Common.{option_map, cases_Bool, cases_lt, and_parts, or_cases, or_left, or_right, eqb-true, eq-eqb, ltb-true, get_or_past, position-Some, Cell, Enable, Row, PinLow, IsDevice, cell_at, no_cell, own_pins, Leaf, Formula, names, Extension, Kind, APin, ANode, AConstant, ADeviceName, Entry, is_stored, cell_on, is_pin, signal_on, control_of, Design, name_at, no_name, formulas, function_of, node_at, no_function, netlist_stores, cell_names, netlist_names, is_register_signal, cell_leaf, signal_leaf, netlist_reads, given_formulas, settles, leaf_by, leaf_of, names_if_any, function_names, signal_names, signal_reads, is_stored_signal, is_node_number, node_signal, by_row, wanted_for, cell_by, cell_of, gathered, PinsApart, is_row, is_enabled_by_row, is_kept}
+use Rattle.netlist_laws.proofs.Common.{option_map, cases_Bool, cases_lt, and_parts, or_cases, or_left, or_right, eqb-true, eq-eqb, ltb-true, get_or_past, position-Some, Cell, Enable, Row, PinLow, IsDevice, cell_at, no_cell, own_pins, Leaf, Formula, names, Extension, Kind, APin, ANode, AConstant, ADeviceName, Entry, is_stored, cell_on, is_on_pin, signal_on, control_of, Design, name_at, no_name, formulas, function_of, node_at, no_function, netlist_stores, cell_names, netlist_names, is_register_signal, cell_leaf, signal_leaf, netlist_reads, given_formulas, settles, leaf_by, leaf_of, names_if_any, function_names, signal_names, signal_reads, is_stored_signal, is_node_number, node_signal, by_row, wanted_for, cell_by, cell_of, gathered, PinsApart, is_row, is_enabled_by_row, is_kept}
 use Rattle.bit_expr.specs.declared.node.Leaf.TheVariants as leaf
 use Rattle.abel_tree.specs.declared.words.Extension.TheVariants as extension
 use Rattle.netlist_laws.proofs.CellsFound.{has_pin, wanted_found}
@@ -21,7 +21,7 @@ enable_or_function kept enable plain function is named =
       | inr f ↦ or_left function enable (and_parts plain function f).1
     ]
 
-pin_of : (pin : ℕ) (kind : Kind) → is_pin pin kind ≡ true → (negated : Bool) × (kind ≡ APin pin negated)
+pin_of : (pin : ℕ) (kind : Kind) → is_on_pin pin kind ≡ true → (negated : Bool) × (kind ≡ APin pin negated)
 pin_of pin (APin other negated) is = (negated, ap (λ p. APin p negated) (eqb-true other pin is))
 pin_of pin (ANode n) is = absurd cc
 pin_of pin (AConstant value) is = absurd cc
@@ -55,8 +55,8 @@ module _ (d : Design) (laws : IsDevice d.context.device) (numbered : AreNumbered
 
   pub on_cell : (c s : ℕ) → signal_on d.context c ≡ Some s → IsOn c s
   on_cell c s is =
-      let at = position-Some (λ (x : Entry). x.assigned && is_pin (cell_at d.context.device c).pin x.kind) d.context.names s no_name is in
-      let parts = and_parts (name_at d.context s).assigned (is_pin (cell_at d.context.device c).pin (name_at d.context s).kind) at.1 in
+      let at = position-Some (λ (x : Entry). x.assigned && is_on_pin (cell_at d.context.device c).pin x.kind) d.context.names s no_name is in
+      let parts = and_parts (name_at d.context s).assigned (is_on_pin (cell_at d.context.device c).pin (name_at d.context s).kind) at.1 in
       let pin = pin_of (cell_at d.context.device c).pin (name_at d.context s).kind parts.1 in
       record { assigned = parts.0; negated = pin.0; kind = pin.1 }
 
@@ -164,7 +164,7 @@ module _ (d : Design) (laws : IsDevice d.context.device) (numbered : AreNumbered
   pub in_names : (v s : ℕ) → signal_of v ≡ Some s → s < length d.context.names
   in_names v s is =
       elim (cases_Bool (nat_lt v count)) [
-        | inl cell ↦ (position-Some (λ (x : Entry). x.assigned && is_pin (cell_at d.context.device v).pin x.kind) d.context.names s no_name (rw cell at is)).0
+        | inl cell ↦ (position-Some (λ (x : Entry). x.assigned && is_on_pin (cell_at d.context.device v).pin x.kind) d.context.names s no_name (rw cell at is)).0
         | inr node ↦ (position-Some (λ (x : Entry). is_node_number (v - count) x.kind) d.context.names s no_name (rw node at is)).0
       ]
 

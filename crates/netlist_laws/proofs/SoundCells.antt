@@ -1,6 +1,6 @@
 -- Each cell of the netlist of a design that a device can take is one that it can have, and stands once.
 use Rattle.std.proofs.Common.{◌≡◌, ◌≢◌, ℕ, suc, ◌+◌, ◌<◌, ◌≤◌, Bool, true, false, not, ◌&&◌, List, [], ◌∷◌, length, get_or, Option, Some, None, refl, sym, ap, ◌∙◌, subst, inl, inr, arith}
-use Rattle.netlist_laws.proofs.Common.{All, AllPairs, option_map, cases_Bool, eqb-true, eq-eqb, All-cons, All-nil, position-Some, Enable, Row, PinLow, IsDevice, cell_at, no_cell, Leaf, Formula, Extension, Kind, APin, ANode, AConstant, ADeviceName, Entry, is_stored, cell_on, is_free, is_pin, control_of, control_if_stored, Design, name_at, no_name, formulas, Function, function_of, Wanted, given_formulas, IsReadable, IsSoundFormula, IsSoundFunction, IsSoundShared, IsSoundCell, IsSoundFree, HasNoControls, by_row, wanted_for, cell_by, cell_of, and_cell, cells_from, and_node, nodes_from, gathered, PinsApart, is_row, is_enabled_by_row, is_kept, ControlIsThere, HasNoEquation, MayChoose, IsTakeable}
+use Rattle.netlist_laws.proofs.Common.{All, AllPairs, option_map, cases_Bool, eqb-true, eq-eqb, All-cons, All-nil, position-Some, Enable, Row, PinLow, IsDevice, cell_at, no_cell, Leaf, Formula, Extension, Kind, APin, ANode, AConstant, ADeviceName, Entry, is_stored, cell_on, is_free, is_on_pin, control_of, control_if_stored, Design, name_at, no_name, formulas, Function, function_of, Wanted, given_formulas, IsReadable, IsSoundFormula, IsSoundFunction, IsSoundShared, IsSoundCell, IsSoundFree, HasNoControls, by_row, wanted_for, cell_by, cell_of, and_cell, cells_from, and_node, nodes_from, gathered, PinsApart, is_row, is_enabled_by_row, is_kept, ControlIsThere, HasNoEquation, MayChoose, IsTakeable}
 use Rattle.std.proofs.lemmas.List.Kept.{AllPairs-cons}
 use Rattle.abel_tree.specs.declared.words.Extension.TheVariants as extension
 use Rattle.netlist_laws.proofs.CellsFound.{has_pin}
@@ -11,7 +11,7 @@ use Rattle.netlist_laws.proofs.SoundLeaves.{read_declared, readable}
 -- ---- the signal of a cell
 
 module _ (d : Design) where
-  on_pin_by : (c : ℕ) (x : Entry) (kind : Kind) → cell_by d.context.device x kind ≡ Some c → (c < length d.context.device.cells) × (is_pin (cell_at d.context.device c).pin kind ≡ true) × (x.assigned ≡ true)
+  on_pin_by : (c : ℕ) (x : Entry) (kind : Kind) → cell_by d.context.device x kind ≡ Some c → (c < length d.context.device.cells) × (is_on_pin (cell_at d.context.device c).pin kind ≡ true) × (x.assigned ≡ true)
   on_pin_by c x (APin pin negated) is =
       elim (cases_Bool x.assigned) [
         | inl assigned ↦ found assigned (rw assigned at is)
@@ -21,7 +21,7 @@ module _ (d : Design) where
       nothing : None ≡ Some c → ⊥
       nothing e = absurd cc
 
-      found : x.assigned ≡ true → cell_on d.context.device pin ≡ Some c → (c < length d.context.device.cells) × (is_pin (cell_at d.context.device c).pin (APin pin negated) ≡ true) × (x.assigned ≡ true)
+      found : x.assigned ≡ true → cell_on d.context.device pin ≡ Some c → (c < length d.context.device.cells) × (is_on_pin (cell_at d.context.device c).pin (APin pin negated) ≡ true) × (x.assigned ≡ true)
       found assigned e =
           let at = position-Some (has_pin pin) d.context.device.cells c no_cell e in
           (at.0, eq-eqb pin (cell_at d.context.device c).pin (sym (eqb-true (cell_at d.context.device c).pin pin at.1)), assigned)
@@ -30,7 +30,7 @@ module _ (d : Design) where
   on_pin_by c x ADeviceName is = absurd cc
 
   -- the cell of a signal is one of the device, and on its pin
-  pub on_cell : (s c : ℕ) → cell_of d.context.device (name_at d.context s) ≡ Some c → (c < length d.context.device.cells) × (is_pin (cell_at d.context.device c).pin (name_at d.context s).kind ≡ true) × ((name_at d.context s).assigned ≡ true)
+  pub on_cell : (s c : ℕ) → cell_of d.context.device (name_at d.context s) ≡ Some c → (c < length d.context.device.cells) × (is_on_pin (cell_at d.context.device c).pin (name_at d.context s).kind ≡ true) × ((name_at d.context s).assigned ≡ true)
   on_cell s c is = on_pin_by c (name_at d.context s) (name_at d.context s).kind is
 
   -- what is asked of a cell is what a signal asks from this number on
@@ -63,7 +63,7 @@ module _ (d : Design) where
     unlike s c v is other same =
         let here = on_cell s c is in
         let there = on_cell other.signal v.cell other.on in
-        let e = apart (cell_at d.context.device c).pin s other.signal here.1 (subst (λ b. is_pin (cell_at d.context.device b).pin (name_at d.context other.signal).kind ≡ true) (sym same) there.1) in
+        let e = apart (cell_at d.context.device c).pin s other.signal here.1 (subst (λ b. is_on_pin (cell_at d.context.device b).pin (name_at d.context other.signal).kind ≡ true) (sym same) there.1) in
         omega (arith, e, other.late)
 
     pub each_once : (s : ℕ) (xs : List Entry) → ((k : ℕ) → k < length xs → get_or xs k no_name ≡ name_at d.context (s + k)) → AllPairs (λ (a b : Wanted). a.cell ≢ b.cell) (cells_from d.context (given_formulas d) s xs)

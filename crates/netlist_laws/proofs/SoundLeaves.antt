@@ -1,6 +1,6 @@
 -- A leaf that some read of a module reads, and for which the device has columns, is one that the netlist may read.
 use Rattle.std.proofs.Common.{◌≡◌, ℕ, ◌<◌, Bool, true, false, ◌&&◌, List, [], ◌∷◌, length, get_or, Option, Some, None, refl, sym, ap, ◌∙◌, inl, inr, position}
-use Rattle.netlist_laws.proofs.Common.{option_map, cases_Bool, cases_lt, eqb-true, eq-eqb, and_parts, true≢false, get_or_past, slice_get_within, position-Some, Levels, IsDevice, cell_at, no_cell, Leaf, Extension, Kind, APin, ANode, AConstant, ADeviceName, Entry, is_stored, follows_q, cell_on, is_pin, signal_on, cell_stores, Context, Design, name_at, no_name, wanted_at, registers_as, netlist_stores, given_formulas, IsReadable, Held, source_by, on_pin, pin_source, register_source, node_source, is_node_number, wanted_for, gathered, SignalUse, holds_leaf, use_reads, uses_read, PinsApart, HasColumns}
+use Rattle.netlist_laws.proofs.Common.{option_map, cases_Bool, cases_lt, eqb-true, eq-eqb, and_parts, true≢false, get_or_past, slice_get_within, position-Some, Levels, IsDevice, cell_at, no_cell, Leaf, Extension, Kind, APin, ANode, AConstant, ADeviceName, Entry, is_stored, follows_q, cell_on, is_on_pin, signal_on, cell_stores, Context, Design, name_at, no_name, wanted_at, registers_as, netlist_stores, given_formulas, IsReadable, LeafRead, source_by, on_pin, pin_source, register_source, node_source, is_node_number, wanted_for, gathered, SignalUse, holds_leaf, use_reads, uses_read, PinsApart, HasColumns}
 use Rattle.bit_expr.specs.declared.node.Leaf.TheVariants as leaf
 use Rattle.abel_tree.specs.declared.words.Extension.TheVariants as extension
 use Rattle.netlist_laws.proofs.CellsFound.{first_place, none_passes, has_pin, wanted_found}
@@ -44,17 +44,17 @@ module _ (d : Context) where
   IsDeclared (leaf.Q c) = (s : ℕ) × (pin : ℕ) × (negated : Bool) × ((name_at d s).kind ≡ APin pin negated) × (is_stored (name_at d s) ≡ true) × (cell_on d.device pin ≡ Some c)
   IsDeclared (leaf.Node n) = (s : ℕ) × ((name_at d s).kind ≡ ANode n)
 
-  of_pin : (p : ℕ) (l : Leaf) → holds_leaf (Held true (leaf.Pin p)) l ≡ true → IsDeclared l
+  of_pin : (p : ℕ) (l : Leaf) → holds_leaf (LeafRead true (leaf.Pin p)) l ≡ true → IsDeclared l
   of_pin p (leaf.Pin q) e = tt
   of_pin p (leaf.Q c) e = absurd cc
   of_pin p (leaf.Node n) e = absurd cc
 
-  of_q : (s pin c : ℕ) (negated : Bool) (l : Leaf) → (name_at d s).kind ≡ APin pin negated → is_stored (name_at d s) ≡ true → cell_on d.device pin ≡ Some c → holds_leaf (Held true (leaf.Q c)) l ≡ true → IsDeclared l
+  of_q : (s pin c : ℕ) (negated : Bool) (l : Leaf) → (name_at d s).kind ≡ APin pin negated → is_stored (name_at d s) ≡ true → cell_on d.device pin ≡ Some c → holds_leaf (LeafRead true (leaf.Q c)) l ≡ true → IsDeclared l
   of_q s pin c negated (leaf.Pin q) kind stored on e = absurd cc
   of_q s pin c negated (leaf.Q b) kind stored on e = (s, pin, negated, kind, stored, on ∙ ap (λ i. Some i) (eqb-true c b e))
   of_q s pin c negated (leaf.Node n) kind stored on e = absurd cc
 
-  of_node : (s n : ℕ) (l : Leaf) → (name_at d s).kind ≡ ANode n → holds_leaf (Held true (leaf.Node n)) l ≡ true → IsDeclared l
+  of_node : (s n : ℕ) (l : Leaf) → (name_at d s).kind ≡ ANode n → holds_leaf (LeafRead true (leaf.Node n)) l ≡ true → IsDeclared l
   of_node s n (leaf.Pin q) kind e = absurd cc
   of_node s n (leaf.Q c) kind e = absurd cc
   of_node s n (leaf.Node m) kind e = (s, kind ∙ ap (λ i. ANode i) (eqb-true n m e))
@@ -117,14 +117,14 @@ module _ (d : Design) (laws : IsDevice d.context.device) (numbered : AreNumbered
       ∙ stores_as d laws no_point c within (signal_on d.context c)
 
   -- the assigned signal of a cell is the one on it
-  pub assigned_on : (s c : ℕ) → c < length d.context.device.cells → (name_at d.context s).assigned ≡ true → is_pin (cell_at d.context.device c).pin (name_at d.context s).kind ≡ true → signal_on d.context c ≡ Some s
+  pub assigned_on : (s c : ℕ) → c < length d.context.device.cells → (name_at d.context s).assigned ≡ true → is_on_pin (cell_at d.context.device c).pin (name_at d.context s).kind ≡ true → signal_on d.context c ≡ Some s
   assigned_on s c within assigned on =
-      only_place (λ (x : Entry). x.assigned && is_pin (cell_at d.context.device c).pin x.kind) no_name d.context.names s
-      (inside d.context s (λ e. true≢false (sym on ∙ ap (λ k. is_pin (cell_at d.context.device c).pin k) e)))
+      only_place (λ (x : Entry). x.assigned && is_on_pin (cell_at d.context.device c).pin x.kind) no_name d.context.names s
+      (inside d.context s (λ e. true≢false (sym on ∙ ap (λ k. is_on_pin (cell_at d.context.device c).pin k) e)))
       (rw assigned on)
       (λ j hit. apart (cell_at d.context.device c).pin j s (and_parts (name_at d.context j).assigned _ hit).1 on)
 
-  pub wanted_of : (s c : ℕ) → c < length d.context.device.cells → (name_at d.context s).assigned ≡ true → is_pin (cell_at d.context.device c).pin (name_at d.context s).kind ≡ true → wanted_at (gathered d) c ≡ Some (wanted_for d.context (given_formulas d) c s (name_at d.context s))
+  pub wanted_of : (s c : ℕ) → c < length d.context.device.cells → (name_at d.context s).assigned ≡ true → is_on_pin (cell_at d.context.device c).pin (name_at d.context s).kind ≡ true → wanted_at (gathered d) c ≡ Some (wanted_for d.context (given_formulas d) c s (name_at d.context s))
   wanted_of s c within assigned on =
       wanted_found d.context (given_formulas d) laws c within
       ∙ ap (λ f. option_map (λ i. wanted_for d.context (given_formulas d) c i (name_at d.context i)) f) (assigned_on s c within assigned on)
@@ -134,7 +134,7 @@ module _ (d : Design) (laws : IsDevice d.context.device) (numbered : AreNumbered
   readable (leaf.Q c) has declared =
       let s = declared.0 in
       let at = position-Some (has_pin declared.1) d.context.device.cells c no_cell declared.5 in
-      let on : is_pin (cell_at d.context.device c).pin (name_at d.context s).kind ≡ true = rw declared.3 (eq-eqb declared.1 (cell_at d.context.device c).pin (sym (eqb-true (cell_at d.context.device c).pin declared.1 at.1))) in
+      let on : is_on_pin (cell_at d.context.device c).pin (name_at d.context s).kind ≡ true = rw declared.3 (eq-eqb declared.1 (cell_at d.context.device c).pin (sym (eqb-true (cell_at d.context.device c).pin declared.1 at.1))) in
       (has, (at.0, wanted_for d.context (given_formulas d) c s (name_at d.context s), wanted_of s c at.0 (and_parts (name_at d.context s).words.registered (name_at d.context s).assigned declared.4).1 on, declared.4))
   readable (leaf.Node n) has declared =
       let s = declared.0 in

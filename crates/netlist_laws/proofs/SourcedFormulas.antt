@@ -1,6 +1,6 @@
 -- What the formula of a contribution names is read by what the contribution uses.
 use Rattle.std.proofs.Common.{◌≡◌, ℕ, true, false, ◌||◌, List, [], ◌∷◌, ◌++◌, map, length, refl, sym, ap, ◌∙◌, replicate}
-use Rattle.netlist_laws.proofs.Common.{or_left, or_right, length-reverse, list_any-append, Levels, Leaf, make_not, make_and, make_or, Formula, Const, formula_value, Evaluator, Contribution, Context, Design, Follows, seen, make_source, met_word, bits_of, bits_of_all, formulas, digits_low_first, met, member_width, meeting, given_formulas, Source, Zero, Held, source_of, word_follows, SignalUse, term_uses, all_term_uses, reads_of_terms, given_uses, holds_leaf, use_reads, uses_read}
+use Rattle.netlist_laws.proofs.Common.{or_left, or_right, length-reverse, list_any-append, Levels, Leaf, make_not, make_and, make_or, Formula, Const, formula_value, Evaluator, Contribution, Context, Design, Follows, seen, make_source, met_word, bits_of, bits_of_all, formulas, digits_low_first, met, member_width, meeting, given_formulas, Source, Zero, LeafRead, source_of, word_follows, SignalUse, term_uses, all_term_uses, reads_of_terms, given_uses, holds_leaf, use_reads, uses_read}
 use Rattle.abel_meaning.specs.Sections.{contributions}
 use Rattle.abel_meaning.specs.Terms.{Term, Terms}
 use Rattle.abel_meaning.specs.Terms as term
@@ -29,8 +29,8 @@ module _ (d : Context) where
   of_source : (s : Source) → NamesOnly (λ l. (holds_leaf s l || false) ≡ true) (make_source s).what
   unfolding make_not
   of_source Zero l e = absurd cc
-  of_source (Held false leaf) l e = or_left _ false e
-  of_source (Held true leaf) l e = or_left _ false e
+  of_source (LeafRead false leaf) l e = or_left _ false e
+  of_source (LeafRead true leaf) l e = or_left _ false e
 
   mutual
     -- the bits of a term name what its reads read

@@ -3,7 +3,7 @@ pub use Rattle.std.specs.List.{list_any}
 pub use Rattle.std.specs.Option.{option_map}
 pub use Rattle.abel_meaning.specs.Choices.{inverting, is_free, is_free_signal, source_logic_under, source_values_under}
 pub use Rattle.abel_meaning.specs.Contributions.{Contribution, Evaluator}
-pub use Rattle.abel_meaning.specs.Controls.{cell_stores, control_if_stored, control_of, is_pin, shared_control, signal_on}
+pub use Rattle.abel_meaning.specs.Controls.{cell_stores, control_if_stored, control_of, is_on_pin, shared_control, signal_on}
 pub use Rattle.abel_meaning.specs.Designs.{Context, Design, context_of, design_of, name_at}
 pub use Rattle.abel_meaning.specs.FormulaBits.{formulas}
 pub use Rattle.abel_meaning.specs.Functions.{Function, allows, function_of, is_raw_signal}

@@ -3,7 +3,7 @@
 use Rattle.std.specs.Prelude.{ℕ, Bool, false, Option, List, [], ◌∷◌, ◌++◌, replicate}
 use Rattle.netlist_laws.specs.Prelude.{list_any, Leaf, same_leaf, Extension, Evaluator, Contribution, Context, Design}
 use Rattle.abel_meaning.specs.Sections.{contributions}
-use Rattle.abel_meaning.specs.Sources.{Source, Zero, Held, source_of}
+use Rattle.abel_meaning.specs.Sources.{Source, Zero, LeafRead, source_of}
 use Rattle.abel_meaning.specs.Terms.{Term, Terms, Number, X, Pulse, Release, Read, Set, UnaryOf, BinaryOf, NoTerm, Before}
 
 -- a signal where an expression reads it, with what is asked of it
@@ -45,7 +45,7 @@ given_uses d = contributions reads_of_terms d
 -- what is read is this leaf, or its complement
 abbrev pub holds_leaf : Source → Leaf → Bool
 holds_leaf Zero l = false
-holds_leaf (Held complement other) l = same_leaf other l
+holds_leaf (LeafRead complement other) l = same_leaf other l
 
 -- the use reads the leaf
 abbrev pub use_reads : Context → Leaf → SignalUse → Bool

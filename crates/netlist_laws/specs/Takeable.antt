@@ -2,7 +2,7 @@
 -- devices' datasheets).
 use Rattle.std.specs.Prelude.{◌≡◌, ℕ, ◌<◌, Bool, true, false, Option, None, Some, IsSome, List, length, slice_get}
 use Rattle.pld_device.specs.declared.carry.Carry.TheVariants as carry
-use Rattle.netlist_laws.specs.Prelude.{Enable, Row, PinLow, AfterRegister, IsPairOf, Table, cell_at, Leaf, Formula, Extension, ANode, Entry, is_stored, follows_q, is_free, Contribution, is_pin, cell_stores, control_of, Context, Design, name_at, formulas, is_raw_signal, given_formulas, HasNoSignalLoop, HasNoSignalPath, MayRegister}
+use Rattle.netlist_laws.specs.Prelude.{Enable, Row, PinLow, AfterRegister, IsPairOf, Table, cell_at, Leaf, Formula, Extension, ANode, Entry, is_stored, follows_q, is_free, Contribution, is_on_pin, cell_stores, control_of, Context, Design, name_at, formulas, is_raw_signal, given_formulas, HasNoSignalLoop, HasNoSignalPath, MayRegister}
 use Rattle.bit_expr.specs.declared.node.Leaf.TheVariants as leaf
 use Rattle.abel_tree.specs.declared.words.Extension.TheVariants as extension
 use Rattle.netlist_laws.specs.Gathered.{cell_of}
@@ -18,7 +18,7 @@ RegistersHaveCells d =
 -- no two names are one pin
 abbrev pub PinsApart : Context → Type 0
 PinsApart d =
-    (pin i j : ℕ) → is_pin pin (name_at d i).kind ≡ true → is_pin pin (name_at d j).kind ≡ true → i ≡ j
+    (pin i j : ℕ) → is_on_pin pin (name_at d i).kind ≡ true → is_on_pin pin (name_at d j).kind ≡ true → i ≡ j
 
 -- there are no more nodes than a point has values
 abbrev pub NodesAreFew : Context → Type 0

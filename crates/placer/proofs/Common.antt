@@ -56,7 +56,8 @@ pub use Rattle.decls.specs.Attributes.{brings_clash, has_unknown, is_refused_str
 pub use Rattle.decls.specs.NameRefusals.{all_buffered, always_inverts, buffered, buffers_refused, is_register_at, module_buffers_refused, name_refusals}
 pub use Rattle.decls.specs.NameRefusals.{names_once, read_refusals, sections_refused}
 pub use Rattle.decls.specs.NamesBefore.{added, names_behind, words_named, words_of_names}
-pub use Rattle.abel_meaning.specs.SignalPins.{is_on_pin, is_taken, is_signal_pin, has_wrong_kind, has_wrong_kind_by, has_wrong_kind_on, is_registered_by, is_registered_node, has_read_path, has_read_path_on, reads_by}
+pub use Rattle.abel_meaning.specs.SignalPins.{is_taken, is_signal_pin, has_wrong_kind, has_wrong_kind_by, has_wrong_kind_on, is_registered_by, is_registered_node, has_read_path, has_read_path_on, reads_by}
+pub use Rattle.abel_meaning.specs.Controls.{is_on_pin}
 pub use Rattle.decls.specs.Refused.{counts_differ, counts_refused, declaration_refused, declarations_refused, first_undeclared, given_count, has_numbers}
 pub use Rattle.decls.specs.Refused.{is_device, items_refused, name_refused, names_refused, node_limit, number_refused, parts_refused}
 pub use Rattle.decls.specs.Refused.{ranges_refused, refused_if, use_refused, uses_refused}
@@ -78,7 +79,7 @@ pub use Rattle.pld_device.specs.declared.cell.Cell.{Cell}
 pub use Rattle.pld_device.specs.declared.flip.Flip.{Flip}
 pub use Rattle.pld_order.proofs.Lists.{eqb_same, few, place_of}
 pub use Rattle.pld_order.specs.Graphs.{has}
-pub use Rattle.placer.specs.Faults.{IsToldOf, IsUnplaced}
+pub use Rattle.placer.specs.Faults.{TellsKeptSet, IsUnplaced}
 pub use Rattle.placer.specs.Following.{HasFittingPin, HasNumberedNames, IsFollowed}
 pub use Rattle.placer.specs.Given.{AreKnown, declaration_given, declarations_given, items_left, module_given, node_given, pin_given, pins_given, released_if}
 pub use Rattle.placer.specs.Given.{section_given}
@@ -91,7 +92,7 @@ pub use Rattle.placer.specs.PlacedModule.{with_equations}
 pub use Rattle.placer.specs.Placements.{HasNoPlacement, IsPlacedModule, Pins, all_released, dc_of, is_node, module_wishes, node_pin_of, pin_of, placed_with}
 pub use Rattle.placer.specs.Placements.{with_pins}
 pub use Rattle.placer.specs.Reads.{enables, has_enable, is_enable, is_read, read_parts, reads}
-pub use Rattle.placer.specs.Signals.{cells_of_room, has_cell_for, is_buried_register, is_enabled_by, is_free, large_cells, large_to, needs_pin, pin_fits}
+pub use Rattle.placer.specs.Signals.{cells_of_room, has_cell_for, is_buried_register, is_enabled_by, is_pin_free, large_cells, large_to, needs_pin, pin_fits}
 pub use Rattle.placer.specs.Signals.{preferred, small_to, to_place, to_place_from, wish, wishes}
 pub use Rattle.placer.specs.Wanted.{AreFree, wanted_of, with_signal}
 pub use Rattle.placer.specs.declared.seen.Seen.{Seen}

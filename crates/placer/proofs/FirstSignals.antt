@@ -1,6 +1,6 @@
 -- What is found of the first 32 signals is found of all: a device has fewer pins.
 use Rattle.std.proofs.Common.{◌≡◌, ℕ, zero, suc, ◌<◌, ◌≤◌, Bool, true, ◌&&◌, List, [], ◌∷◌, eqb, length, get_or, min, take, refl, ap, subst, ◌∙◌, arith}
-use Rattle.placer.proofs.Common.{and_parts, get_or-map, length-map, length-take, take_all, Table, has, few, place_of, Entry, no_name, CanPlace, CannotPlace, IsAssignment, IsKept, IsLeastCrowded, wish_of, is_free, pin_fits, preferred, to_place, wish, wishes}
+use Rattle.placer.proofs.Common.{and_parts, get_or-map, length-map, length-take, take_all, Table, has, few, place_of, Entry, no_name, CanPlace, CannotPlace, IsAssignment, IsKept, IsLeastCrowded, wish_of, is_pin_free, pin_fits, preferred, to_place, wish, wishes}
 use Rattle.std.specs.Set.{distinct_count}
 use Rattle.pin_matching.proofs.Hall.{same_fitting}
 use Rattle.pin_matching.proofs.Narrowed.{wish_front}
@@ -60,7 +60,7 @@ module _ (t : Table) (es : List Entry) (read : ℕ → Bool) (high : t.pins ≤ 
       let same = place.2 in
       omega (arith, pin_low, same, high)
     where
-      free_pin : (k : ℕ) → k < length (take 32 (wishes t es read)) → is_free t es (get_or pins k 0) ≡ true
+      free_pin : (k : ℕ) → k < length (take 32 (wishes t es read)) → is_pin_free t es (get_or pins k 0) ≡ true
       free_pin k low =
           let ss = to_place t es in
           let f = λ (s : ℕ). wish t es (read s) (get_or es s no_name) in
@@ -68,8 +68,8 @@ module _ (t : Table) (es : List Entry) (read : ℕ → Bool) (high : t.pins ≤ 
           let long = length-map ss f in
           let of : wish_of (take 32 (wishes t es read)) k ≡ f (get_or ss k 0) = wish_front (wishes t es read) 32 k (omega (arith, low, count)) ∙ get_or-map f ss k 0 [] (omega (arith, low, count, long)) in
           let x = get_or es (get_or ss k 0) no_name in
-          (and_parts (is_free t es (get_or pins k 0)) (pin_fits t (read (get_or ss k 0)) x (get_or pins k 0))
-          (kept_passes (λ pin. is_free t es pin && pin_fits t (read (get_or ss k 0)) x pin) (preferred t x.assigned) (get_or pins k 0)
+          (and_parts (is_pin_free t es (get_or pins k 0)) (pin_fits t (read (get_or ss k 0)) x (get_or pins k 0))
+          (kept_passes (λ pin. is_pin_free t es pin && pin_fits t (read (get_or ss k 0)) x pin) (preferred t x.assigned) (get_or pins k 0)
           (subst (λ ps. has ps (get_or pins k 0) ≡ true) of (is.fit k low)))).0
 
   pub few_signals : length (to_place t es) ≤ 24

@@ -1,6 +1,6 @@
 -- On a pin that fits it, a signal has a cell that can be what it is, and a column for its bare name.
 use Rattle.std.proofs.Common.{◌≡◌, ℕ, ◌<◌, Bool, true, false, not, ◌&&◌, ◌||◌, None, is_some, List, [], length, get_or, refl, sym, ap, ◌∙◌, subst, eqb-true}
-use Rattle.placer.proofs.Common.{filter, true≢false, and_parts, get_or-map, length-map, Table, APin, Entry, is_stored, cell_on, no_name, has, IsAssignment, wish_of, HasFittingPin, has_wrong_kind, has_wrong_kind_on, has_read_path, has_read_path_on, reads_by, has_cell_for, is_free, pin_fits, preferred, to_place, wish, wishes}
+use Rattle.placer.proofs.Common.{filter, true≢false, and_parts, get_or-map, length-map, Table, APin, Entry, is_stored, cell_on, no_name, has, IsAssignment, wish_of, HasFittingPin, has_wrong_kind, has_wrong_kind_on, has_read_path, has_read_path_on, reads_by, has_cell_for, is_pin_free, pin_fits, preferred, to_place, wish, wishes}
 use Rattle.std.specs.Cmp.{nat_eq_equiv}
 use Rattle.std.proofs.lemmas.Map.Made.{is_member-filter}
 
@@ -40,7 +40,7 @@ pins_fit t es read pins is k low = record { free = parts.0; fit = parts.1 }
     there : has (wish t es (read (get_or (to_place t es) k 0)) (get_or es (get_or (to_place t es) k 0) no_name)) (get_or pins k 0) ≡ true
     there = subst (λ ps. has ps (get_or pins k 0) ≡ true) of (is.fit k (subst (λ n. k < n) (sym (length-map (to_place t es) (λ s. wish t es (read s) (get_or es s no_name)))) low))
 
-    parts : (is_free t es (get_or pins k 0) ≡ true) × (pin_fits t (read (get_or (to_place t es) k 0)) (get_or es (get_or (to_place t es) k 0) no_name) (get_or pins k 0) ≡ true)
+    parts : (is_pin_free t es (get_or pins k 0) ≡ true) × (pin_fits t (read (get_or (to_place t es) k 0)) (get_or es (get_or (to_place t es) k 0) no_name) (get_or pins k 0) ≡ true)
     parts =
-        and_parts (is_free t es (get_or pins k 0)) (pin_fits t (read (get_or (to_place t es) k 0)) (get_or es (get_or (to_place t es) k 0) no_name) (get_or pins k 0))
-        (kept_passes (λ pin. is_free t es pin && pin_fits t (read (get_or (to_place t es) k 0)) (get_or es (get_or (to_place t es) k 0) no_name) pin) (preferred t (get_or es (get_or (to_place t es) k 0) no_name).assigned) (get_or pins k 0) there)
+        and_parts (is_pin_free t es (get_or pins k 0)) (pin_fits t (read (get_or (to_place t es) k 0)) (get_or es (get_or (to_place t es) k 0) no_name) (get_or pins k 0))
+        (kept_passes (λ pin. is_pin_free t es pin && pin_fits t (read (get_or (to_place t es) k 0)) (get_or es (get_or (to_place t es) k 0) no_name) pin) (preferred t (get_or es (get_or (to_place t es) k 0) no_name).assigned) (get_or pins k 0) there)

@@ -1,6 +1,6 @@
 -- The pins of an assignment, name by name.
 use Rattle.std.proofs.Common.{◌≡◌, ℕ, zero, suc, ◌+◌, ◌<◌, ◌==◌, Bool, true, false, not, ◌&&◌, ◌||◌, Option, None, Some, List, [], ◌∷◌, ◌++◌, length, get_or, if◌then◌else◌, refl, sym, ap, ap₂, subst, ◌∙◌, arith, inl, inr, is_some, bytes_eq}
-use Rattle.placer.proofs.Common.{list_any, true≢false, and_parts, cases_lt, or_cases, length-map, slice_get-get_or, Cell, Flip, Table, Named, list_assigns, named_of, sections_assign, Kind, APin, ANode, AConstant, ADeviceName, Entry, find, kind_of, is_value, passes, names_any, ModuleTree, list_uses, declared_names, is_unnumbered, no_name, holds_of, is_buffer_by_default, names_of, always_inverts, name_refusals, is_taken, is_signal_pin, uses_refused, same_bytes, Alike, alike_kinds, alike_settled, entries_sound, found_at, kind_at, same_name, is_registered_node, IsAssignment, Pinned, released, Pins, with_pins, is_node, pin_of, node_pin_of, all_released, is_buried_register, is_enabled_by, is_free, needs_pin, to_place, to_place_from, wish, wishes}
+use Rattle.placer.proofs.Common.{list_any, true≢false, and_parts, cases_lt, or_cases, length-map, slice_get-get_or, Cell, Flip, Table, Named, list_assigns, named_of, sections_assign, Kind, APin, ANode, AConstant, ADeviceName, Entry, find, kind_of, is_value, passes, names_any, ModuleTree, list_uses, declared_names, is_unnumbered, no_name, holds_of, is_buffer_by_default, names_of, always_inverts, name_refusals, is_taken, is_signal_pin, uses_refused, same_bytes, Alike, alike_kinds, alike_settled, entries_sound, found_at, kind_at, same_name, is_registered_node, IsAssignment, Pinned, released, Pins, with_pins, is_node, pin_of, node_pin_of, all_released, is_buried_register, is_enabled_by, is_pin_free, needs_pin, to_place, to_place_from, wish, wishes}
 use Rattle.pld_device.specs.declared.flip.Flip.TheVariants.{Always, AfterRegister, BeforeRegister}
 use Rattle.pld_device.specs.Macrocells.{pin_complements}
 use Rattle.decls.specs.declared.fault.NameFault.TheVariants as fault
@@ -192,10 +192,10 @@ module _ (t : Table) (m : ModuleTree) (none : name_refusals t m ≡ []) (read : 
           let same = one_place k there.place k_in there.signal_in (one_name (get_or ss k 0) (get_or ss there.place 0) (low_signal k k_in) (low_signal there.place there.signal_in) there.named) in
           found ∙ ap Some (sym (ap (λ j. get_or ps j 0) same ∙ there.is))
 
-  free_at : (name : List ℕ) (p : ℕ) → pins name ≡ Some p → is_free t es p ≡ true
+  free_at : (name : List ℕ) (p : ℕ) → pins name ≡ Some p → is_pin_free t es p ≡ true
   free_at name p found =
       let there = pin_found es ss ps name p found in
-      subst (λ q. is_free t es q ≡ true) there.is (pins_fit t es read ps is there.place there.signal_in).free
+      subst (λ q. is_pin_free t es q ≡ true) there.is (pins_fit t es read ps is there.place there.signal_in).free
 
   node_alone : (name : List ℕ) (q : ℕ) → nodes name ≡ Some q → pins name ≡ Some q
   node_alone name q found = by (names_any is_node es name) found
@@ -231,7 +231,7 @@ module _ (t : Table) (m : ModuleTree) (none : name_refusals t m ≡ []) (read : 
     others = node_others;
   }
     where
-      parts : (p : ℕ) → is_free t es p ≡ true → (is_signal_pin t p ≡ true) × (is_taken es p ≡ false)
+      parts : (p : ℕ) → is_pin_free t es p ≡ true → (is_signal_pin t p ≡ true) × (is_taken es p ≡ false)
       parts p free = split (is_signal_pin t p) (not (p == t.clock)) (not (list_any (λ (c : Cell). is_enabled_by p c.enable) t.cells)) (is_taken es p) free
         where
           split : (a b c d : Bool) → (a && b && c && not d) ≡ true → (a ≡ true) × (d ≡ false)

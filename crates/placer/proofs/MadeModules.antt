@@ -1,6 +1,6 @@
 -- What is made of the first signals is the placed module, and what is refused of them is refused of all.
 use Rattle.std.proofs.Common.{◌≡◌, ℕ, ◌==◌, ◌<◌, ◌≤◌, Bool, true, false, List, [], ◌∷◌, All, eqb, length, get_or, map, take, refl, sym, ap, ap₂, subst, ◌∙◌, arith}
-use Rattle.placer.proofs.Common.{IsDistinct, or_left, or_right, true≢false, nat_tests, get_or-take, length-map, take-map, take_all, All-from_get_or, All-take, slice_get-get_or, Table, has, eqb_same, Entry, ModuleTree, Statement, no_name, names_of, name_refusals, entries_sound, kind_at, IsKept, IsTaken, has_enable, is_read, IsToldOf, IsUnplaced, AreKnown, placed_module, HasNoPlacement, IsPlacedModule, all_released, dc_of, node_pin_of, pin_of, placed_with, with_pins, to_place, wish, wishes}
+use Rattle.placer.proofs.Common.{IsDistinct, or_left, or_right, true≢false, nat_tests, get_or-take, length-map, take-map, take_all, All-from_get_or, All-take, slice_get-get_or, Table, has, eqb_same, Entry, ModuleTree, Statement, no_name, names_of, name_refusals, entries_sound, kind_at, IsKept, IsTaken, has_enable, is_read, TellsKeptSet, IsUnplaced, AreKnown, placed_module, HasNoPlacement, IsPlacedModule, all_released, dc_of, node_pin_of, pin_of, placed_with, with_pins, to_place, wish, wishes}
 use Rattle.placer.specs.declared.fault.PlaceFault.{PlaceFault}
 use Rattle.placer.specs.declared.fault.PlaceFault.TheVariants.{NoPlacement, OutOfMemory}
 use Rattle.placer.proofs.GivenPins.{placed_from}
@@ -86,7 +86,7 @@ module _ (t : Table) (m : ModuleTree) (es : List Entry) (same : es ≡ names_of 
       kept_first : IsKept (take 32 (wishes t es (is_read es m.sections))) set count
       kept_first = subst (λ w. IsKept w set count) first kept
 
-  pub unplaced_is : (f : PlaceFault) → IsToldOf ss ws f → IsUnplaced t m f
+  pub unplaced_is : (f : PlaceFault) → TellsKeptSet ss ws f → IsUnplaced t m f
   unplaced_is (NoPlacement told places) is_told = unplaced_by is_told.0 told.items places is_told.1.0 is_told.1.1
   unplaced_is OutOfMemory is_told = tt
 

@@ -1,11 +1,11 @@
 -- Lists of pins, pin by pin.
 use Rattle.std.proofs.Common.{◌≡◌, ℕ, zero, suc, ◌+◌, ◌-◌, ◌<◌, ◌≤◌, ◌==◌, Bool, true, false, ◌&&◌, List, [], ◌∷◌, ◌++◌, filter, if◌then◌else◌, map, take, length, get_or, refl, sym, ap, ◌∙◌, arith, add-one, is_none}
-use Rattle.placer.proofs.Common.{range_with_len, append-nil, map-append, take_all, take_more, filter-append, Cell, Table, no_cell, Entry, cell_on, cells_of_room, is_free, large_to, pin_fits, small_to, wanted_of}
+use Rattle.placer.proofs.Common.{range_with_len, append-nil, map-append, take_all, take_more, filter-append, Cell, Table, no_cell, Entry, cell_on, cells_of_room, is_pin_free, large_to, pin_fits, small_to, wanted_of}
 
 -- those of the pins so far, with one pin more
 module _ (t : Table) (es : List Entry) (read : Bool) (x : Entry) (pins : List ℕ) (k pin : ℕ) (low : k < length pins) (at : pin ≡ get_or pins k 0) where
   abbrev wants : ℕ → Bool
-  wants p = is_free t es p && pin_fits t read x p
+  wants p = is_pin_free t es p && pin_fits t read x p
 
   push : wanted_of t es read x (take (k + 1) pins) ≡ wanted_of t es read x (take k pins) ++ (if wants pin then pin ∷ [] else [])
   push = ap (wanted_of t es read x) (take_more pins k 0 low ∙ ap (λ p. take k pins ++ p ∷ []) (sym at)) ∙ filter-append wants (take k pins) (pin ∷ [])

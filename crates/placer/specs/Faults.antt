@@ -11,7 +11,7 @@ IsUnplaced t m (NoPlacement signals places) = HasNoPlacement t m signals.items p
 IsUnplaced t m OutOfMemory = Unit {0}
 
 -- what is told of signals with these wishes: the set that is kept, by the signals' numbers
-abbrev pub IsToldOf : (signals : List ℕ) → (wishes : List (List ℕ)) → PlaceFault → Type 0
-IsToldOf signals wishes (NoPlacement told places) =
+abbrev pub TellsKeptSet : (signals : List ℕ) → (wishes : List (List ℕ)) → PlaceFault → Type 0
+TellsKeptSet signals wishes (NoPlacement told places) =
     (set : List ℕ) × (IsKept wishes set places × (told.items ≡ map (λ k. get_or signals k 0) set))
-IsToldOf signals wishes OutOfMemory = Unit {0}
+TellsKeptSet signals wishes OutOfMemory = Unit {0}

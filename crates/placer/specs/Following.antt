@@ -6,7 +6,7 @@ use Rattle.design_checks.specs.LocatedUses.{PlacedUse}
 use Rattle.design_checks.specs.SectionUses.{design_uses}
 use Rattle.placer.specs.Reads.{is_read}
 use Rattle.placer.specs.Placements.{IsPlacedModule}
-use Rattle.placer.specs.Signals.{is_free, pin_fits, to_place, wishes}
+use Rattle.placer.specs.Signals.{is_pin_free, pin_fits, to_place, wishes}
 
 -- where it is assigned, its cell can be what it is
 abbrev pub FittingHaveKinds : Type 0
@@ -22,7 +22,7 @@ FittingHavePaths =
 
 -- the pin is free and fits the signal of this number
 pub record HasFittingPin (t : Table) (es : List Entry) (read : ℕ → Bool) (signal pin : ℕ) : Type 0 where
-  pub free : is_free t es pin ≡ true
+  pub free : is_pin_free t es pin ≡ true
   pub fit : pin_fits t (read signal) (get_or es signal no_name) pin ≡ true
 
 -- so it is of each pin of an assignment

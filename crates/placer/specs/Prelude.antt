@@ -5,14 +5,15 @@ pub use Rattle.abel_meaning.specs.Declarations.{GivenName, are_numbered, given_n
 pub use Rattle.abel_meaning.specs.Designs.{Design, no_name}
 pub use Rattle.abel_meaning.specs.Kinds.{is_buffer_by_default, names_of}
 pub use Rattle.abel_tree.specs.Assigned.{Named, meant, named_of, signals_of, signals_of_name, signals_of_names, target_extension, without_extension}
-pub use Rattle.abel_tree.specs.Entries.{AConstant, ADeviceName, ANode, APin, Entry, Kind, entries_of, has, is_stored, kind_of, names_any, view_declared}
+pub use Rattle.abel_tree.specs.Entries.{AConstant, ADeviceName, ANode, APin, Entry, Kind, entries_of, has_bit, is_stored, kind_of, names_any, view_declared}
 pub use Rattle.abel_tree.specs.Entries.{view_meaning}
 pub use Rattle.abel_tree.specs.Tree.{ADiagram, AName, ANumber, AnAssign, Declaration, Declarations, Equations, ModuleTree, SectionTree, SomeAttributes}
 pub use Rattle.abel_tree.specs.Tree.{SomeNodes, SomePins, Statement, Tree}
 pub use Rattle.abel_tree.specs.View.{view, view_decl, view_module, view_section, view_stmt}
 pub use Rattle.abel_tree.specs.declared.words.Item.{Item}
 pub use Rattle.decls.specs.NameRefusals.{name_refusals}
-pub use Rattle.abel_meaning.specs.SignalPins.{is_on_pin, is_taken, is_signal_pin, has_wrong_kind, has_wrong_kind_on, is_registered_node, has_read_path, has_read_path_on}
+pub use Rattle.abel_meaning.specs.SignalPins.{is_taken, is_signal_pin, has_wrong_kind, has_wrong_kind_on, is_registered_node, has_read_path, has_read_path_on}
+pub use Rattle.abel_meaning.specs.Controls.{is_on_pin}
 pub use Rattle.decls.specs.Shown.{view_given}
 pub use Rattle.name_uses.specs.Parts.{PartRole, PartTree, Read, Registers, Target, Value}
 pub use Rattle.name_uses.specs.Viewed.{PartedSection, view_part, view_role, view_section_parts, view_use}

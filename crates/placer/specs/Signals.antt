@@ -30,8 +30,8 @@ is_enabled_by pin (Row row) = false
 is_enabled_by pin (PinLow p) = p == pin
 
 -- a pin that may have a name, is neither the clock nor enables a cell, and that no number names
-abbrev pub is_free : Table → List Entry → (pin : ℕ) → Bool
-is_free t es pin =
+abbrev pub is_pin_free : Table → List Entry → (pin : ℕ) → Bool
+is_pin_free t es pin =
     is_signal_pin t pin && not (pin == t.clock)
     && not (list_any (λ (c : Cell). is_enabled_by pin c.enable) t.cells) && not (is_taken es pin)
 
@@ -78,7 +78,7 @@ preferred t false = plain_pins t ++ small_cells t
 
 -- the free pins that fit a name, the most preferred one first
 abbrev pub wish : Table → List Entry → (read : Bool) → Entry → List ℕ
-wish t es read x = filter (λ pin. is_free t es pin && pin_fits t read x pin) (preferred t x.assigned)
+wish t es read x = filter (λ pin. is_pin_free t es pin && pin_fits t read x pin) (preferred t x.assigned)
 
 -- those of all signals that are to be placed, in order of declaration
 abbrev pub wishes : Table → List Entry → (read : ℕ → Bool) → List (List ℕ)

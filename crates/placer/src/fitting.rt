@@ -2,7 +2,7 @@
 
 ghost use Rattle.std.specs.Prelude.{◌≡◌, map, is_some};
 ghost use Rattle.placer.specs.Prelude.{list_any, Cell, view_declared, view_meaning, cell_on, is_on_pin, is_taken, is_signal_pin};
-ghost use Rattle.placer.specs.Signals.{has_cell_for, is_enabled_by, is_free, pin_fits};
+ghost use Rattle.placer.specs.Signals.{has_cell_for, is_enabled_by, is_pin_free, pin_fits};
 ghost use Rattle.placer.specs.Wanted.{AreFree};
 
 use abel_tree::{Declared, Meaning};
@@ -65,8 +65,8 @@ fn is_taken(names: &[Declared], pin: u8) -> bool
 }
 
 /// Whether the pin is free.
-fn is_free<D: Device>(names: &[Declared], pin: u8) -> bool
-    ensures { result ≡ is_free D.table (map view_declared names.now) pin }
+fn is_pin_free<D: Device>(names: &[Declared], pin: u8) -> bool
+    ensures { result ≡ is_pin_free D.table (map view_declared names.now) pin }
 {
     is_signal_pin::<D>(pin) && pin != D::CLOCK && !is_enabling::<D>(pin) && !is_taken(names, pin)
 }
@@ -77,7 +77,7 @@ pub(crate) fn free_pins<D: Device>(names: &[Declared]) -> u32
 {
     let mut free = 0;
     for pin in 0..D::PINS {
-        if is_free::<D>(names, pin) {
+        if is_pin_free::<D>(names, pin) {
             free = with_level(free, pin, true);
         }
     }

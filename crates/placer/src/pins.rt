@@ -1,7 +1,7 @@
 //! The pins that signals were given, by their names.
 
 ghost use Rattle.std.specs.Prelude.{◌≡◌, ◌<◌, All, IfSome, Some, None, if◌then◌else◌, length, map, get_or, position, bytes_eq};
-ghost use Rattle.placer.specs.Prelude.{has, view_declared, view_meaning, no_name};
+ghost use Rattle.placer.specs.Prelude.{has_bit, view_declared, view_meaning, no_name};
 ghost use Rattle.placer.specs.Given.{AreKnown, IsEachPinned, node_given, pin_given};
 ghost use Rattle.placer.specs.Placements.{dc_of, is_node};
 
@@ -24,7 +24,7 @@ fn is_named(declared: &Declared, name: &[u8]) -> bool
 
 /// Whether the attributes say `dc`.
 fn has_dc(attributes: Attributes) -> bool
-    ensures { result ≡ has 16 attributes }
+    ensures { result ≡ has_bit 16 attributes }
 {
     attributes.contains(Attributes::DC)
 }

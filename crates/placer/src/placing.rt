@@ -5,7 +5,7 @@ ghost use Rattle.placer.specs.Prelude.{entries_of, view_declared, view_module, n
 ghost use Rattle.pin_matching.specs.Refusals.{IsRefusal};
 ghost use Rattle.placer.specs.Marks.{HasMarks};
 ghost use Rattle.placer.specs.Reads.{has_enable, is_read};
-ghost use Rattle.placer.specs.Faults.{IsToldOf, IsUnplaced};
+ghost use Rattle.placer.specs.Faults.{TellsKeptSet, IsUnplaced};
 ghost use Rattle.placer.specs.Following.{AreFollowed, HasNumberedNames};
 ghost use Rattle.placer.specs.Placements.{IsPlacedModule};
 ghost use Rattle.placer.specs.Signals.{to_place, wish};
@@ -51,7 +51,7 @@ fn refusal(
     members: &[usize],
     places: usize,
 ) -> Result<PlaceFault, OutOfMemory>
-    ensures { IfOk result (λ f. (wishes : List (List ℕ)) → IsKept wishes members.now places → IsToldOf signals.now wishes f) }
+    ensures { IfOk result (λ f. (wishes : List (List ℕ)) → IsKept wishes members.now places → TellsKeptSet signals.now wishes f) }
 {
     let numbers = numbers_at(alloc, signals, members)?;
     Ok(PlaceFault::NoPlacement {
@@ -62,7 +62,7 @@ fn refusal(
 
 /// Why signals, told by their numbers, can't all be placed.
 fn unplaced(alloc: Global, signals: &[usize], fault: Unplaced) -> Result<PlaceFault, OutOfMemory>
-    ensures { IfOk result (λ f. (wishes : List (List ℕ)) → IsRefusal wishes fault → IsToldOf signals.now wishes f) }
+    ensures { IfOk result (λ f. (wishes : List (List ℕ)) → IsRefusal wishes fault → TellsKeptSet signals.now wishes f) }
 {
     match fault {
         Unplaced::NoPlacement {

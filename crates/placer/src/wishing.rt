@@ -3,7 +3,7 @@
 ghost use Rattle.std.specs.Prelude.{◌≡◌, ◌<◌, ◌≤◌, ◌&&◌, ℕ, Bool, List, All, IfOk, length, map, get_or};
 ghost use Rattle.placer.specs.Prelude.{bits, is_on, Entry, view_declared, no_name};
 ghost use Rattle.placer.specs.Marks.{HasMarks};
-ghost use Rattle.placer.specs.Signals.{is_free, pin_fits, wish};
+ghost use Rattle.placer.specs.Signals.{is_pin_free, pin_fits, wish};
 ghost use Rattle.placer.specs.Wanted.{AreFree, wanted_of};
 
 use crate::fitting::{free_pins, pin_fits};
@@ -23,7 +23,7 @@ fn is_marked(marks: u32, pin: u8) -> bool
 
 /// Whether the pin is free and fits.
 fn is_wanted<D: Device>(declared: &Declared, free: u32, read: bool, pin: u8) -> bool
-    ensures { (es : List Entry) → AreFree D.table es free → result ≡ (is_free D.table es pin && pin_fits D.table read (view_declared declared.now) pin) }
+    ensures { (es : List Entry) → AreFree D.table es free → result ≡ (is_pin_free D.table es pin && pin_fits D.table read (view_declared declared.now) pin) }
 {
     is_marked(free, pin) && pin_fits::<D>(declared, read, pin)
 }

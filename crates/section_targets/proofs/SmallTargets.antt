@@ -2,7 +2,7 @@
 use Rattle.std.proofs.Common.{◌≡◌, ℕ, ◌+◌, ◌≤◌, nat_lt, Option, None, Some, List, [], ◌++◌, length, refl, sym, ap, ◌∙◌, subst, arith, length-append}
 use Rattle.section_targets.proofs.Common.{ltb-false, length-map, Place, find, Tree, AName, ASet, AParen, none_refused, Context, Shape, Value, member_width, width_of, targets_of, all_targets, some_signals, Term, Terms, NoTerm, Before, term_named, known_of, SectionFault, BadWidth, name_found, found_use, names_found, too_wide, section_order, Side, IsSide, TargetFound, aim_at, target_name, target_set, target_member, target_members, left_side, no_signals, start_of, Number}
 use Rattle.abel_meaning.specs.Terms as term
-use Rattle.abel_meaning.specs.Values.{constant_of, set_value, nowhere}
+use Rattle.abel_meaning.specs.Values.{constant_of, set_value, empty_point}
 use Rattle.expr_bits.proofs.Linked.{IsLinkedIf, expression_linked}
 use Rattle.section_targets.proofs.Built.{left_empty, right_empty, none_told}
 use Rattle.section_targets.proofs.SignalLists.{some_append, side_all}
@@ -25,11 +25,11 @@ mutual
   term_narrow d _ = omega arith
 
   -- a set is as wide as its members
-  set_narrow : (d : Context) (ts : Terms) → many_of ts ≤ member_width (set_value d nowhere ts).shape
+  set_narrow : (d : Context) (ts : Terms) → many_of ts ≤ member_width (set_value d empty_point ts).shape
   set_narrow d NoTerm = omega arith
   set_narrow d (Before t ts) =
       let all : many_of (Before t ts) ≡ many t + many_of ts = ap length (some_append (targets_of t) (all_targets ts)) ∙ length-append (some_signals (targets_of t)) (some_signals (all_targets ts)) in
-      omega (arith, all, term_narrow d t, set_narrow d ts, member_narrow (set_value d nowhere ts).shape)
+      omega (arith, all, term_narrow d t, set_narrow d ts, member_narrow (set_value d empty_point ts).shape)
 
 few_by : (d : Context) (o : Option Value) (xs : List SectionFault) (t : Term) → (o ≡ None → ⊥) → IsLinkedIf d o xs t → many t ≤ 32
 few_by d None xs t h l = absurd (h refl)

@@ -1,12 +1,9 @@
 -- The order of the refusals of sections: by place, and at one place by kind (this project's rule).
 use Rattle.std.specs.Prelude.{ℕ}
 use Rattle.set_expr.specs.Prelude.{Place, Ranks}
+use Rattle.abel_tree.specs.FirstRefusal.{nowhere}
 use Rattle.set_expr.specs.declared.fault.SectionFault.{SectionFault}
 use Rattle.set_expr.specs.declared.fault.SectionFault.TheVariants as fault
-
--- want of memory has no place
-abbrev pub nowhere : Place
-nowhere = record { line = 0; column = 0 }
 
 abbrev pub place_of : SectionFault → Place
 place_of (fault.MisplacedSpecial p) = p

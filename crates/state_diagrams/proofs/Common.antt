@@ -20,7 +20,7 @@ pub use Rattle.abel_meaning.specs.Statements.{else_gives, given_each, sign_gives
 pub use Rattle.abel_meaning.specs.Tables.{match_of, no_matches}
 pub use Rattle.abel_meaning.specs.Targets.{some_signals, targets_of}
 pub use Rattle.abel_meaning.specs.Terms.{Term, Terms, known_of, term_of}
-pub use Rattle.abel_meaning.specs.Values.{binary_value, constant_of, joined_value, nowhere, set_value, term_value, unary_value}
+pub use Rattle.abel_meaning.specs.Values.{binary_value, constant_of, joined_value, empty_point, set_value, term_value, unary_value}
 pub use Rattle.abel_tree.proofs.FirstRefusals.{earlier_assoc, earlier_none, first_append, none_refused}
 pub use Rattle.abel_tree.specs.Entries.{APin, Entry, entries_of}
 pub use Rattle.abel_tree.specs.FirstRefusal.{earlier, first_refusal}

@@ -1,6 +1,6 @@
 -- The number of a value that reads no signal, by its bits where all signals are 0.
 use Rattle.std.proofs.Common.{◌≡◌, ℕ, suc, ◌<◌, ◌≤◌, Bool, true, false, ◌||◌, Option, None, Some, List, [], ◌∷◌, length, map, refl, sym, ap, ap₂, ◌∙◌, subst, arith}
-use Rattle.state_diagrams.proofs.Common.{ExprId, Formula, formula_value, Names, entries_of, Tree, none_refused, Context, bits_of, Value, width_of, number_with, Term, Terms, known_of, term_of, term_value, set_value, constant_of, nowhere, binary_value, unary_value, joined_value, number_small, number_of_digits, SectionFault, IsShaped, bits_at, positions, refusal_of, expression_found, section_order, all_zero}
+use Rattle.state_diagrams.proofs.Common.{ExprId, Formula, formula_value, Names, entries_of, Tree, none_refused, Context, bits_of, Value, width_of, number_with, Term, Terms, known_of, term_of, term_value, set_value, constant_of, empty_point, binary_value, unary_value, joined_value, number_small, number_of_digits, SectionFault, IsShaped, bits_at, positions, refusal_of, expression_found, section_order, all_zero}
 use Rattle.expr_bits.specs.Reads.{reads_signal, any_reads_signal}
 use Rattle.std.proofs.Math.Pow.{pow_mono}
 use Rattle.pld_base.specs.Points.{Levels}
@@ -30,7 +30,7 @@ mutual
       ap₂ (binary_value sign) (same_value d at t n.0) (same_value d at u n.1)
   same_value d at _ h = refl
 
-  same_set : (d : Context) (at : Levels) (ts : Terms) → any_reads_signal ts ≡ false → set_value d at ts ≡ set_value d nowhere ts
+  same_set : (d : Context) (at : Levels) (ts : Terms) → any_reads_signal ts ≡ false → set_value d at ts ≡ set_value d empty_point ts
   same_set d at term.NoTerm h = refl
   same_set d at (term.Before t ts) h =
       let n = neither (reads_signal t) (any_reads_signal ts) h in

@@ -1,7 +1,7 @@
 -- Of an output header in which nothing is refused nothing is refused as of an expression: it has signals and X alone, and at
 -- most 32 positions.
 use Rattle.std.proofs.Common.{◌≡◌, ℕ, ◌+◌, Bool, true, false, Option, None, Some, List, [], ◌∷◌, ◌++◌, if◌then◌else◌, length, bytes_eq, codes, refl, sym, ap, ap₂, ◌∙◌, subst, arith}
-use Rattle.truth_tables.proofs.Common.{length-append, option_map, Place, find, range_names, Tree, ASpecial, AName, ASet, AParen, OneMember, SpanMember, Members, NoMember, MoreMembers, Names, IsOver, Context, Value, member_width, width_of, targets_of, all_targets, Term, Terms, term_named, constant_of, SectionFault, MisplacedSpecial, NotAnOutput, Found, found_use, name_found, names_found, expression_found, too_wide, left_empty, right_empty, names_positions, all_name_positions, is_number, header_of, refused_header, outputs_at, named_outputs, header_name, header_range, header_special, output_header, output_members, length-map, Word, set_value, nowhere, HasKind, both_empty, all_found, found_of, found_special, range_found, refused_there, one_position, found_set, members_refused, members_width, members_specials, members_value, large_member, large_number, width_with, value_or_none}
+use Rattle.truth_tables.proofs.Common.{length-append, option_map, Place, find, range_names, Tree, ASpecial, AName, ASet, AParen, OneMember, SpanMember, Members, NoMember, MoreMembers, Names, IsOver, Context, Value, member_width, width_of, targets_of, all_targets, Term, Terms, term_named, constant_of, SectionFault, MisplacedSpecial, NotAnOutput, Found, found_use, name_found, names_found, expression_found, too_wide, left_empty, right_empty, names_positions, all_name_positions, is_number, header_of, refused_header, outputs_at, named_outputs, header_name, header_range, header_special, output_header, output_members, length-map, Word, set_value, empty_point, HasKind, both_empty, all_found, found_of, found_special, range_found, refused_there, one_position, found_set, members_refused, members_width, members_specials, members_value, large_member, large_number, width_with, value_or_none}
 use Rattle.abel_meaning.specs.Numbers as number
 use Rattle.abel_meaning.specs.Terms as term
 use Rattle.set_expr.specs.Refusals.{unless_refused}
@@ -25,7 +25,7 @@ mutual
   term_positions d (term.Set ts) h = let e = set_positions d ts h in record { other = ap is_number e; width = ap member_width e }
   term_positions d _ h = absurd cc
 
-  set_positions : (d : Context) (ts : Terms) → all_name_positions ts ≡ true → (set_value d nowhere ts).shape ≡ number.Set (length (all_targets ts))
+  set_positions : (d : Context) (ts : Terms) → all_name_positions ts ≡ true → (set_value d empty_point ts).shape ≡ number.Set (length (all_targets ts))
   set_positions d term.NoTerm h = refl
   set_positions d (term.Before t ts) h =
       ap₂ (λ m w. number.Set (m + w)) (term_positions d t (left_true (names_positions t) (all_name_positions ts) h)).width

@@ -25,7 +25,7 @@ pub use Rattle.abel_meaning.specs.Tables.{agrees, level_gives, match_of, no_matc
 pub use Rattle.abel_meaning.specs.Targets.{all_targets, targets_of}
 pub use Rattle.abel_meaning.specs.Terms.{Before, BinaryOf, Known, NoTerm, Number, Pulse, Release, Set, Term, Terms, UnaryOf, X, extended, extended_each}
 pub use Rattle.abel_meaning.specs.Terms.{extended_if, known_of, member_before, named_before, special_term, term_meant, term_named, term_of, terms_of}
-pub use Rattle.abel_meaning.specs.Values.{binary_by, constant_of, is_relation, nowhere, set_value}
+pub use Rattle.abel_meaning.specs.Values.{binary_by, constant_of, is_relation, empty_point, set_value}
 pub use Rattle.abel_tree.proofs.FirstRefusals.{earlier_assoc, earlier_none, first_append, none_refused}
 pub use Rattle.abel_tree.specs.Entries.{AConstant, APin, Entry, Kind, entries_of, find, is_signal, is_value, kind_of, names_any, passes, view_declared}
 pub use Rattle.abel_tree.specs.FirstRefusal.{earlier, first_refusal}
@@ -94,7 +94,7 @@ pub use Rattle.set_expr.specs.declared.fault.SectionFault.TheVariants.{ZeroDivis
 pub use Rattle.set_expr.specs.declared.shaped.Shape.{Shape}
 pub use Rattle.truth_tables.specs.{AreClear, AreClearNames, AreClearParts, AreParts, AreSignals, GivesOutput, GivesPositions, HasInputs, HeaderFound, IsAdded}
 pub use Rattle.truth_tables.specs.{IsClear, IsClearMember, IsClearName, IsClearPair, IsClearPart, IsClearStand, IsDone, IsListed, IsMet, IsNumeral, IsOfKind}
-pub use Rattle.truth_tables.specs.{IsOperator, IsOver, IsPair, IsPart, IsPut, IsRead, IsRow, IsSet, IsShapedTerm, IsStand, IsStep, IsUnrefused, LeadsBack}
+pub use Rattle.truth_tables.specs.{IsOperator, IsOver, IsPair, IsPart, IsPut, IsEntryRead, IsRow, IsSet, IsShapedTerm, IsStand, IsStep, IsUnrefused, LeadsBack}
 pub use Rattle.truth_tables.specs.{NamesOutputs, Opened, StandForInputs, Walked, Walking, WalksTable, WalksWork, Work, all_meet, all_name_positions}
 pub use Rattle.truth_tables.specs.{all_refused_inside, all_signs, any_holds_pulse, arrow_refused, assigned_by, before, behind, both_headers, both_sets}
 pub use Rattle.truth_tables.specs.{design_of, entry_refused, found_work, given_by, given_freely, given_output, headed_work, header_literals, header_name}

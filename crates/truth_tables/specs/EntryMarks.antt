@@ -15,6 +15,6 @@ view_mark mark.Pulsed = meant.Pulsed
 view_mark mark.Released = meant.Released
 
 -- what is found of an entry under its header, in a row that is refused so
-abbrev pub IsRead : Context → (row : SectionFault) → (header : Term) → (entry : Tree) → Entry → Type 0
-IsRead d r h t (entry.Refused f) = first_refusal section_order (entry_refused d r h t) ≡ Some f
-IsRead d r h t (entry.Marks ms) = (entry_refused d r h t ≡ []) × (map view_mark ms.items ≡ marks_of d h (term_of d.known t))
+abbrev pub IsEntryRead : Context → (row : SectionFault) → (header : Term) → (entry : Tree) → Entry → Type 0
+IsEntryRead d r h t (entry.Refused f) = first_refusal section_order (entry_refused d r h t) ≡ Some f
+IsEntryRead d r h t (entry.Marks ms) = (entry_refused d r h t ≡ []) × (map view_mark ms.items ≡ marks_of d h (term_of d.known t))

@@ -111,7 +111,7 @@ abbrev pub inputs_nodes : {D : Type 0} → device.Table → Headed D → ℕ
 inputs_nodes v h = term_nodes (design_of v h) (view h.table.now.inputs)
 
 -- neither side of the header is refused, and these are its outputs
-pub record IsAccepted {D : Type 0} (v : device.Table) (h : Headed D) : Type 0 where
+pub record IsHeaderAccepted {D : Type 0} (v : device.Table) (h : Headed D) : Type 0 where
   pub inputs : refusal_of h.scope.now (view h.table.now.inputs) ≡ None
   pub outputs : refusal_of h.scope.now (view h.table.now.outputs) ≡ None
   pub signals : AreNamed (length (entries_of h.scope.now)) (some_aims h.outputs.now)

@@ -2,7 +2,7 @@
 
 ghost use Rattle.std.specs.Prelude.{◌≡◌, None, IfOk};
 ghost use Rattle.truth_tables.specs.Prelude.{Context, Term, term_of, view, entries_of, names_found, refusal_of};
-ghost use Rattle.truth_tables.specs.{IsOver, paired, IsMet, IsPart, IsRead, IsClearPair};
+ghost use Rattle.truth_tables.specs.{IsOver, paired, IsMet, IsPart, IsEntryRead, IsClearPair};
 
 use crate::inside::refuse_inside;
 use crate::mark::Mark;
@@ -81,7 +81,7 @@ pub fn read_entry(
     entry: &Expr,
 ) -> Result<Entry, OutOfMemory>
     requires { refusal_of scope.now (view header.now) ≡ None }
-    ensures { IfOk result (λ r. (d : Context) → IsOver scope.now d → IsRead d row (term_of d.known (view header.now)) (view entry.now) r) }
+    ensures { IfOk result (λ r. (d : Context) → IsOver scope.now d → IsEntryRead d row (term_of d.known (view header.now)) (view entry.now) r) }
 {
     let inside = refuse_inside(alloc, scope, row, entry)?;
     if let Some(fault) = inside {

@@ -2,7 +2,7 @@
 
 ghost use Rattle.std.specs.Prelude.{◌≡◌, true, None, Some, ℕ, [], ◌∷◌, length, IfOk, OnOk};
 ghost use Rattle.truth_tables.specs.Prelude.{is_some, arena, AreIn, Keeps, BuildsNodes, part};
-ghost use Rattle.truth_tables.specs.{GivesRow, HasInputs, IsAccepted, WalksRow, nodes_left};
+ghost use Rattle.truth_tables.specs.{GivesRow, HasInputs, IsHeaderAccepted, WalksRow, nodes_left};
 
 use crate::checked_rows::{RowFound, read_row};
 use crate::giving::{Assigning, Matching, give_positions};
@@ -33,7 +33,7 @@ fn inputs_of<D: Device>(
     made: Option<Vec<Option<ExprId>>>,
     exprs: &mut Exprs,
 ) -> Result<Vec<Option<ExprId>>, SectionFault>
-    requires accepted { IsAccepted D.table headed.now }
+    requires accepted { IsHeaderAccepted D.table headed.now }
     requires made { HasInputs D.table headed.now made exprs.old }
     ensures keeps { Keeps (arena exprs.old) (arena exprs.new) }
     ensures builds { BuildsNodes (part unit (nodes_left D.table headed.now made) ∷ []) exprs.old exprs.new result }
@@ -53,7 +53,7 @@ fn give_row<D: Device>(
     inputs: &mut Option<Vec<Option<ExprId>>>,
     out: &mut Walked,
 ) -> Result<(), SectionFault>
-    requires accepted { IsAccepted D.table headed.now }
+    requires accepted { IsHeaderAccepted D.table headed.now }
     requires inputs { HasInputs D.table headed.now inputs.old out.old.exprs }
     ensures before { out.new.before ≡ out.old.before }
     ensures fault { out.new.fault ≡ out.old.fault }
@@ -93,7 +93,7 @@ pub(crate) fn walk_row<D: Device>(
     inputs: &mut Option<Vec<Option<ExprId>>>,
     out: &mut Walked,
 ) -> Result<(), OutOfMemory>
-    requires accepted { IsAccepted D.table headed.now }
+    requires accepted { IsHeaderAccepted D.table headed.now }
     requires inputs { HasInputs D.table headed.now inputs.old out.old.exprs }
     ensures walks { OnOk result ((n : ℕ) → (out.old.fault ≡ None → n ≡ nodes_left D.table headed.now inputs.old)
         → WalksRow D.table headed.now n row.now out.old out.new) }

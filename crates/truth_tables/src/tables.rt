@@ -2,7 +2,7 @@
 
 ghost use Rattle.std.specs.Prelude.{◌≡◌, List, [], ◌++◌, if◌then◌else◌, IfOk, OnOk};
 ghost use Rattle.truth_tables.specs.Prelude.{is_some, view, Context, IsContextOf, Manner, AreFirsts};
-ghost use Rattle.truth_tables.specs.{output_header, assigned_by, some_aims, IsAccepted, IsWholeHeader, WalksHeaded, WalksTable};
+ghost use Rattle.truth_tables.specs.{output_header, assigned_by, some_aims, IsHeaderAccepted, IsWholeHeader, WalksHeaded, WalksTable};
 
 use crate::giving::{Assigning, give_no_matches};
 use crate::headings::push_outputs;
@@ -77,7 +77,7 @@ fn walk_headed<D: Device>(
     headed: &Headed<'_, D>,
     out: &mut Walked,
 ) -> Result<(), OutOfMemory>
-    requires accepted { IsAccepted D.table headed.now }
+    requires accepted { IsHeaderAccepted D.table headed.now }
     ensures { OnOk result (WalksHeaded D.table headed.now out.old out.new) }
 {
     if out.fault.is_none() {

@@ -1,8 +1,8 @@
 -- One pin more.
 use Rattle.std.proofs.Common.{◌≡◌, ◌<◌, ◌≤◌, ◌+◌, true, false, map, sym, subst, ◌∙◌, arith}
-use Rattle.placer.proofs.Common.{view_declared, is_free}
+use Rattle.placer.proofs.Common.{view_declared, is_pin_free}
 use Rattle.placer.proofs.Free.{IsFreeTo, all_free, free_more, none_free, taken_more}
-use Rattle.placer.proofs.fitting.free_pins.Goals.{then-is_free, else-is_free}
+use Rattle.placer.proofs.fitting.free_pins.Goals.{then-is_pin_free, else-is_pin_free}
 use Rattle.placer.proofs.fitting.free_pins.Goals as goal
 
 pub loop-pin-init : goal.loop-pin-init
@@ -14,9 +14,9 @@ loop-pin-preserved g c =
     let es = map view_declared c.args.names.now in
     let l = c.loop-pin in
     let small : l.pin < 32 = omega (arith, c.loop-pin-test.true, c.PINS-pin-end.ensures, g.met.D.Device.pins_is, g.met.D.Device.sound.sizes.pins_high) in
-    elim c.if-is_free.branch [
-      | then-is_free w ↦ subst (IsFreeTo t es (l.pin + 1)) (sym w.free-is) (free_more t es l.pin l.free w.with_level-free.result small w.with_level-free.ensures (sym c.is_free.ensures ∙ w.if-is_free.true) l.invariant)
-      | else-is_free w ↦ subst (IsFreeTo t es (l.pin + 1)) (sym w.free-is) (taken_more t es l.pin l.free small (sym c.is_free.ensures ∙ w.if-is_free.false) l.invariant)
+    elim c.if-is_pin_free.branch [
+      | then-is_pin_free w ↦ subst (IsFreeTo t es (l.pin + 1)) (sym w.free-is) (free_more t es l.pin l.free w.with_level-free.result small w.with_level-free.ensures (sym c.is_pin_free.ensures ∙ w.if-is_pin_free.true) l.invariant)
+      | else-is_pin_free w ↦ subst (IsFreeTo t es (l.pin + 1)) (sym w.free-is) (taken_more t es l.pin l.free small (sym c.is_pin_free.ensures ∙ w.if-is_pin_free.false) l.invariant)
     ]
 
 pub returns : goal.returns

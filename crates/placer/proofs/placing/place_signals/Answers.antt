@@ -1,6 +1,6 @@
 -- What is made of the first signals is the placed module, and what is refused of them is refused of all.
 use Rattle.std.proofs.Common.{◌≡◌, ◌<◌, ◌≤◌, List, ℕ, All, length, map, get_or, take, refl, sym, ap, ◌∙◌, subst, arith}
-use Rattle.placer.proofs.Common.{length-map, length-take, view_declared, view_module, no_name, IsTaken, IsRefusal, HasMarks, has_enable, is_read, IsToldOf, AreKnown, all_released, with_pins, to_place, wish}
+use Rattle.placer.proofs.Common.{length-map, length-take, view_declared, view_module, no_name, IsTaken, IsRefusal, HasMarks, has_enable, is_read, TellsKeptSet, AreKnown, all_released, with_pins, to_place, wish}
 use Rattle.placer.proofs.MadeModules.{each_pin, names_known, placed_by, signals_inside, unplaced_is}
 use Rattle.placer.proofs.placing.place_signals.Goals as goal
 
@@ -64,5 +64,5 @@ returns-in_ok-told-in-Err-clause-refused g c =
     let ss = c.args.signals.items in
     let ws = c.in_ok-asked.asked.wishes.items in
     let is = c.in_ok-asked.ensures.wishes ∙ ap (map (λ s. wish t es (is_read es m.sections s) (get_or es s no_name))) c.as_slice-places.ensures.value in
-    let told = subst (λ xs. IsToldOf xs ws c.in_ok-told-in-Err.told) c.as_slice-places.ensures.value (c.in_ok-told-in-Err.ensures ws (subst (λ w. IsRefusal w c.in-Err.fault) c.as_slice-wishes.ensures.value c.in-Err.ensures.refused)) in
+    let told = subst (λ xs. TellsKeptSet xs ws c.in_ok-told-in-Err.told) c.as_slice-places.ensures.value (c.in_ok-told-in-Err.ensures ws (subst (λ w. IsRefusal w c.in-Err.fault) c.as_slice-wishes.ensures.value c.in-Err.ensures.refused)) in
     unplaced_is t m es c.requires.names c.requires.accepted ss ws c.requires.signals is c.in_ok-told-in-Err.told told

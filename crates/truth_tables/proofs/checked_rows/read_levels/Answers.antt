@@ -1,6 +1,6 @@
 -- An entry that is refused, and one that isn't.
 use Rattle.std.proofs.Common.{◌≡◌, false, List, [], ◌∷◌, map, refl, ap, sym, ◌∙◌, subst}
-use Rattle.truth_tables.proofs.Common.{none-some, Tree, view, Context, entry_levels, level_of_mark, marks_of, Term, term_of, SectionFault, names_found, Mark, IsRead, view_mark, entry_refused, holds_pulse, levels_of, level_refused}
+use Rattle.truth_tables.proofs.Common.{none-some, Tree, view, Context, entry_levels, level_of_mark, marks_of, Term, term_of, SectionFault, names_found, Mark, IsEntryRead, view_mark, entry_refused, holds_pulse, levels_of, level_refused}
 use Rattle.truth_tables.proofs.HeaderLaws.{first}
 use Rattle.truth_tables.proofs.checked_rows.read_levels.Goals as goal
 
@@ -19,7 +19,7 @@ pub returns-in-Refused : goal.returns-in-Refused
 returns-in-Refused c d is =
     let h = term_of d.known (view c.args.header.now) in
     let t = view c.args.entry.now in
-    let r = subst (IsRead d c.args.row h t) c.in-Refused.is (c.in_ok-fault.ensures d is) in
+    let r = subst (IsEntryRead d c.args.row h t) c.in-Refused.is (c.in_ok-fault.ensures d is) in
     let plain = subst (λ es. holds_pulse (names_found es) t ≡ false) (sym is.names) (sym c.in_ok-holds_pulse.ensures ∙ c.if-branch.false) in
     record {
       fault = sym (ap first (level_plain d c.args.row h t plain) ∙ r);
@@ -30,7 +30,7 @@ pub returns-in_ok-levels-in-Marks : goal.returns-in_ok-levels-in-Marks
 returns-in_ok-levels-in-Marks c d is =
     let h = term_of d.known (view c.args.header.now) in
     let t = view c.args.entry.now in
-    let r = subst (IsRead d c.args.row h t) c.in-Marks.is (c.in_ok-fault.ensures d is) in
+    let r = subst (IsEntryRead d c.args.row h t) c.in-Marks.is (c.in_ok-fault.ensures d is) in
     let plain = subst (λ es. holds_pulse (names_found es) t ≡ false) (sym is.names) (sym c.in_ok-holds_pulse.ensures ∙ c.if-branch.false) in
     record {
       fault = sym (ap first (level_plain d c.args.row h t plain ∙ r.0));

@@ -1,9 +1,9 @@
 -- One position more, and all of them.
 use Rattle.std.proofs.Common.{add-one, ◌≤◌, false, sym, ap₂, ◌∙◌, subst}
-use Rattle.expr_bits.proofs.Common.{take_all, places_of}
+use Rattle.expr_bits.proofs.Common.{take_all, shown_ids}
 use Rattle.expr_bits.proofs.PositionWords.{next}
 use Rattle.expr_bits.proofs.Shaped.{places_next}
-use Rattle.expr_bits.proofs.shaping.places_of.Goals as goal
+use Rattle.expr_bits.proofs.shaping.shown_ids.Goals as goal
 
 pub loop-index-preserved : goal.loop-index-preserved
 loop-index-preserved c =
@@ -13,4 +13,4 @@ loop-index-preserved c =
 pub returns : goal.returns
 returns c =
     let end = c.loop-index-test.false in
-    c.loop-index.invariant ∙ ap₂ places_of (take_all c.loop-index.index c.args.word.now end) (take_all c.loop-index.index c.args.unknown.now (subst (λ n. n ≤ c.loop-index.index) (sym c.requires) end))
+    c.loop-index.invariant ∙ ap₂ shown_ids (take_all c.loop-index.index c.args.word.now end) (take_all c.loop-index.index c.args.unknown.now (subst (λ n. n ≤ c.loop-index.index) (sym c.requires) end))
