@@ -11,6 +11,13 @@ pub struct Cube {
     pub no: u32,
 }
 
+/// A variable at a level.
+#[derive(Clone, Copy)]
+pub(crate) struct Literal {
+    pub(crate) variable: u8,
+    pub(crate) level: bool,
+}
+
 impl Cube {
     /// The cube that asks nothing. Takes no memory.
     pub fn full() -> Cube

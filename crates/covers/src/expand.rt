@@ -18,21 +18,14 @@ ghost use Rattle.covers.specs.Expanded.{IsExpanded};
 ghost use Rattle.covers.specs.Off.{IsOff};
 
 use crate::allowed::{Allowed, is_allowed};
-use crate::cube::Cube;
+use crate::cube::{Cube, Literal};
 use crate::pool::{CubePool, Range};
 use crate::rows::has_row;
 use crate::votes::{Marks, mark_covered, most_voted, votes};
 
 /// The cube without the literal, where the allowed cover has all of that.
-fn expanded_at(
-    pool: &mut CubePool,
-    allowed: &Allowed,
-    cube: Cube,
-    variable: u8,
-    level: bool,
-    vars: u8,
-) -> Cube
-    requires variable { variable < vars }
+fn expanded_at(pool: &mut CubePool, allowed: &Allowed, cube: Cube, tried: Literal, vars: u8) -> Cube
+    requires variable { tried.variable < vars }
     requires vars { vars ≤ 22 }
     requires allowed { LiesIn pool.old allowed.now.range }
     requires below { AllAskBelow vars (cubes_in pool.old allowed.now.range) }
@@ -44,12 +37,12 @@ fn expanded_at(
     ensures below { AsksBelow vars result }
     ensures inside { CoversCube (cubes_in pool.old allowed.now.range) result vars }
     ensures grows { Grows vars cube result }
-    ensures tried { asks variable level result ≡ true → CoversCube (cubes_in pool.old allowed.now.range) (without (literal_cube variable level) result) vars → ⊥ }
+    ensures tried { asks tried.variable tried.level result ≡ true → CoversCube (cubes_in pool.old allowed.now.range) (without (literal_cube tried.variable tried.level) result) vars → ⊥ }
 {
-    if !cube.asks(variable, level) {
+    if !cube.asks(tried.variable, tried.level) {
         return cube;
     }
-    let larger = cube.without(Cube::literal(variable, level));
+    let larger = cube.without(Cube::literal(tried.variable, tried.level));
     if is_allowed(pool, allowed, larger, vars) {
         return larger;
     }
@@ -75,8 +68,26 @@ fn expanded(pool: &mut CubePool, allowed: &Allowed, votes: &[u32; 32], cube: Cub
     let mut left = cube.yes | cube.no;
     while left != 0 {
         let variable = most_voted(votes, left);
-        let first = expanded_at(pool, allowed, found, variable, true, vars);
-        found = expanded_at(pool, allowed, first, variable, false, vars);
+        let first = expanded_at(
+            pool,
+            allowed,
+            found,
+            Literal {
+                variable,
+                level: true,
+            },
+            vars,
+        );
+        found = expanded_at(
+            pool,
+            allowed,
+            first,
+            Literal {
+                variable,
+                level: false,
+            },
+            vars,
+        );
         left &= !(1 << variable);
     }
     found

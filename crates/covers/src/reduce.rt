@@ -16,37 +16,37 @@ use crate::cube::Cube;
 use crate::irredundant::covers_needed;
 use crate::pool::{CubePool, Mark, Range};
 
-/// The half of the cube at one level of the variable, where the others have what is needed of the other half.
-fn reduced_at(
-    pool: &mut CubePool,
+/// What a row is reduced against: the other rows, and what is needed.
+#[derive(Clone, Copy)]
+struct Against {
     others: Range,
     needed: Range,
-    cube: Cube,
-    variable: u8,
-    vars: u8,
-) -> Cube
+}
+
+/// The half of the cube at one level of the variable, where the others have what is needed of the other half.
+fn reduced_at(pool: &mut CubePool, against: Against, cube: Cube, variable: u8, vars: u8) -> Cube
     requires vars { vars ≤ 22 }
     requires variable { variable < vars }
-    requires others { LiesIn pool.old others }
-    requires needed { LiesIn pool.old needed }
-    requires others_below { AllAskBelow vars (cubes_in pool.old others) }
-    requires needed_below { AllAskBelow vars (cubes_in pool.old needed) }
+    requires others { LiesIn pool.old against.others }
+    requires needed { LiesIn pool.old against.needed }
+    requires others_below { AllAskBelow vars (cubes_in pool.old against.others) }
+    requires needed_below { AllAskBelow vars (cubes_in pool.old against.needed) }
     requires cube { AsksBelow vars cube }
-    requires spare { 24 * (others.to - others.from) + 24 ≤ pool.old.spare }
+    requires spare { 24 * (against.others.to - against.others.from) + 24 ≤ pool.old.spare }
     ensures same { pool.new ≡ pool.old }
     ensures below { AsksBelow vars result }
     ensures inside { (p : List Bool) → has_point result p ≡ true → has_point cube p ≡ true }
-    ensures reduced { IsReduced (cubes_in pool.old others) (cubes_in pool.old needed) vars cube result }
+    ensures reduced { IsReduced (cubes_in pool.old against.others) (cubes_in pool.old against.needed) vars cube result }
 {
     if (cube.yes | cube.no) >> variable & 1 == 1 {
         return cube;
     }
     let one = cube.union(Cube::literal(variable, true));
     let zero = cube.union(Cube::literal(variable, false));
-    if covers_needed(pool, others, needed, one, vars) {
+    if covers_needed(pool, against.others, against.needed, one, vars) {
         return zero;
     }
-    if covers_needed(pool, others, needed, zero, vars) {
+    if covers_needed(pool, against.others, against.needed, zero, vars) {
         return one;
     }
     cube
@@ -66,9 +66,10 @@ fn reduced(pool: &mut CubePool, others: Range, needed: Range, row: Cube, vars: u
     ensures inside { (p : List Bool) → has_point result p ≡ true → has_point row p ≡ true }
     ensures reduced { IsReduced (cubes_in pool.old others) (cubes_in pool.old needed) vars row result }
 {
+    let against = Against { others, needed };
     let mut found = row;
     for variable in 0..vars {
-        found = reduced_at(pool, others, needed, found, variable, vars);
+        found = reduced_at(pool, against, found, variable, vars);
     }
     found
 }

@@ -21,7 +21,7 @@ ghost use Rattle.covers.specs.Outside.{FindsMissed, Misses, moved_number};
 ghost use Rattle.covers.specs.Unate.{asked_of, binate_of, branch_of, opposite_of, splits};
 
 use crate::cofactors::cube_cofactor;
-use crate::cube::Cube;
+use crate::cube::{Cube, Literal};
 use crate::pool::{CubePool, Range};
 use crate::unate::{asked_literals, has_full, most_asked};
 
@@ -56,24 +56,23 @@ fn missed_in_branch(
     pool: &mut CubePool,
     cover: Range,
     asked: Cube,
-    variable: u8,
-    level: bool,
+    split: Literal,
     vars: u8,
 ) -> Option<u32>
-    requires variable { variable < vars }
+    requires variable { split.variable < vars }
     requires vars { vars ≤ 22 }
     requires order { cover.from ≤ cover.to }
     requires within { cover.to ≤ length pool.old.cubes }
     requires below { AllAskBelow vars (cubes_in pool.old cover) }
     requires asked { asked ≡ asked_of (cubes_in pool.old cover) }
-    requires binate { bit_at (binate_of asked) variable ≡ 1 }
+    requires binate { bit_at (binate_of asked) split.variable ≡ 1 }
     requires spare { splits vars (cubes_in pool.old cover) * (cover.to - cover.from) ≤ pool.old.spare }
-    ensures all { result ≡ None → CoversAll (cofactor_of (branch_of asked variable level) (cubes_in pool.old cover)) vars }
+    ensures all { result ≡ None → CoversAll (cofactor_of (branch_of asked split.variable split.level) (cubes_in pool.old cover)) vars }
     ensures missed { IfSome result (λ point. Misses (cubes_in pool.old cover) vars point) }
     ensures same { pool.new ≡ pool.old }
 {
     let mark = pool.mark();
-    let by = branch(asked, variable, level);
+    let by = branch(asked, split.variable, split.level);
     let part = cube_cofactor(pool, cover, by);
     let found = missed_point(pool, part, vars);
     pool.release(mark);
@@ -103,9 +102,27 @@ pub(crate) fn missed_point(pool: &mut CubePool, cover: Range, vars: u8) -> Optio
         return Some(moved_into(0, opposite(asked)));
     }
     let variable = most_asked(pool, cover, binate);
-    match missed_in_branch(pool, cover, asked, variable, false, vars) {
+    match missed_in_branch(
+        pool,
+        cover,
+        asked,
+        Literal {
+            variable,
+            level: false,
+        },
+        vars,
+    ) {
         Some(point) => Some(point),
-        None => missed_in_branch(pool, cover, asked, variable, true, vars),
+        None => missed_in_branch(
+            pool,
+            cover,
+            asked,
+            Literal {
+                variable,
+                level: true,
+            },
+            vars,
+        ),
     }
 }
 

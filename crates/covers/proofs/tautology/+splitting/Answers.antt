@@ -7,7 +7,7 @@ use Rattle.covers.proofs.tautology.+splitting.Goals as goal
 
 pub missed_in_branch-cube_cofactor-part-requires-clause-spare : goal.missed_in_branch-cube_cofactor-part-requires-clause-spare
 missed_in_branch-cube_cofactor-part-requires-clause-spare t c =
-    part_room c.args.vars c.args.variable c.args.cover.from c.args.cover.to c.args.pool.now.spare (slice_range c.args.pool.now.cubes c.args.cover.from c.args.cover.to) c.requires.variable (rw c.requires.asked at c.requires.binate) c.requires.spare
+    part_room c.args.vars c.args.split.variable c.args.cover.from c.args.cover.to c.args.pool.now.spare (slice_range c.args.pool.now.cubes c.args.cover.from c.args.cover.to) c.requires.variable (rw c.requires.asked at c.requires.binate) c.requires.spare
 
 pub missed_point-returns-then-has_full-clause-answer : goal.missed_point-returns-then-has_full-clause-answer
 missed_point-returns-then-has_full-clause-answer t c = λ p len. some_full (slice_range c.args.pool.now.cubes c.args.cover.from c.args.cover.to) p (sym c.has_full.ensures ∙ c.if-has_full.true)
@@ -27,7 +27,7 @@ missed_in_branch-missed_point-found-requires t c =
     let cubes = slice_range c.args.pool.now.cubes c.args.cover.from c.args.cover.to in
     let part = c.cube_cofactor-part in
     let rest = slice_range part.new.pool.cubes part.result.from part.result.to in
-    let less = branch_falls c.args.vars c.args.variable part.result.from part.result.to c.args.level c.args.asked c.branch-by.result c.args.pool.now.cubes part.new.pool.cubes cubes c.requires.vars c.requires.variable c.requires.below c.requires.asked c.branch-by.ensures c.requires.binate part.ensures.cubes part.ensures.from part.ensures.to in
+    let less = branch_falls c.args.vars c.args.split.variable part.result.from part.result.to c.args.split.level c.args.asked c.branch-by.result c.args.pool.now.cubes part.new.pool.cubes cubes c.requires.vars c.requires.variable c.requires.below c.requires.asked c.branch-by.ensures c.requires.binate part.ensures.cubes part.ensures.from part.ensures.to in
     let below = rw (← appended c.args.pool.now.cubes part.new.pool.cubes (cofactor_of c.branch-by.result cubes) part.result.from part.result.to part.ensures.cubes part.ensures.from part.ensures.to) at (cofactor_below c.args.vars c.branch-by.result cubes c.requires.below) in
     let room = split_room (splits c.args.vars cubes) (splits c.args.vars rest) (c.args.cover.to - c.args.cover.from) (part.result.to - part.result.from) c.args.pool.now.spare part.new.pool.spare less (omega arith) c.requires.spare (omega arith) in
     search (rules, less, below, room)
@@ -35,7 +35,7 @@ missed_in_branch-missed_point-found-requires t c =
 pub missed_in_branch-returns-in-Some-clause-missed : goal.missed_in_branch-returns-in-Some-clause-missed
 missed_in_branch-returns-in-Some-clause-missed t c =
     let part = c.cube_cofactor-part in
-    branch_missed c.args.vars c.args.variable part.result.from part.result.to c.in-Some.point c.moved_into.result c.args.level c.args.asked c.branch-by.result c.args.pool.now.cubes part.new.pool.cubes (slice_range c.args.pool.now.cubes c.args.cover.from c.args.cover.to)
+    branch_missed c.args.vars c.args.split.variable part.result.from part.result.to c.in-Some.point c.moved_into.result c.args.split.level c.args.asked c.branch-by.result c.args.pool.now.cubes part.new.pool.cubes (slice_range c.args.pool.now.cubes c.args.cover.from c.args.cover.to)
     c.requires.vars c.requires.variable c.requires.below c.requires.asked c.branch-by.ensures c.requires.binate part.ensures.cubes part.ensures.from part.ensures.to c.in-Some.ensures.answer c.moved_into.ensures
 
 pub missed_point-returns-then-binate-eq0-clause-answer : goal.missed_point-returns-then-binate-eq0-clause-answer
