@@ -48,78 +48,63 @@ pub(crate) fn turned(complement: bool, positive: bool) -> bool
     if complement { !positive } else { positive }
 }
 
+/// What lists are made of: the netlist, and the lists that are kept of its bits, all of them right.
+#[derive(Drop)]
+struct Making<'a> {
+    alloc: Global,
+    net: &'a Netlist,
+    kept: &'a Kept,
+    ghost right: { AreRight net.now kept.now },
+}
+
 /// The list of a bit in a polarity, kept or made.
 #[cycle(lowering)]
-fn kept_or_made(
-    alloc: Global,
-    net: &Netlist,
-    kept: &Kept,
-    turns: usize,
-    bit: SignedBit,
-) -> Result<Vec<Cube>, LowerFault>
-    requires reach { CanReach net.now turns bit.id }
-    requires right { AreRight net.now kept.now }
-    ensures list { IsList (λ r. r.items) result (bit_list net.now bit.id bit.positive) }
+fn kept_or_made(of: &Making, turns: usize, bit: SignedBit) -> Result<Vec<Cube>, LowerFault>
+    requires reach { CanReach of.now.net.now turns bit.id }
+    ensures list { IsList (λ r. r.items) result (signed_list of.now.net.now bit) }
     ensures few { IfOk result (λ r. vec_len r ≤ 1024) }
 {
-    match kept.copy(bit)? {
+    match of.kept.copy(bit)? {
         Some(rows) => Ok(rows),
-        None => made(alloc, net, kept, turns, bit.id, bit.positive),
+        None => made(of, turns, bit),
     }
 }
 
 /// The list of a bit in a polarity, made of the lists of its operands.
 #[cycle(lowering)]
-fn made(
-    alloc: Global,
-    net: &Netlist,
-    kept: &Kept,
-    turns: usize,
-    id: ExprId,
-    positive: bool,
-) -> Result<Vec<Cube>, LowerFault>
-    requires reach { CanReach net.now turns id }
-    requires right { AreRight net.now kept.now }
-    ensures list { IsList (λ r. r.items) result (bit_list net.now id positive) }
+fn made(of: &Making, turns: usize, bit: SignedBit) -> Result<Vec<Cube>, LowerFault>
+    requires reach { CanReach of.now.net.now turns bit.id }
+    ensures list { IsList (λ r. r.items) result (signed_list of.now.net.now bit) }
     ensures few { IfOk result (λ r. vec_len r ≤ 1024) }
 {
-    match net.exprs.get(id) {
-        Node::Const(level) => constant(alloc, level == positive),
-        Node::Leaf(Leaf::Pin(pin)) => literal(alloc, net.pair_of_pin[pin as usize], positive),
-        Node::Leaf(Leaf::Q(cell)) => literal(alloc, net.pair_of_cell[cell as usize], positive),
-        Node::Leaf(Leaf::Node(node)) => node_list(alloc, net, kept, turns, node, positive),
-        Node::Not(a) => { kept_or_made(alloc, net, kept, turns, signed(a, !positive)) }
+    let SignedBit { id, positive } = bit;
+    match of.net.exprs.get(id) {
+        Node::Const(level) => constant(of.alloc, level == positive),
+        Node::Leaf(Leaf::Pin(pin)) => literal(of.alloc, of.net.pair_of_pin[pin as usize], positive),
+        Node::Leaf(Leaf::Q(cell)) => literal(
+            of.alloc,
+            of.net.pair_of_cell[cell as usize],
+            positive,
+        ),
+        Node::Leaf(Leaf::Node(node)) => node_list(of, turns, node, positive),
+        Node::Not(a) => kept_or_made(of, turns, signed(a, !positive)),
         Node::And(a, b) => {
             if positive {
-                product(alloc, net, kept, turns, signed(a, true), signed(b, true))
+                product(of, turns, signed(a, true), signed(b, true))
             } else {
-                sum(alloc, net, kept, turns, signed(a, false), signed(b, false))
+                sum(of, turns, signed(a, false), signed(b, false))
             }
         }
         Node::Or(a, b) => {
             if positive {
-                sum(alloc, net, kept, turns, signed(a, true), signed(b, true))
+                sum(of, turns, signed(a, true), signed(b, true))
             } else {
-                product(alloc, net, kept, turns, signed(a, false), signed(b, false))
+                product(of, turns, signed(a, false), signed(b, false))
             }
         }
         Node::Xor(a, b) => {
-            let first = product(
-                alloc,
-                net,
-                kept,
-                turns,
-                signed(a, true),
-                signed(b, !positive),
-            )?;
-            let second = product(
-                alloc,
-                net,
-                kept,
-                turns,
-                signed(a, false),
-                signed(b, positive),
-            )?;
+            let first = product(of, turns, signed(a, true), signed(b, !positive))?;
+            let second = product(of, turns, signed(a, false), signed(b, positive))?;
             sum_list(first, &second)
         }
     }
@@ -127,71 +112,47 @@ fn made(
 
 /// The list of the product of two bits, each in a polarity.
 #[cycle(lowering)]
-fn product(
-    alloc: Global,
-    net: &Netlist,
-    kept: &Kept,
-    turns: usize,
-    a: SignedBit,
-    b: SignedBit,
-) -> Result<Vec<Cube>, LowerFault>
-    requires a { CanReach net.now turns a.id }
-    requires b { CanReach net.now turns b.id }
-    requires right { AreRight net.now kept.now }
-    ensures list { IsList (λ r. r.items) result (product_of (signed_list net.now a) (signed_list net.now b)) }
+fn product(of: &Making, turns: usize, a: SignedBit, b: SignedBit) -> Result<Vec<Cube>, LowerFault>
+    requires a { CanReach of.now.net.now turns a.id }
+    requires b { CanReach of.now.net.now turns b.id }
+    ensures list { IsList (λ r. r.items) result (product_of (signed_list of.now.net.now a) (signed_list of.now.net.now b)) }
     ensures few { IfOk result (λ r. vec_len r ≤ 1024) }
 {
-    let first = kept_or_made(alloc, net, kept, turns, a)?;
-    let second = kept_or_made(alloc, net, kept, turns, b)?;
-    product_list(alloc, &first, &second)
+    let first = kept_or_made(of, turns, a)?;
+    let second = kept_or_made(of, turns, b)?;
+    product_list(of.alloc, &first, &second)
 }
 
 /// The list of the sum of two bits, each in a polarity.
 #[cycle(lowering)]
-fn sum(
-    alloc: Global,
-    net: &Netlist,
-    kept: &Kept,
-    turns: usize,
-    a: SignedBit,
-    b: SignedBit,
-) -> Result<Vec<Cube>, LowerFault>
-    requires a { CanReach net.now turns a.id }
-    requires b { CanReach net.now turns b.id }
-    requires right { AreRight net.now kept.now }
-    ensures list { IsList (λ r. r.items) result (sum_of (signed_list net.now a) (signed_list net.now b)) }
+fn sum(of: &Making, turns: usize, a: SignedBit, b: SignedBit) -> Result<Vec<Cube>, LowerFault>
+    requires a { CanReach of.now.net.now turns a.id }
+    requires b { CanReach of.now.net.now turns b.id }
+    ensures list { IsList (λ r. r.items) result (sum_of (signed_list of.now.net.now a) (signed_list of.now.net.now b)) }
     ensures few { IfOk result (λ r. vec_len r ≤ 1024) }
 {
-    let first = kept_or_made(alloc, net, kept, turns, a)?;
-    let second = kept_or_made(alloc, net, kept, turns, b)?;
+    let first = kept_or_made(of, turns, a)?;
+    let second = kept_or_made(of, turns, b)?;
     sum_list(first, &second)
 }
 
 /// The list of a node: that of its function with any as 0.
 #[cycle(lowering)]
-fn node_list(
-    alloc: Global,
-    net: &Netlist,
-    kept: &Kept,
-    turns: usize,
-    node: u8,
-    positive: bool,
-) -> Result<Vec<Cube>, LowerFault>
-    requires reach { ReachesThrough net.now (HasPair net.now) turns node }
-    requires turns { turns ≤ length net.now.nodes }
-    requires right { AreRight net.now kept.now }
-    ensures list { IsList (λ r. r.items) result (written net.now (Read (leaf.Node node)) positive) }
+fn node_list(of: &Making, turns: usize, node: u8, positive: bool) -> Result<Vec<Cube>, LowerFault>
+    requires reach { ReachesThrough of.now.net.now (HasPair of.now.net.now) turns node }
+    requires turns { turns ≤ length of.now.net.now.nodes }
+    ensures list { IsList (λ r. r.items) result (written of.now.net.now (Read (leaf.Node node)) positive) }
     ensures few { IfOk result (λ r. vec_len r ≤ 1024) }
 {
     if turns == 0 {
-        return Ok(Vec::new(alloc));
+        return Ok(Vec::new(of.alloc));
     }
-    let function = net.nodes.as_slice()[node as usize];
+    let function = of.net.nodes.as_slice()[node as usize];
     let bit = SignedBit {
         id: function.one,
         positive: turned(function.complement, positive),
     };
-    kept_or_made(alloc, net, kept, turns - 1, bit)
+    kept_or_made(of, turns - 1, bit)
 }
 
 /// Makes the list of a bit in a polarity, of the lists that are kept.
@@ -206,5 +167,6 @@ pub(crate) fn list_now(
     ensures list { IsList (λ r. r.items) result (bit_list net.now bit.id bit.positive) }
     ensures few { IfOk result (λ r. vec_len r ≤ 1024) }
 {
-    kept_or_made(alloc, net, kept, net.nodes.as_slice().len(), bit)
+    let of = Making { alloc, net, kept };
+    kept_or_made(&of, net.nodes.as_slice().len(), bit)
 }
