@@ -1,46 +1,21 @@
 //! The covers of a cell in the forms that it may have.
 
-ghost use Rattle.std.specs.Prelude.{◌≡◌, ◌≤◌, ◌<◌, ◌^◌, IfOk, Ok, false, true};
+ghost use Rattle.std.specs.Prelude.{◌≡◌, IfOk, Ok, false, true};
 ghost use Rattle.fit_plans.specs.Prelude.{CanLower};
 ghost use Rattle.fit_plans.specs.Choices.{FitsRoom};
 ghost use Rattle.fit_plans.specs.Covered.{CanCover, HasNoLists, IsListedAs, IsTriedAs, IsTriedCell};
 ghost use Rattle.fit_plans.specs.Forms.{may_be_inverted_as, rows_are_positive};
 
 use crate::choosing::Tried;
-use crate::covering::cover;
+use crate::covering::Covering;
 use crate::forms::{may_be_inverted_as, rows_are_positive};
 use crate::lists::written_lists;
+use crate::workspace::Workspace;
 use bit_expr::{CellWanted, Netlist};
-use covers::{Cube, CubePool};
+use covers::Cube;
 use pld_device::Flip;
 use sop_lowering::LowerFault;
 use std::alloc::{AllocError, Global};
-
-/// The cover of a cell in one form, over the pairs' columns; None where it may not have the form, or where a list on the
-/// way would pass 1,024 products. Bit v of `turned` says that pair v carries the complement of its variable.
-pub fn try_form(
-    alloc: Global,
-    pool: &mut CubePool,
-    net: &Netlist,
-    wanted: &CellWanted,
-    flip: Flip,
-    inverted: bool,
-    turned: u32,
-    vars: u8,
-) -> Result<Option<Vec<Cube>>, AllocError>
-    requires vars { vars ≤ 22 }
-    requires spare { 27672 ≤ pool.old.spare }
-    requires can { CanCover vars net.now wanted.now.function }
-    ensures same { pool.new ≡ pool.old }
-    ensures tried { IfOk result (IsTriedAs flip vars turned net.now wanted.now inverted) }
-{
-    if may_be_inverted_as(flip, wanted, inverted) {
-        let positive = rows_are_positive(flip, wanted, inverted);
-        cover(alloc, pool, net, wanted.function, positive, turned, vars)
-    } else {
-        Ok(None)
-    }
-}
 
 /// Whether there is a cover that fits the room.
 fn fits(cover: &Option<Vec<Cube>>, room: usize) -> bool
@@ -53,33 +28,47 @@ fn fits(cover: &Option<Vec<Cube>>, room: usize) -> bool
     }
 }
 
-/// The cover of a cell in its direct form, and in its inverted one only where the direct one doesn't fit the room, a number
-/// of rows: the inverted one of what fits directly may take a second.
-pub fn try_cell(
-    alloc: Global,
-    pool: &mut CubePool,
-    net: &Netlist,
-    wanted: &CellWanted,
-    flip: Flip,
-    room: usize,
-    turned: u32,
-    vars: u8,
-) -> Result<Tried, AllocError>
-    requires vars { vars ≤ 22 }
-    requires spare { 27672 ≤ pool.old.spare }
-    requires can { CanCover vars net.now wanted.now.function }
-    ensures same { pool.new ≡ pool.old }
-    ensures tried { IfOk result (IsTriedCell flip room vars turned net.now wanted.now) }
-{
-    let direct = try_form(alloc, pool, net, wanted, flip, false, turned, vars)?;
-    if fits(&direct, room) {
-        return Ok(Tried {
-            direct,
-            inverted: None,
-        });
+impl<'a> Covering<'a> {
+    /// The cover of a cell in one form; None where it may not have the form, or where a list on the way would pass 1,024
+    /// products.
+    pub fn try_form(
+        &self,
+        space: &mut Workspace,
+        wanted: &CellWanted,
+        inverted: bool,
+    ) -> Result<Option<Vec<Cube>>, AllocError>
+        requires { CanCover self.now.vars self.now.net.now wanted.now.function }
+        ensures { IfOk result (IsTriedAs self.now.flip self.now.vars self.now.turned self.now.net.now wanted.now inverted) }
+    {
+        if may_be_inverted_as(self.flip, wanted, inverted) {
+            let positive = rows_are_positive(self.flip, wanted, inverted);
+            self.cover(space, wanted.function, positive)
+        } else {
+            Ok(None)
+        }
     }
-    let inverted = try_form(alloc, pool, net, wanted, flip, true, turned, vars)?;
-    Ok(Tried { direct, inverted })
+
+    /// The cover of a cell in its direct form, and in its inverted one only where the direct one doesn't fit the room, a
+    /// number of rows: the inverted one of what fits directly may take a second.
+    pub fn try_cell(
+        &self,
+        space: &mut Workspace,
+        wanted: &CellWanted,
+        room: usize,
+    ) -> Result<Tried, AllocError>
+        requires { CanCover self.now.vars self.now.net.now wanted.now.function }
+        ensures { IfOk result (IsTriedCell self.now.flip room self.now.vars self.now.turned self.now.net.now wanted.now) }
+    {
+        let direct = self.try_form(space, wanted, false)?;
+        if fits(&direct, room) {
+            return Ok(Tried {
+                direct,
+                inverted: None,
+            });
+        }
+        let inverted = self.try_form(space, wanted, true)?;
+        Ok(Tried { direct, inverted })
+    }
 }
 
 /// Whether there are written lists of a cell in one form: not where it may not have the form, nor where a list on the way

@@ -1,7 +1,7 @@
 -- The cubes so far are appended, in the room that there was.
 use Rattle.std.proofs.Common.{◌≡◌, ◌+◌, ◌++◌, take}
 use Rattle.std.specs.Vec.{vec_capacity, vec_len}
-use Rattle.fit_plans.proofs.covering.append.Given as goal
+use Rattle.fit_plans.proofs.workspace.append.Given as goal
 
 abbrev pub invariant-loop-cube : goal.invariant-loop-cube
 invariant-loop-cube l = record {
