@@ -1,6 +1,7 @@
 pub mod Common
 pub mod ControlEnds
 pub mod FieldsRead
+pub mod FileLengths
 pub mod FrameRead
 pub mod LastSaid
 pub mod LevelsEnd

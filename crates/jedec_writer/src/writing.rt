@@ -116,6 +116,8 @@ pub fn write<D: Device>(
       vectors = all_chars D.table vectors.now;
       default_level = false;
     })) }
+    // With a name that is no longer than that of a module, a reader's limit is far off.
+    ensures short { length name.now ≤ 31 → IfOk result (λ out. length out.items ≤ 400000) }
 {
     written::<D>(alloc, name, fuses, vectors)
 }
