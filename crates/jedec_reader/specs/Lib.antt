@@ -1,4 +1,5 @@
 pub mod Contents
+pub mod DeviceFiles
 pub mod FieldFits
 pub mod FieldTexts
 pub mod FieldsIn
