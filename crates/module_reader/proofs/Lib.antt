@@ -6,9 +6,11 @@ pub mod Expansions
 pub mod Expressions
 pub mod Fates
 pub mod Forms
+pub mod ModuleNames
 pub mod Modules
 pub mod PlainNames
 pub mod Read
+pub mod ShortNames
 pub mod Statements
 pub mod Stops
 pub mod Tables
