@@ -7,6 +7,7 @@ pub mod PlacedRefusals
 pub mod Refusals
 pub mod SameCells
 pub mod SameContributions
+pub mod SameForms
 pub mod SameNetlists
 pub mod ToldPlacings
 pub mod UnrefusedNames

@@ -77,13 +77,13 @@ some_wanted fs (Some w) x e = (w, refl, some_same (plain_wanted fs w) x e)
 module _ (t : Table) (laws : IsDevice t) (net other : Netlist) (one : IsSoundNetlist t net) (two : IsSoundNetlist t other)
     (plain : plain_netlist net ≡ plain_netlist other) where
   -- the cell of the one that is a cell of the other
-  record HasCell (c : ℕ) (w : CellWanted) : Type 0 where
+  pub record HasCell (c : ℕ) (w : CellWanted) : Type 0 where
     pub cell : CellWanted
     pub wanted : cell_wanted net c ≡ Some cell
     pub same : plain_wanted (arena net.exprs) cell ≡ plain_wanted (arena other.exprs) w
     pub ids : IsSoundIdCell t net one c cell
 
-  cell_of : (c : ℕ) (w : CellWanted) → cell_wanted other c ≡ Some w → HasCell c w
+  pub cell_of : (c : ℕ) (w : CellWanted) → cell_wanted other c ≡ Some w → HasCell c w
   cell_of c w is =
       let found =
       some_wanted (arena net.exprs) (cell_wanted net c) (plain_wanted (arena other.exprs) w)
@@ -112,7 +112,7 @@ module _ (t : Table) (laws : IsDevice t) (net other : Netlist) (one : IsSoundNet
     allowed_same true = either_list true
     allowed_same false = one_list false
 
-    may_same : (i : Bool) → may_be_inverted_as t.flip h.cell i ≡ may_be_inverted_as t.flip w i
+    pub may_same : (i : Bool) → may_be_inverted_as t.flip h.cell i ≡ may_be_inverted_as t.flip w i
     may_same i =
         may_is t.flip (arena net.exprs) h.cell i ∙ ap (λ (x : Wanted). may_plain t.flip x i) h.same ∙ sym (may_is t.flip (arena other.exprs) w i)
 
@@ -121,10 +121,10 @@ module _ (t : Table) (laws : IsDevice t) (net other : Netlist) (one : IsSoundNet
         positive_is t.flip (arena net.exprs) h.cell i ∙ ap (λ (x : Wanted). positive_plain t.flip x i) h.same
         ∙ sym (positive_is t.flip (arena other.exprs) w i)
 
-    needed_as : (i : Bool) → needed_of net h.cell.function (rows_are_positive t.flip h.cell i) ≡ needed_of other w.function (rows_are_positive t.flip w i)
+    pub needed_as : (i : Bool) → needed_of net h.cell.function (rows_are_positive t.flip h.cell i) ≡ needed_of other w.function (rows_are_positive t.flip w i)
     needed_as i = ap (needed_of net h.cell.function) (positive_same i) ∙ needed_same (rows_are_positive t.flip w i)
 
-    allowed_as : (i : Bool) → allowed_of net h.cell.function (rows_are_positive t.flip h.cell i) ≡ allowed_of other w.function (rows_are_positive t.flip w i)
+    pub allowed_as : (i : Bool) → allowed_of net h.cell.function (rows_are_positive t.flip h.cell i) ≡ allowed_of other w.function (rows_are_positive t.flip w i)
     allowed_as i = ap (allowed_of net h.cell.function) (positive_same i) ∙ allowed_same (rows_are_positive t.flip w i)
 
     enable_same : bit_list net (enable_bit h.cell) true ≡ bit_list other (enable_bit w) true
