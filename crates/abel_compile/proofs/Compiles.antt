@@ -1,6 +1,8 @@
 -- What the phases answer for the module of a text, as an answer for the text.
-use Rattle.std.proofs.Common.{◌≡◌, ℕ, Some, List, [], Result, Ok, Err, sym, ap, ◌∙◌, subst, inl, inr, IfOk, IfErr}
+use Rattle.std.proofs.Common.{◌≡◌, ℕ, ◌≤◌, Some, List, [], length, Result, Ok, Err, sym, ap, ◌∙◌, subst, inl, inr, IfOk, IfErr}
 use Rattle.abel_compile.proofs.Common.{DeviceName, canonical_file, Word, ModuleTree, device_named, names_of, name_refusals, source_vectors, SpellsModule, IsRead, IsPinned, Compiled, CompileFault, Source, Place, Fit, OutOfMemory, SourceFault, Expand, Scan, Parse, Names, Sections, Design, Width, CompileAnswers, IsRightFile, table_of, IsOfSource, IsTextFault, IsNameFault, IsUnnamed, IsReadAlone, IsRefusedBy, IsPlacedFor, IsCompiledFor, IsCompiledOn, IsSourceRefused, placed_name}
+use Rattle.abel_lexer.specs.Kinds.{longest_name}
+use Rattle.module_reader.proofs.ShortNames.{name_is_short}
 use Rattle.abel_compile.proofs.NeverRefused.{spelled}
 
 -- ---- the text
@@ -70,9 +72,11 @@ of_compiled text m device c alone named is =
         is_placed = subst (λ (d : DeviceName). IsPinned (table_of d) m is.placed) (sym is.so.device_is) is.is.pinned;
         fuses = here.fuses;
         size = here.right.size;
+        mode = here.right.so.fixed;
         one_rest = here.right.does.one_rest;
         does = here.right.does;
         canonical = here.told.canonical ∙ ap (λ (w : Word). canonical_file (table_of c.device) w.text here.fuses (source_vectors (table_of c.device) is.placed)) (placed_name (table_of device) m is.placed is.is);
+        within = here.told.within (subst (λ (w : Word). length w.text ≤ longest_name) (sym (placed_name (table_of device) m is.placed is.is)) (name_is_short text m (spelled text m alone.read)));
         reads_back = here.told.reads_back;
       };
       read = alone.read;

@@ -1,6 +1,8 @@
+pub mod CellForms
 pub mod Common
 pub mod CompiledModules
 pub mod Compiles
+pub mod DirectForms
 pub mod Exclusive
 pub mod NeverRefused
 pub mod NothingRefused
@@ -8,3 +10,4 @@ pub mod OrderedRows
 pub mod PlacedModules
 pub mod Refusals
 pub mod ToldFuses
+pub mod WrongFuses

@@ -14,11 +14,11 @@ use Rattle.netlist_laws.specs.PrimeCorrect.{IsAssignedCell}
 
 module _ (t : Table) (m : ModuleTree) (net : Netlist) (fitted : Fitted) (laws : IsDevice t) (same : plain_netlist net ≡ netlist_of t m) (fits : IsFitOf t net fitted) (c : ℕ) (low : c < length t.cells)
     (assigned : IsAssignedCell (design_of t m).context c) where
-  abbrev its : ℕ → Wanted
+  abbrev pub its : ℕ → Wanted
   its s = wanted_for (design_of t m).context (given_formulas (design_of t m)) c s (name_at (design_of t m).context s)
 
   -- something is asked of the cell
-  asked : wanted_at (plain_netlist net) c ≡ Some (its assigned.0)
+  pub asked : wanted_at (plain_netlist net) c ≡ Some (its assigned.0)
   asked =
       ap (λ n. wanted_at n c) same
       ∙ wanted_found (design_of t m).context (given_formulas (design_of t m)) laws c low

@@ -6,6 +6,7 @@ use Rattle.abel_meaning.specs.Choices.{source_logic_under, source_values_under}
 use Rattle.netlist_laws.specs.ExchangedNets.{netlist_shown}
 use Rattle.netlist_laws.proofs.FreeCells.{shown_is_sound}
 use Rattle.compile_phases.proofs.NarrowVectors.{vectors_narrow}
+use Rattle.abel_compile.proofs.CellForms.{has_its_form}
 use Rattle.abel_compile.proofs.OrderedRows.{rows_ordered}
 use Rattle.abel_compile.proofs.laws.fits_are_right.Goals as goal
 
@@ -26,8 +27,12 @@ returns c = λ t m net fitted device takeable is fits.
         no_path = c.fitted_has_no_reset_path.ensures t chosen fuses device chosen_sound fits.fits;
         rows = c.fitted_rows_are_prime.ensures t m plain fuses device is.netlist.plain sound fits.fits;
         order = rows_ordered t m net fitted device is.netlist.plain fits;
+        forms = has_its_form t m net fitted device is.netlist fits;
         spare = c.fitted_spares_are_unused.ensures t m plain fuses device is.netlist.plain fits.fits;
         controls = c.fitted_controls_are_own.ensures t m plain fuses device takeable.registers is.netlist.plain sound fits.fits;
+        switches = fits.fits.switches;
+        fixed = fits.fits.fixed;
+        others = fits.fits.others;
         vectors = c.vectors_disagree_alike.ensures (device_logic t fuses) (source_logic_under t m (is_inverted t fuses)) (source_values_under t m (is_inverted t fuses)) does (source_vectors t m)
             (vectors_narrow t device m);
       };

@@ -18,4 +18,4 @@ returns-clause-told g c =
     (record { device = c.NAME.result; file = c.in_ok-write.field-0; listing = c.in_ok-listing.field-0; summary = c.in_ok-summary.field-0 })
     c.requires.vectors (c.bytes.ensures ∙ ap (λ x. (view_module x).name.text) c.module.ensures) c.requires.names.entries
     (c.fits_can_be_told.ensures t m c.args.net.now fitted g.met.D.Device.sound c.requires.netlist c.requires.fits).cells
-    c.in_ok-write.ensures.canonical c.in_ok-write.ensures.reads_back c.in_ok-listing.ensures c.in_ok-summary.ensures
+    c.in_ok-write.ensures.canonical c.in_ok-write.ensures.short c.in_ok-write.ensures.reads_back c.in_ok-listing.ensures c.in_ok-summary.ensures
