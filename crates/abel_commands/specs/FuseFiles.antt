@@ -2,19 +2,14 @@
 -- rule).
 use Rattle.std.specs.Prelude.{◌≡◌, ◌≢◌, ℕ, ◌≤◌, List, ◌++◌, length, Ok, Err, Some, codes}
 use Rattle.abel_commands.specs.Prelude.{decimal, Table, JedecFault, FuseFile, file_of, contents}
-use Rattle.pld_device.specs.FixedFuses.{HasFixedLevels, wrong_fixed}
+use Rattle.pld_device.specs.FixedFuses.{wrong_fixed}
+pub use Rattle.jedec_reader.specs.DeviceFiles.{IsFileOf}
 use Rattle.jedec_file.specs.declared.jedec_fault.JedecFault.TheVariants as fault
 use Rattle.abel_commands.specs.Limit.{limit, IsTooLong}
 use Rattle.abel_commands.specs.declared.taken.Taken.{Taken}
 use Rattle.abel_commands.specs.declared.taken.Taken.TheVariants as taken
 use Rattle.abel_commands.specs.Ending.{too_long_line}
 use Rattle.abel_commands.specs.FaultText.{fault_line}
-
--- the bytes are within the limit and spell this fuse file of the device, which has each level that the device fixes
-pub record IsFileOf (t : Table) (bytes : List ℕ) (file : FuseFile) : Type 0 where
-  pub within : length bytes ≤ limit
-  pub read : file_of t bytes ≡ Ok file
-  pub mode : HasFixedLevels t file.fuses
 
 -- the bytes are a fuse file of the device
 abbrev pub IsGoodFile : Table → (bytes : List ℕ) → Type 0
