@@ -1,4 +1,5 @@
 pub mod Call
+pub mod Checked
 pub mod Found
 pub mod Further
 pub mod Prelude

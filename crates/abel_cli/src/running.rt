@@ -3,6 +3,7 @@
 ghost use Rattle.std.specs.Prelude.{◌≡◌};
 ghost use Rattle.abel_cli.specs.Prelude.{Rose, memory_line, view, texts};
 ghost use Rattle.abel_cli.specs.Call.{asked, heard};
+ghost use Rattle.abel_cli.specs.Checked.{HasChecked};
 ghost use Rattle.abel_cli.specs.Telling.{Tells, TakesFront};
 ghost use Rattle.abel_cli.specs.Further.{HasCompiled, IsRightOrOld};
 ghost use Rattle.abel_cli.specs.Promises.{Promises};
@@ -64,6 +65,9 @@ pub fn run<F: Files, K: Sink>(alloc: Global, words: &[String], files: &mut F, re
     // What else holds of that source, and the summary in the report.
     ensures compiled { F.Tells → result ≡ 0 → HasCompiled (texts words.now) (F.file files.old)
         (F.file files.new) K.Tells (K.taken report.old) (K.taken report.new) }
+    // What `check` then answers of OUT: status 0, and the figures of that summary.
+    ensures checked { F.Tells → result ≡ 0 → HasChecked (texts words.now) (F.file files.new)
+        K.Tells (K.taken report.old) (K.taken report.new) }
     // Under every status OUT is as it was, holds such a file, or a write failed.
     ensures right_or_old { F.Tells → IsRightOrOld (texts words.now) (F.file files.old)
         (F.file files.new) (Rose (F.write_faults files.old) (F.write_faults files.new)) }

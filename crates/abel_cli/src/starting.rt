@@ -3,6 +3,7 @@
 ghost use Rattle.std.specs.Prelude.{◌≡◌, ℕ, List, Option, Some, None};
 ghost use Rattle.abel_cli.specs.Prelude.{SameFiles};
 ghost use Rattle.abel_cli.specs.Call.{asked, heard};
+ghost use Rattle.abel_cli.specs.Checked.{HasChecked};
 ghost use Rattle.abel_cli.specs.Further.{HasCompiled};
 ghost use Rattle.abel_cli.specs.Promises.{Promises};
 ghost use Rattle.abel_cli.specs.Right.{IsRight};
@@ -33,6 +34,9 @@ pub fn start<F: Files, K: Sink>(alloc: Global, given: &Given, files: &mut F, rep
         → result ≡ 0 → IsRight words (F.file files.old) (F.file files.new) }
     ensures compiled { (words : List (List ℕ)) → words_of given.now ≡ Some words → F.Tells
         → result ≡ 0 → HasCompiled words (F.file files.old) (F.file files.new)
+        K.Tells (K.taken report.old) (K.taken report.new) }
+    ensures checked { (words : List (List ℕ)) → words_of given.now ≡ Some words → F.Tells
+        → result ≡ 0 → HasChecked words (F.file files.new)
         K.Tells (K.taken report.old) (K.taken report.new) }
     ensures promises { (words : List (List ℕ)) → words_of given.now ≡ Some words
         → Promises (asked words F.Tells (F.file files.old) (F.file files.new)
