@@ -124,9 +124,12 @@ impl Exprs {
         ensures grew { OnOk result (Grew (arena self.old) (arena self.new) (folded (arena self.old) node).nodes) }
         ensures unchanged { OnErr result (self.new ≡ self.old) }
     {
-        match self.fold(node, usize::MAX - CONSTANTS) {
+        // A node takes at most one more, so that this limit is never passed.
+        let count = self.kept.len();
+        match self.fold(node, count + 1) {
             Ok(id) => Ok(id),
-            Err(_) => Err(OutOfMemory),
+            Err(ExprFault::NodeLimit) => unreachable!(),
+            Err(ExprFault::OutOfMemory) => Err(OutOfMemory),
         }
     }
 
