@@ -34,7 +34,7 @@ fn first_name(alloc: Global, item: &Item) -> Result<NameText, OutOfMemory>
 }
 
 /// Whether there are numbers, but fewer or more than names, which are counted already.
-pub(crate) fn counts_differ(names: &[Item], count: usize, numbers: &[Span]) -> bool
+pub(crate) fn counts_differ(names: &[Item], count: u128, numbers: &[Span]) -> bool
     ensures { count ≡ length (given_names names.now) → result ≡ counts_differ names.now numbers.now }
 {
     has_numbers(numbers) && !has_bad(names) && !is_count(numbers, count)

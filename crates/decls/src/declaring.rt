@@ -19,13 +19,13 @@ use std::alloc::Global;
 
 /// So many numbers are written out at once where names may be left out. A device has far fewer pins,
 /// and one item has fewer names.
-const MANY: usize = 65536;
+const MANY: u128 = 65536;
 
 /// Numbers of a pin declaration, written out for so many of its names.
 #[derive(Drop)]
 struct PinNumbers {
     list: Vec<u32>,
-    room: usize,
+    room: u128,
 }
 
 /// What is left of numbers behind the first ones.
@@ -54,7 +54,7 @@ impl Pass {
             self.leave_out(names, attributes);
             return Ok(());
         }
-        let count = count_names(names)?;
+        let count = count_names(names);
         let wrong = counts_differ(names, count, numbers);
         self.table.check_new(alloc, wrong, names, attributes)?;
         let first = self.first_numbers(alloc, count, numbers)?;
@@ -63,7 +63,7 @@ impl Pass {
     }
 
     /// How many numbers are written out at once.
-    fn room_for(&self, count: usize) -> usize
+    fn room_for(&self, count: u128) -> u128
         ensures within { result ≤ count }
         ensures whole { self.now.skips ≡ false → result ≡ count }
     {
@@ -78,7 +78,7 @@ impl Pass {
     fn first_numbers(
         &self,
         alloc: Global,
-        count: usize,
+        count: u128,
         numbers: &[Span],
     ) -> Result<PinNumbers, OutOfMemory>
         ensures { IfOk result (λ f. HasNumbers self.now.skips f.room f.list.items (numbers_of count numbers.now)) }
@@ -109,19 +109,19 @@ impl Pass {
                 return Ok(());
             }
             self.table.enter_pins(alloc, given.as_slice(), rest, said)?;
-            left = left.saturating_sub(given.as_slice().len());
+            left = left.saturating_sub(given.as_slice().len() as u128);
             rest = numbers_after(rest, given.as_slice().len());
         }
         Ok(())
     }
 
     /// Gives up where there are fewer numbers than names.
-    fn is_short(&mut self, left: usize, count: usize) -> bool
+    fn is_short(&mut self, left: u128, count: usize) -> bool
         ensures lost { result ≡ true → (w : Way) (s n : Progress) → Follows w self.old s → Follows w self.new n }
         ensures goes { result ≡ false → self.new ≡ self.old }
         ensures enough { result ≡ false → (self.old.skips ≡ false) ⊎ (count ≤ left) }
     {
-        if self.skips && count > left {
+        if self.skips && count as u128 > left {
             self.leave(false);
             return true;
         }

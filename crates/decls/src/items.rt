@@ -1,6 +1,6 @@
 //! The names and numbers of a declaration.
 
-ghost use Rattle.std.specs.Prelude.{◌≡◌, IfOk, OnOk, List, ℕ, map, ◌++◌, ◌+◌, length};
+ghost use Rattle.std.specs.Prelude.{◌≡◌, IfOk, OnOk, List, ℕ, map, ◌++◌, length};
 ghost use Rattle.decls.specs.Prelude.{list_any, is_bad, item_names, given_names, name_items};
 ghost use Rattle.decls.specs.Shown.{view_given, given_by};
 
@@ -37,25 +37,15 @@ pub(crate) fn given_by_item(alloc: Global, item: &Item) -> Result<Vec<Given>, Ou
     Ok(list)
 }
 
-/// How many names a declaration has. More than a machine counts have no room in its memory either.
-pub(crate) fn count_names(items: &[Item]) -> Result<usize, OutOfMemory>
-    ensures { IfOk result (λ n. n ≡ length (given_names items.now)) }
+/// How many names a declaration has: in 128 bits, since a short range has many names.
+pub(crate) fn count_names(items: &[Item]) -> u128
+    ensures { result ≡ length (given_names items.now) }
 {
-    let mut count = 0usize;
+    let mut count = 0u128;
     for item in items {
-        count = sum(count, item_count(item))?;
+        count += item_count(item) as u128;
     }
-    Ok(count)
-}
-
-/// The sum of two counts.
-fn sum(one: usize, other: usize) -> Result<usize, OutOfMemory>
-    ensures { IfOk result (λ n. n ≡ one + other) }
-{
-    match one.checked_add(other) {
-        Some(sum) => Ok(sum),
-        None => Err(OutOfMemory),
-    }
+    count
 }
 
 /// Adds the names of one item.

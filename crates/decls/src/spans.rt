@@ -31,12 +31,12 @@ fn distance(first: u32, last: u32) -> u32
 }
 
 /// Whether there are exactly so many numbers.
-pub(crate) fn is_count(spans: &[Span], count: usize) -> bool
+pub(crate) fn is_count(spans: &[Span], count: u128) -> bool
     ensures { result ≡ (count == count_numbers spans.now) }
 {
     let mut room = count;
     for span in spans {
-        let here = span_count(span);
+        let here = span_count(span) as u128;
         if room < here {
             return false;
         }
@@ -46,24 +46,20 @@ pub(crate) fn is_count(spans: &[Span], count: usize) -> bool
 }
 
 /// The first numbers, so many as there is room for.
-pub(crate) fn numbers_in(
-    alloc: Global,
-    room: usize,
-    spans: &[Span],
-) -> Result<Vec<u32>, OutOfMemory>
+pub(crate) fn numbers_in(alloc: Global, room: u128, spans: &[Span]) -> Result<Vec<u32>, OutOfMemory>
     ensures { IfOk result (λ ns. ns.items ≡ numbers_of room spans.now) }
 {
     let mut numbers = Vec::new(alloc);
     let mut left = room;
     for span in spans {
         put_span(&mut numbers, left, span)?;
-        left = left.saturating_sub(span_count(span));
+        left = left.saturating_sub(span_count(span) as u128);
     }
     Ok(numbers)
 }
 
 /// The numbers of a span, so many as there is room for.
-fn put_span(numbers: &mut Vec<u32>, room: usize, span: &Span) -> Result<(), OutOfMemory>
+fn put_span(numbers: &mut Vec<u32>, room: u128, span: &Span) -> Result<(), OutOfMemory>
     ensures { OnOk result (numbers.new.items ≡ numbers.old.items ++ span_numbers room span.now.first.value span.now.last) }
 {
     match span.last {
@@ -76,10 +72,10 @@ fn put_span(numbers: &mut Vec<u32>, room: usize, span: &Span) -> Result<(), OutO
 }
 
 /// The numbers from the first up or down to the last, so many as there is room for.
-fn put_range(numbers: &mut Vec<u32>, room: usize, first: u32, last: u32) -> Result<(), OutOfMemory>
+fn put_range(numbers: &mut Vec<u32>, room: u128, first: u32, last: u32) -> Result<(), OutOfMemory>
     ensures { OnOk result (numbers.new.items ≡ numbers.old.items ++ map (λ k. number_at first last k) (range_with_len 0 (range_length room first last))) }
 {
-    let end = room.min(distance(first, last) as usize + 1);
+    let end = room.min(u128::from(distance(first, last)) + 1);
     for step in 0..end {
         numbers.push(number_from(first, last, step as u32))?;
     }

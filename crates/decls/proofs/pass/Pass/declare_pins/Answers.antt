@@ -25,9 +25,9 @@ returns c =
     let checked = goes_on w d (record d { table = c.check_new.new.self }) s (new_checked wrong names words s) refl c.if-self.false (c.in_ok-check_new.ensures w.table s (f.shown c.if-self.false)) f in
     let first = c.in_ok-first.first in
     let numbers = subst (λ b. HasNumbers b first.room first.list.items ns) checked.skips
-    (subst (λ n. HasNumbers d.skips first.room first.list.items (numbers_of n c.args.numbers.now)) c.in_ok-count.ensures c.in_ok-first.ensures) in
+    (subst (λ n. HasNumbers d.skips first.room first.list.items (numbers_of n c.args.numbers.now)) c.count_names-count.ensures c.in_ok-first.ensures) in
     subst (Follows w c.wait_if.new.self)
     (ap₂ (λ u v. waits_if u.buffer (given_names names) (fold (pin_step w.table v) (new_checked wrong names words s) (with_numbers (given_names names) ns))) c.all_in-2.ensures c.all_in.ensures
-    ∙ ap (λ b. waits_if (all_said words).buffer (given_names names) (fold (pin_step w.table (all_said words)) (new_checked b names words s) (with_numbers (given_names names) ns))) (c.counts_differ-wrong.ensures c.in_ok-count.ensures))
+    ∙ ap (λ b. waits_if (all_said words).buffer (given_names names) (fold (pin_step w.table (all_said words)) (new_checked b names words s) (with_numbers (given_names names) ns))) (c.counts_differ-wrong.ensures c.count_names-count.ensures))
     (h w _ (c.in_ok-enter_pin_items.ensures w _ ns numbers c.if-self.false checked)))
     c.wait_if.ensures
