@@ -7,7 +7,7 @@ use std::io::ErrorKind;
 use std::process::ExitCode;
 use std::{env, io};
 
-/// The words behind the program's name, each of which is UTF-8.
+/// The words after the program's name, each of which is UTF-8.
 fn text_words(rt: &HostRuntime) -> io::Result<Vec<String>> {
     let mut words = Vec::new(rt.alloc());
     for word in env::args(rt)?.skip(1) {
@@ -16,7 +16,7 @@ fn text_words(rt: &HostRuntime) -> io::Result<Vec<String>> {
     Ok(words)
 }
 
-/// The words behind the program's name.
+/// The words after the program's name.
 fn given_words(rt: &HostRuntime) -> Given {
     match text_words(rt) {
         Ok(words) => Given::Words(words),

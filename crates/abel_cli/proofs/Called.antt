@@ -1,4 +1,4 @@
--- From what a command's own sources come to, to what words and files call for.
+-- From what a command's own sources amount to, to what words and files call for.
 use Rattle.std.proofs.Common.{◌≡◌, ℕ, suc, ◌<◌, ◌≤◌, Bool, true, false, List, [], length, Option, Some, get_or, refl, sym, subst, inl, inr, arith, nat_lt, replicate, Contains}
 use Rattle.abel_cli.proofs.Common.{length-replicate, get_or-map, get_or-replicate, Rose, Map, SameFiles, SameBut, bytes_at, Asked, HasRisen, HasStayed, Ending, file_fault, Puts, Comes, CallsFor, Ends, EndsOn, source_at, Command, command_of, source_count}
 use Rattle.std.proofs.lemmas.Bool.{ltb-true, ltb-false}
@@ -6,13 +6,13 @@ use Rattle.abel_commands.specs.Limit.{limit}
 use Rattle.abel_commands.specs.Reading.{HasLongName}
 use Rattle.abel_cli.specs.Sources.{HasLongSource, sources_of}
 
--- ---- some sources are too long, and they are a command's own where the files tell them
+-- ---- some sources are too long, and they are a command's own if the files show them
 
 -- of any number n, so that no list of a million bytes is ever computed
 longer : (n : ℕ) → (bytes : List ℕ) × (n < length bytes)
 longer n = let size = length-replicate {A = ℕ} (suc n) 0 in (replicate (suc n) 0, omega (arith, size))
 
--- sources of which the one at the place has more bytes than n, the ones given where they are known to
+-- sources of which the one at the place has more bytes than n, the ones given if they are known to
 module _ (n : ℕ) (told : Type 0) (own : List (List ℕ)) (place : ℕ) where
   abbrev Long : Type 0
   Long = (sources : List (List ℕ)) × (told → sources ≡ own) × (n < length (source_at sources place))
@@ -37,7 +37,7 @@ ends_long told files command e size (place, low, long) ends =
     let s = long_sources limit told (sources_of files command) place (λ tells. subst (λ (bytes : List ℕ). limit < length bytes) (sym at_place) (long tells)) in
     record { sources = s.0; own = s.1; ends = ends s.0 (place, omega (arith, low, size), s.2) }
 
--- ---- what comes
+-- ---- what occurs
 
 pub rose_later : (a b c : ℕ) → a ≤ b → Rose b c → Rose a c
 rose_later a b c later rose = omega (arith, later, rose)

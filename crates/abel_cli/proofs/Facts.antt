@@ -47,7 +47,7 @@ module _ (a : Asked) (h : Heard) (p : Promises a h) where
   abbrev FindsOne : Task → Type 0
   FindsOne t = ((d : DeviceName) × (t ≡ Simulate d)) ⊎ (((n : ℕ) × (t ≡ Demo n)) ⊎ ((d : DeviceName) × (t ≡ Compare d)))
 
-  -- and comes with `simulate`, `demo` and `compare` alone, whether the files tell or not
+  -- and occurs with `simulate`, `demo` and `compare` alone, whether the files show or not
   pub finds_only : h.status ≡ 5 → (c : Command) × (command_of a.words ≡ Some c) × FindsOne c.task
   finds_only is = let k = p.ended (omega (arith, is)) in of k.ending (command_of a.words) refl k.meant (sym k.status ∙ is)
     where
@@ -64,6 +64,6 @@ module _ (a : Asked) (h : Heard) (p : Promises a h) where
       of e None w m n = let one = ap (λ (x : Ending). x.status) m in absurd (omega (arith, one, n))
       of e (Some c) w m n = (c, w, by_task e c c.task refl m n)
 
-  -- where a call of the files failed, the status is 6, 7 or 8
+  -- if a call of the files failed, the status is 6, 7 or 8
   pub no_fault_is_swallowed : (HasStayed a.faults → ⊥) → h.status ≤ 5 → ⊥
   no_fault_is_swallowed rose l = rose (p.ended l).stayed

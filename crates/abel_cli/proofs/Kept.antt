@@ -197,7 +197,7 @@ module _ (a : Asked) (h : Heard) where
   pub right : Promises a h → a.told → h.status ≡ 0 → IsRight a.words a.old a.new
   right p tells is i o w = let r = compiled p tells is i o w in (r.0.device, r.0.file.items, r.2, r.1.right)
 
-  -- `check` of OUT reads the file that stands there, and tells its numbers
+  -- `check` of OUT reads the file that is there, and gives its numbers
   pub checked : Promises a h → a.told → h.status ≡ 0 → HasChecked a.words a.new h.told h.old h.new
   checked p tells is i o w =
       let r = compiled p tells is i o w in

@@ -2,7 +2,7 @@
 use Rattle.std.specs.Prelude.{ℕ, List}
 use Rattle.abel_cli.specs.Prelude.{Map, Count}
 
--- the words; whether the files tell what they hold, what they held before the call and after it, and their
+-- the words; whether the files show what they hold, what they held before the call and after it, and their
 -- counts of faults and of failed writes
 pub record Asked : Type 1 where
   pub words : List (List ℕ)
@@ -12,7 +12,7 @@ pub record Asked : Type 1 where
   pub faults : Count
   pub write_faults : Count
 
--- whether the report tells what it took, what it had taken before the call and after it, its count of faults,
+-- whether the report shows what it took, what it had taken before the call and after it, its count of faults,
 -- and the status that the call answers
 pub record Heard : Type 1 where
   pub told : Type 0

@@ -14,8 +14,8 @@ use Rattle.abel_cli.specs.Run.{EndsOn}
 abbrev pub IsCheckedAs : Map → DeviceName → (name line : List ℕ) → Type 0
 IsCheckedAs files device name line = (e : Ending) → EndsOn (Unit {0}) files (on_file (Check device) name) e → e ≡ ends 0 line
 
--- the bytes under the name are a fuse file of some fuses and vectors; `check` tells the numbers of these; and the report took
--- the summary of the same fuses, so that both say the same device, as many opened fuses and the same sum
+-- the bytes under the name are a fuse file of some fuses and vectors; `check` gives the numbers of these; and the report
+-- took the summary of the same fuses, so that both say the same device, as many opened fuses and the same sum
 pub record IsCheckedOut (files : Map) (name : List ℕ) (told : Type 0) (reported reports : List ℕ) : Type 0 where
   pub device : DeviceName
   pub fuses : List Bool

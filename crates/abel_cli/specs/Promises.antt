@@ -6,8 +6,8 @@ use Rattle.abel_cli.specs.Telling.{Puts, TakesFront, TakesFrontAndMemory}
 use Rattle.abel_cli.specs.Run.{Comes, IsCalledFor, Means}
 use Rattle.abel_cli.specs.Sources.{sources_of}
 
--- what a command, or none, means by an ending: it is one of some sources, which are its own where the files
--- tell them
+-- what a command, or none, means by an ending: it is one of some sources, which are its own if the files show
+-- them
 abbrev pub MeansOn : (told : Type 0) → Map → Option Command → Ending → Type 0
 MeansOn told files None e = e ≡ usage_ending
 MeansOn told files (Some command) e =
@@ -21,8 +21,8 @@ IsMeant a e = MeansOn a.told a.old (command_of a.words) e
 abbrev pub IsOutput : Asked → Output → Type 0
 IsOutput a o = (e : Ending) × IsCalledFor a e × IsMeant a e × (e.output ≡ Some o)
 
--- the ending that words and files call for came under its status: no call of the files failed, its output
--- stands, and its text was told in full
+-- the ending that words and files call for was reached under its status: no call of the files failed, its output
+-- is in place, and its text was reported in full
 pub record EndsAsCalled (a : Asked) (h : Heard) : Type 0 where
   pub ending : Ending
   pub called : IsCalledFor a ending
@@ -41,7 +41,7 @@ pub record EndsInFileFault (a : Asked) (h : Heard) : Type 0 where
   pub named : IsInput a.words name ⊎ ((bytes : List ℕ) × IsOutput a (record { name = name; bytes = bytes }) × HasRisen a.write_faults)
   pub text : h.told → h.new ≡ h.old ++ (file_fault name).text
 
--- all files are as they were, but for an output that words and files call for: it stands whole, or a write failed
+-- all files are as they were, except for an output that words and files call for: it is whole, or a write failed
 abbrev pub LeavesFiles : Asked → Type 0
 LeavesFiles a = SameFiles a.old a.new
     ⊎ ((o : Output) × IsOutput a o × SameBut o.name a.old a.new × ((a.new o.name ≡ Some o.bytes) ⊎ HasRisen a.write_faults))

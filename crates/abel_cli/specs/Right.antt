@@ -1,4 +1,4 @@
--- The main theorem at the top call: what stands under OUT is right for the source under IN.
+-- The main theorem at the top call: what is under OUT is right for the source under IN.
 use Rattle.std.specs.Prelude.{◌≡◌, ℕ, List, Some}
 use Rattle.abel_cli.specs.Prelude.{Map, bytes_at, table_of, IsCompile}
 use Rattle.pld_base.specs.declared.device_name.DeviceName.{DeviceName}

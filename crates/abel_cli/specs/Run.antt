@@ -35,7 +35,7 @@ Means (Compare device) sources e = CompareMeans (table_of device) (source_at sou
 
 -- ---- whatever the task
 
--- a command ends so with some sources, which are its own where the files tell them
+-- a command ends so with some sources, which are its own if the files show them
 pub record EndsOn (told : Type 0) (files : Map) (command : Command) (e : Ending) : Type 0 where
   pub sources : List (List ℕ)
   pub own : told → sources ≡ sources_of files command
@@ -50,7 +50,8 @@ CallsFor told files (Some command) e = EndsOn told files command e
 abbrev pub IsCalledFor : Asked → Ending → Type 0
 IsCalledFor a e = CallsFor a.told a.old (command_of a.words) e
 
--- the ending that words and files call for came, with what it puts, and no call of the files failed
+-- the ending that words and files call for occurred, with what it puts, and no call of the files
+-- failed
 pub record Ended (a : Asked) (e : Ending) : Type 0 where
   pub called : IsCalledFor a e
   pub stayed : HasStayed a.faults
@@ -77,17 +78,17 @@ pub record Unwritten (a : Asked) (e : Ending) : Type 0 where
   pub rose_write : HasRisen a.write_faults
   pub files : a.told → SameBut name a.old a.new
 
--- the ending that came, before it is told
+-- the ending that occurred, before it is reported
 abbrev pub Comes : Asked → Ending → Type 0
 Comes a e = Ended a e ⊎ (Unread a e ⊎ Unwritten a e)
 
--- memory ran out before an ending came
+-- memory ran out before an ending occurred
 pub record Stops (a : Asked) (h : Heard) : Type 0 where
   pub memory : h.status ≡ 8
   pub no_usage : IsNoCommand a.words → ⊥
   pub leaves : a.told → SameFiles a.old a.new
   pub tells : h.told → TakesFront memory_line h.old h.new
 
--- a run: an ending came and was told, or memory ran out before one came
+-- a run: an ending was reached and reported, or memory ran out before that
 abbrev pub Runs : Asked → Heard → Type 0
 Runs a h = ((e : Ending) × Comes a e × Tells e h) ⊎ Stops a h

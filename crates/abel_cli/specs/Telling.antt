@@ -1,9 +1,9 @@
--- What an ending puts, and how it is told (this project's rule).
+-- What an ending puts, and how it is reported (this project's rule).
 use Rattle.std.specs.Prelude.{◌≡◌, ℕ, ◌⊎◌, List, ◌++◌, Option, Some, None}
 use Rattle.abel_cli.specs.Prelude.{Begins, Map, SameFiles, SameBut, HasRisen, HasStayed, Ending, Output, memory_line}
 use Rattle.abel_cli.specs.Call.{Heard}
 
--- all files are as they were, but for the output, which has its bytes
+-- all files are as they were, except for the output, which has its bytes
 abbrev pub Puts : Option Output → Map → Map → Type 0
 Puts None old new = SameFiles old new
 Puts (Some output) old new = SameBut output.name old new × (new output.name ≡ Some output.bytes)
@@ -16,8 +16,8 @@ TakesFront text old new = (front : List ℕ) × Begins text front × (new ≡ ol
 abbrev pub TakesFrontAndMemory : (text old new : List ℕ) → Type 0
 TakesFrontAndMemory text old new = (middle : List ℕ) × TakesFront text old middle × TakesFront memory_line middle new
 
--- how an ending is told: in full under its status, and then no call of the report failed; in part under 7,
--- where one did; in part and then with the line on memory under 8
+-- how an ending is reported: in full under its status, and then no call of the report failed; in part
+-- under 7, if one did; in part and then with the line on memory under 8
 abbrev pub Tells : Ending → Heard → Type 0
 Tells ending h =
     ((h.status ≡ ending.status) × HasStayed h.faults × (h.told → h.new ≡ h.old ++ ending.text))

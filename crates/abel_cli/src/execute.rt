@@ -34,7 +34,7 @@ fn ending<'a>(alloc: Global, task: Task<'a>, sources: &[Vec<u8>]) -> Result<Endi
     }
 }
 
-/// How a task ends where a source is over the limit.
+/// How a task ends if a source is over the limit.
 fn long_ending<'a>(alloc: Global, task: Task<'a>) -> Result<Ending<'a>, OutOfMemory>
     ensures { (sources : List (List ℕ)) → HasLongSource (task_seen task.entry) sources
         → IfOk result (λ e. Ends (task_seen task.entry) sources (ending_seen e)) }
@@ -49,7 +49,7 @@ fn long_ending<'a>(alloc: Global, task: Task<'a>) -> Result<Ending<'a>, OutOfMem
     Ok(Ending::plain(status, line(alloc, b"error TooLong", b"")?))
 }
 
-/// What a command comes to with its own sources, before anything is written.
+/// What a command amounts to with its own sources, before anything is written.
 fn found<'a, F: Files>(
     alloc: Global,
     command: Command<'a>,

@@ -15,7 +15,7 @@ use abel_commands::ending::{Outcome, status, text};
 use outside::{Files, Sink, SinkFault};
 use std::alloc::Global;
 
-/// Reports want of memory, as far as the sink takes it.
+/// Reports lack of memory, as far as the sink takes it.
 fn report_memory<K: Sink>(report: &mut K) -> u8
     ensures status { result ≡ 8 }
     ensures taken { K.Tells → TakesFront memory_line (K.taken report.old) (K.taken report.new) }
@@ -76,7 +76,7 @@ pub fn run<F: Files, K: Sink>(alloc: Global, words: &[String], files: &mut F, re
         (F.file files.new) (F.faults files.old) (F.faults files.new) (F.write_faults files.old)
         (F.write_faults files.new)) (heard K.Tells (K.taken report.old) (K.taken report.new)
         (K.faults report.old) (K.faults report.new) result) }
-    // The whole of it: the ending, its cause, what it leaves and how it is told.
+    // The whole of it: the ending, its cause, what it leaves and how it is reported.
     ensures run { Runs (asked (texts words.now) F.Tells (F.file files.old) (F.file files.new)
         (F.faults files.old) (F.faults files.new) (F.write_faults files.old)
         (F.write_faults files.new)) (heard K.Tells (K.taken report.old) (K.taken report.new)

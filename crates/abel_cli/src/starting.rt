@@ -13,21 +13,21 @@ use crate::running::run;
 use outside::{Files, Sink};
 use std::alloc::Global;
 
-/// The words of the command line, behind the program's name.
+/// The words of the command line, after the program's name.
 #[derive(Drop)]
 pub enum Given {
     /// Each word is UTF-8.
     Words(Vec<String>),
     /// Some word is no UTF-8.
     NotText,
-    /// Memory ran out, or the system did not tell.
+    /// Memory ran out, or the system did not say.
     Unknown,
 }
 
 /// Does what the given words ask for, and answers the status that the program ends with.
 ///
-/// Where some word is no UTF-8 it is as if there were none; where the words are not known nothing is
-/// done and nothing reported.
+/// If some word is no UTF-8 it is as if there were none; if the words are not known nothing is done
+/// and nothing reported.
 pub fn start<F: Files, K: Sink>(alloc: Global, given: &Given, files: &mut F, report: &mut K) -> u8
     // The main theorem of `run`, and all that it promises, for the words that were given.
     ensures right { (words : List (List ℕ)) → words_of given.now ≡ Some words → F.Tells
@@ -43,7 +43,7 @@ pub fn start<F: Files, K: Sink>(alloc: Global, given: &Given, files: &mut F, rep
         (F.faults files.old) (F.faults files.new) (F.write_faults files.old)
         (F.write_faults files.new)) (heard K.Tells (K.taken report.old) (K.taken report.new)
         (K.faults report.old) (K.faults report.new) result) }
-    // Where the words are not known.
+    // If the words are not known.
     ensures status { words_of given.now ≡ None → result ≡ 8 }
     ensures files { words_of given.now ≡ None → F.Tells
         → SameFiles (F.file files.old) (F.file files.new) }

@@ -1,4 +1,4 @@
--- A cell on which a module assigns something is inverted only where its direct form has no room.
+-- A cell on which a module assigns something is inverted only if its direct form has no room.
 use Rattle.std.proofs.Common.{◌≡◌, ◌≢◌, ℕ, ◌<◌, true, Option, Some, None, List, All, length, slice_get, refl, sym, ap, ◌∙◌, subst}
 use Rattle.std.proofs.lemmas.List.Elements.{All-get_or}
 use Rattle.std.proofs.lemmas.Option.{slice_get_within, get_or_from_slice_get}

@@ -1,4 +1,4 @@
--- A source that is accepted and fits as it is written is refused for nothing but want of memory.
+-- A source that is accepted and fits as it is written is refused only for lack of memory.
 use Rattle.std.proofs.Common.{◌≡◌, ◌≢◌, ℕ, Some, None, List, Result, Ok, Err, refl, sym, ap, ◌∙◌, subst, IfErr}
 use Rattle.abel_compile.proofs.Common.{DeviceName, IsDevice, Table, ModuleTree, device_named, name_order, name_refusals, SpellsModule, IsRead, read_or_not, Compiled, CompileFault, Source, Place, Fit, OutOfMemory, SourceFault, Expand, Scan, Parse, Names, Sections, Design, Width, FitsAsWritten, IsUnfitFor, IsNeverRefused, table_of, IsOfSource, IsTextFault, IsNameFault, IsUnnamed, IsReadAlone, IsRefusedBy, IsPlacedFor, IsAcceptedFor, IsRefusedSo, no_first, not_fit, not_source, one_placed, placed_not_unplaced}
 use Rattle.module_reader.specs.declared.fault.ReadFault.TheVariants as reading
@@ -65,7 +65,7 @@ AcceptedAndFits t m = IsAcceptedFor t m × FitsAsWritten t m
 brought : (t : Table) (m : ModuleTree) (p : IsPlacedFor AcceptedAndFits t m) (Q : Table → ModuleTree → Type 0) → IsPlacedFor Q t m → Q t p.placed
 brought t m p Q q = subst (λ (x : ModuleTree). Q t x) (one_placed t m q.placed p.placed q.is.pinned p.is.pinned) q.so
 
--- a module whose placed module is accepted and fits as it is written is refused for nothing but want of memory
+-- a module whose placed module is accepted and fits as it is written is refused only for lack of memory
 not_by : (t : Table) (m : ModuleTree) → IsDevice t → IsPlacedFor AcceptedAndFits t m → (e : CompileFault) → e ≢ OutOfMemory → IsRefusedBy t m e → ⊥
 not_by t m laws p (Source (Names f) line) memory h = no_first name_order (name_refusals t m) f p.is.names h.0
 not_by t m laws p (Source (Expand f) line) memory h = h.so

@@ -1,4 +1,4 @@
--- What is told of the fuses of a module with its test vectors.
+-- What is reported of the fuses of a module with its test vectors.
 use Rattle.std.proofs.Common.{◌≡◌, ℕ, ◌≤◌, Bool, List, length, Ok, sym, ap, ◌∙◌, subst, arith}
 use Rattle.abel_compile.proofs.Common.{Table, canonical_file, Entry, ModuleTree, design_of, names_of, source_vectors, design_cells, summary_of, Compiled, IsToldOf, fuses_and_vectors}
 use Rattle.jedec_file.specs.FuseFile.{file_of}

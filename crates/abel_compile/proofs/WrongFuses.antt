@@ -49,7 +49,7 @@ pub row_switched : (t : Table) (m : ModuleTree) (fuses other : List Bool) (row :
 row_switched t m fuses other row low same flipped right also =
     not_itself (is_switched_on t fuses row) (right.switches row low ∙ sym same ∙ sym (also.switches row low) ∙ flipped)
 
--- the kind of an assigned cell is turned, where a fuse chooses it, as S1 of a GAL22V10
+-- the kind of an assigned cell is turned, if a fuse chooses it, as S1 of a GAL22V10
 pub kind_turned : (t : Table) (m : ModuleTree) (fuses other : List Bool) (c : ℕ) → c < length t.cells → IsAssignedCell (design_of t m).context c
     → (cell_at t c).kinds ≡ Either → says other (registered_at t c) ≡ not (says fuses (registered_at t c)) → AreFusesOf t m fuses → AreFusesOf t m other → ⊥
 kind_turned t m fuses other c low assigned either turned right also =

@@ -7,7 +7,7 @@ use Rattle.compile_phases.specs.declared.fault.CompileFault.TheVariants.{Source,
 use Rattle.abel_compile.specs.Correct.{IsCompiled}
 use Rattle.compile_phases.specs.Fits.{FitsAsWritten, IsOfFit, IsUnfitFor}
 
--- each answer with its cause and its line; want of memory tells nothing
+-- each answer with its cause and its line; lack of memory says nothing
 abbrev pub CompileAnswers : List ℕ → Result Compiled CompileFault → Type 0
 CompileAnswers text (Ok c) = IsCompiled text c
 CompileAnswers text (Err (Source f line)) = IsSourceRefused text f line.items

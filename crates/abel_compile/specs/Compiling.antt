@@ -17,8 +17,9 @@ pub record AreRightFuses (t : Table) (m : ModuleTree) (fuses : List Bool) : Type
   pub does : DoesWhatItSays t m fuses
   pub so : AreFusesOf t m fuses
 
--- what is answered of these fuses: the canonical file of the module's name and test vectors, which reads back as just
--- these, and within a reader's limit where the name is no longer than it may be; the listing, with the names as they are declared; and the summary
+-- what is answered of these fuses: the canonical file of the module's name and test vectors, which reads back as just these,
+-- and within a reader's limit if the name is no longer than it may be; the listing, with the names as they are declared; and
+-- the summary
 pub record IsToldOf (t : Table) (declared : List Entry) (m : ModuleTree) (fuses : List Bool) (c : Compiled) : Type 0 where
   pub canonical : c.file.items ≡ canonical_file t m.name.text fuses (source_vectors t m)
   pub within : length m.name.text ≤ longest_name → length c.file.items ≤ limit
@@ -38,7 +39,7 @@ pub record IsCompiledOn (t : Table) (declared : List Entry) (device : DeviceName
   pub device_is : c.device ≡ device
   pub compiled : IsCompiledFor t declared m c
 
--- where the device can take a module, the fuses of its netlist are those of the module
+-- if the device can take a module, the fuses of its netlist are those of the module
 abbrev pub FitsAreRight : Type 0
 FitsAreRight =
     (t : Table) (m : ModuleTree) (net : Netlist) (fitted : Fitted) → IsDevice t → IsTakeable (design_of t m) → IsNetlistFor t m net

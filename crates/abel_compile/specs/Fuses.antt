@@ -36,13 +36,13 @@ use Rattle.compile_phases.specs.SourceRefusals.{IsNetlistOf}
 abbrev pub HasNoDirectRoom : Table → ModuleTree → ℕ → Type 0
 HasNoDirectRoom t m c = (net : Netlist) (cell : CellWanted) → IsNetlistOf t m net → cell_wanted net c ≡ Some cell → IsDirectOver t net c cell
 
--- a cell is inverted only where it has no room for its direct form; a device that always complements has no direct form
+-- a cell is inverted only if it has no room for its direct form; a device that always complements has no direct form
 abbrev pub IsDirectFirst : Table → ModuleTree → (fuses : List Bool) → ℕ → Type 0
 IsDirectFirst t m fuses c = t.flip ≢ Always → is_inverted t fuses c ≡ true → HasNoDirectRoom t m c
 
--- the form of a cell that carries this signal: where a fuse chooses its kind, it is a register exactly where the signal is stored;
--- where the device complements behind the register, one whose polarity isn't free is inverted exactly where its pin doesn't
--- follow Q; and the cell is inverted only where it has no room for its direct form
+-- the form of a cell that carries this signal: if a fuse chooses its kind, it is a register exactly if the signal is stored;
+-- if the device complements after the register, one whose polarity isn't free is inverted exactly if its pin doesn't follow
+-- Q; and the cell is inverted only if it has no room for its direct form
 pub record HasItsForm (t : Table) (m : ModuleTree) (fuses : List Bool) (c : ℕ) (signal : Entry) : Type 0 where
   pub kind : (cell_at t c).kinds ≡ Either → says fuses (registered_at t c) ≡ is_stored signal
   pub polarity : t.flip ≡ AfterRegister → is_stored signal ≡ true → is_free signal ≡ false → is_inverted t fuses c ≡ not (follows_q signal)
@@ -50,11 +50,11 @@ pub record HasItsForm (t : Table) (m : ModuleTree) (fuses : List Bool) (c : ℕ)
 
 -- ---- all fuses
 
--- of a module's fuses in a device: no chain of reads returns or leads from the reset to a register; the rows of each assigned
--- cell are prime and irredundant, and stand in order, and the cell has its form; a cell that nothing assigns has no row; each
--- enable, reset and preset row is that of the module's own control; rows are switched on exactly where they aren't all 0, the
--- fixed fuses have their levels, and each fuse past the array that controls nothing is 0; and where the module's test vectors
--- disagree with the device, they disagree with the module under the choice that the fuses show
+-- of a module's fuses in a device: no chain of reads returns or leads from the reset to a register; the rows of each
+-- assigned cell are prime and irredundant, and are in order, and the cell has its form; a cell that nothing assigns has no
+-- row; each enable, reset and preset row is that of the module's own control; rows are switched on exactly if they aren't
+-- all 0, the fixed fuses have their levels, and each fuse past the array that controls nothing is 0; and if the module's
+-- test vectors disagree with the device, they disagree with the module under the choice that the fuses show
 pub record AreFusesOf (t : Table) (m : ModuleTree) (fuses : List Bool) : Type 0 where
   pub no_loop : HasNoLoop (length t.cells) (cell_reads t fuses)
   pub no_path : HasNoResetPath t fuses

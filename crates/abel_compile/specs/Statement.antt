@@ -15,12 +15,13 @@ fuses_and_vectors t fuses vectors =
     record { fuses = fuses; listed = t.fuses; vectors = vectors; default_level = false }
 
 -- The text is read as one module, and as no other; the module names the device. Its signals that have no pins are given
--- some: the placed module is the module itself where all have theirs. The file's fuses are as many as the device has, and each
--- fuse that the device fixes has its level, so that the chip is in its mode. With them the device comes to rest in exactly one
--- way from every state; and it drives, releases and stores, from power-up and for every list of outside levels, what a run of
--- the placed module does under the choice of its free registers that the file's fuses show, and that alone where the module has
--- no don't-care. The file is the canonical one of the module's name, of these fuses and of the placed module's test vectors; it
--- is within the limit of a reader, and reads back as just these. `spells` says which texts spell which modules, `table` which table a device has.
+-- some: the placed module is the module itself if all have theirs. The file's fuses are as many as the device has, and each
+-- fuse that the device fixes has its level, so that the chip is in its mode. With them the device settles in exactly one way
+-- from every state; and it drives, releases and stores, from power-up and for every list of outside levels, what a run of
+-- the placed module does under the choice of its free registers that the file's fuses show, and that alone if the module has
+-- no don't-care. The file is the canonical one of the module's name, of these fuses and of the placed module's test vectors;
+-- it is within the limit of a reader, and reads back as just these. `spells` says which texts spell which modules, `table`
+-- which table a device has.
 pub record IsRightFile (spells : List ℕ → ModuleTree → Type 0) (table : DeviceName → Table) (text : List ℕ) (device : DeviceName) (file : List ℕ)
     : Type 0 where
   pub source : ModuleTree

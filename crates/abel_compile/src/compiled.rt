@@ -2,7 +2,8 @@
 
 use pld_base::DeviceName;
 
-/// A fuse file, and what is told of it: the listing of its fuses as equations, and a line that sums it up.
+/// A fuse file, and what is reported of it: the listing of its fuses as equations, and a line that sums it
+/// up.
 #[derive(Drop)]
 pub struct Compiled {
     pub device: DeviceName,

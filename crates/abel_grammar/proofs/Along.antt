@@ -1,4 +1,4 @@
--- Places along tokens: none, one behind the other, and with the first token's place before them.
+-- Places along tokens: none, one after the other, and with the first token's place before them.
 use Rattle.std.proofs.Common.{◌≡◌, List, [], ◌∷◌, ◌++◌, refl, sym, ap, subst, ◌∙◌}
 use Rattle.abel_grammar.proofs.Common.{append_assoc, All-nil, All-cons, Place, Token, Along}
 

@@ -31,7 +31,7 @@ module _ {X A B : Type 0} (join : A → B → A) (first : X → Bool) (ra : Read
   chain_turn left ts x total e d so_far =
       sym (part_first join left x.0 (read_repeated first rb x.1)) ∙ ap (go_on join left) (sym (repeated_turn rb first shorter ts x e d)) ∙ so_far
 
-  -- no part stands there
+  -- no part is there
   pub chain_ends : (left : A) (ts : List X) (total : Result (A × List X) (Stop X)) → starts first ts ≡ false
       → go_on join left (read_repeated first rb ts) ≡ total → total ≡ Ok (left, ts)
   chain_ends left ts total e so_far = sym so_far ∙ ap (go_on join left) (repeated_ends rb first shorter ts e)

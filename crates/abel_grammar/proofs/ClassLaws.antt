@@ -1,4 +1,4 @@
--- The laws of forms, with lists of classes for what may start a form and what may go on behind it.
+-- The laws of forms, with lists of classes for what may start a form and what may go on after it.
 use Rattle.std.proofs.Common.{◌≡◌, ℕ, ◌⊎◌, inl, inr, Bool, true, false, eqb, List, [], ◌∷◌, ◌++◌, Option, Some, None, Err, refl, sym, ◌∙◌, subst, ◌||◌, ◌&&◌, not}
 use Rattle.abel_grammar.proofs.Common.{append-nil, Form, token, followed, ◌then◌, either, optional, repeated, made, separated, chain, grouped, entries_of, nothing, Syntax, Reader, starts, read_token, read_followed, ◌then_read◌, read_either, read_optional, read_repeated, read_made, read_separated, read_chain, read_deep}
 use Rattle.std.proofs.lemmas.Bool.{eqb-true}

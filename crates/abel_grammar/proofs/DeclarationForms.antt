@@ -1,17 +1,17 @@
--- What declares names, written as it is read: the names first, and then what may come behind them.
+-- What declares names, written as it is read: the names first, and then what may follow them.
 use Rattle.std.proofs.Common.{◌≡◌, ℕ, ◌⊎◌, inl, inr, false, List, [], ◌∷◌, Option, Some, None, refl, sym, ap, subst, ◌∙◌, map, option_map}
 use Rattle.abel_grammar.proofs.Common.{Form, ◌then◌, followed, either, made, nothing, SpellsList, Token, Word, Item, Tree, Declaration, Device, Pin, Node, Equal, Comma, Semicolon, one, each_apart_by, name, text, expr, item, names, istype, device_of, device, kept, pins_of, pins, nodes_of, nodes, attributes_of, attributes, constants_of, values_for, constants, naming, bare_item, only_name, bare_names, declared_in}
 use Rattle.std.specs.Option.{option_and_then}
 use Rattle.abel_grammar.proofs.SameForms.{Same}
 
--- ---- what may come behind names
+-- ---- what may follow names
 
--- DEVICE string ;        behind one plain name
+-- DEVICE string ;        after one plain name
 abbrev pub device_behind : Option Word → Form Token Declaration
 device_behind None = nothing
 device_behind (Some w) = made (λ x. device_of (w, x)) (one Device then text then one Semicolon)
 
--- = expr {, expr} ;        behind plain names
+-- = expr {, expr} ;        after plain names
 abbrev pub constants_behind : Option (List Word) → Form Token Tree → Form Token Declaration
 constants_behind None e = nothing
 constants_behind (Some ws) e = made (λ x. constants_of (ws, x)) (one Equal then values_for ws e then one Semicolon)

@@ -57,7 +57,7 @@ kept_laws word =
     (then_laws (Number ∷ []) (Number ∷ Comma ∷ Range ∷ []) (Istype ∷ Semicolon ∷ []) [] true false (perhaps (Number ∷ []) (Comma ∷ Range ∷ []) nums_laws)
     (then_laws (Istype ∷ []) (Istype ∷ Comma ∷ []) (Semicolon ∷ []) [] true false (perhaps (Istype ∷ []) (Comma ∷ []) istype_laws) (one_laws Semicolon) refl) refl) refl
 
--- ---- what comes behind names
+-- ---- what follows names
 
 device_laws : (o : Option Word) → Keeps (device_behind o) (read_device o) (Device ∷ []) [] false
 device_laws None = nothing_laws (among (Device ∷ [])) (λ t x. among [] x) false

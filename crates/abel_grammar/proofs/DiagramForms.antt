@@ -1,11 +1,11 @@
--- Transitions as the grammar has them are those that are read with the `;` behind each arm.
+-- Transitions as the grammar has them are those that are read with the `;` after each arm.
 use Rattle.std.proofs.Common.{◌≡◌, ℕ, zero, suc, inl, inr, Bool, true, false, List, [], Option, Some, None, refl, sym, subst, ◌||◌, is_some}
 use Rattle.abel_grammar.proofs.Common.{Form, ◌then◌, followed, either, optional, repeated, made, nothing, given, unless, Place, Token, Tree, Branch, Semicolon, Colon, Then, Else, Goto, If, Case, Endcase, one, end, expr, goal, behind_word, is_open_arm, if_of, if_form, choice, case_of, case_form, goal_arm, arm, is_closed, ending, leading, trans_of, trans, Ended, if_ended_of, choice_ended_of, case_ended_of, branch_in}
 use Rattle.abel_grammar.proofs.SameForms.{Same, same_itself, same_through, same_made, same_either, same_followed, same_optional, same_repeated, either_then, nothing_then, Moved, moved_then, moved_made, moved_itself, behind_first}
 use Rattle.abel_grammar.proofs.EndedForms.{allowed, if_ended, choice_ended, case_ended, goal_ended, arm_ended, goto_ended, leading_ended, trans_ended}
 use Rattle.abel_grammar.proofs.ExpressionLaws.{end_laws}
 
--- ---- IF: the `;` before an ELSE, or else behind
+-- ---- IF: the `;` before an ELSE, or else after it
 
 abbrev Tail : Type 0
 Tail = Option (Option Token × (Token × Branch))

@@ -1,4 +1,4 @@
--- The laws of state diagrams, as they are read: an arm with the `;` behind it.
+-- The laws of state diagrams, as they are read: an arm with the `;` after it.
 use Rattle.std.proofs.Common.{◌≡◌, ℕ, zero, suc, Bool, true, false, List, [], ◌∷◌, ◌++◌, Option, Some, None, refl, ◌||◌, ◌&&◌, not, is_some}
 use Rattle.abel_grammar.proofs.Common.{Form, ◌then◌, followed, either, optional, repeated, nothing, Reader, ◌then_read◌, read_followed, read_either, read_optional, read_deep, unless, read_unless, Place, Token, Tree, Statement, Branch, Terminal, Semicolon, Colon, Then, Else, BraceOpen, BraceClose, With, Endwith, Goto, If, Case, Endcase, number_of, terminal_of, among, one, end, read_one, read_end, expr, read_expr, stmt, plain_stmt, plain_starts, stmt_starts, read_stmts, read_stmt, read_plain_stmt, braced_of, braced, listed_of, listed, with_of, with_part, goal_of, goal, behind_goto, behind_word, is_open_arm, is_closed, read_braced, read_listed, read_with_part, read_goal, Ended, if_ended_of, choice_ended_of, case_ended_of, read_allowed, read_if, read_choice, read_choices, read_case, read_goal_arm, goal_starts, read_arm, read_goto, read_leading, branch_in, read_trans, trans_starts}
 use Rattle.abel_grammar.proofs.Laws.{Lawful}
@@ -57,9 +57,9 @@ goal_laws n =
     (placed_obeys exprs behind_goal
     (then_laws exprs behind_expr (With ∷ []) (With ∷ Endwith ∷ []) false true (expr_laws n) (perhaps (With ∷ []) (Endwith ∷ []) (with_laws n)) refl))
 
--- ---- arms with the `;` behind them
+-- ---- arms with the `;` after them
 
--- what may go on behind any of them, and behind one with an open IF alone
+-- what may go on after any of them, and after one with an open IF alone
 abbrev behind_arm : List Terminal
 behind_arm = Semicolon ∷ behind_goal
 
@@ -69,7 +69,7 @@ else_word = Else ∷ []
 abbrev is_open_ended : Ended → Bool
 is_open_ended x = is_open_arm x.0
 
--- behind an arm with its `;` an ELSE alone may go on
+-- after an arm with its `;` an ELSE alone may go on
 abbrev pub behind_ended : Ended → Token → Bool
 behind_ended t x = (not (is_some t.1) && among behind_arm x) || (is_open_arm t.0 && among else_word x)
 
@@ -80,7 +80,7 @@ left_false : (a b : Bool) → (a || b) ≡ false → a ≡ false
 left_false true b h = h
 left_false false b h = refl
 
--- what may go on behind a form and its `;`
+-- what may go on after a form and its `;`
 end_wider : (goes : List Terminal) → subset goes behind_arm ≡ true → subset (Semicolon ∷ []) behind_arm ≡ true → (t : Ended) (x : Token) → behind_ended t x ≡ false
     → (behind_option (among (Semicolon ∷ [])) (λ (u : Token) (y : Token). among [] y) t.1 x || (not (is_some t.1) && among goes x)) ≡ false
 end_wider goes d e (b, None) x h =
@@ -122,7 +122,7 @@ some_wider false false false false w h = refl
 abbrev arm_starts : List Terminal
 arm_starts = goal_starts ++ If ∷ Case ∷ []
 
--- ---- the `;` behind
+-- ---- the `;` after it
 
 abbrev behind_end : Option Token → Token → Bool
 behind_end z x = behind_option (among (Semicolon ∷ [])) (λ (u : Token) (y : Token). among [] y) z x

@@ -1,4 +1,4 @@
--- A choice by the next token keeps the laws where its forms start with different tokens.
+-- A choice by the next token keeps the laws if its forms start with different tokens.
 use Rattle.std.proofs.Common.{◌≡◌, ◌<◌, ◌⊎◌, inl, inr, Bool, true, false, cond, List, [], ◌∷◌, ◌++◌, length, Option, Some, None, Result, Ok, Err, refl, sym, ap, subst, arith, ◌||◌}
 use Rattle.abel_grammar.proofs.Common.{Form, either, Stop, Syntax, TooDeep, left_of, Reader, ◌>>=◌, starts, read_either}
 use Rattle.abel_grammar.proofs.Laws.{Within, Lawful, chosen, or_left, or_right, starts_apart, starts_wider, never_grows}

@@ -1,4 +1,4 @@
--- State diagrams with each arm and the `;` behind it: a form that the next token decides.
+-- State diagrams with each arm and the `;` after it: a form that the next token decides.
 use Rattle.std.proofs.Common.{ℕ, zero, suc, Bool, true, false, ◌||◌, None, is_some}
 use Rattle.abel_grammar.proofs.Common.{Form, ◌then◌, followed, either, optional, repeated, made, nothing, given, unless, Place, Token, Tree, Branch, one, end, expr, goal, behind_goto, behind_word, is_open_arm, is_closed, Ended, if_ended_of, choice_ended_of, case_ended_of, branch_in}
 use Rattle.abel_grammar.specs.declared.terminal.Terminal.TheVariants as terminal

@@ -57,7 +57,7 @@ along-twice = (
 along-none : Along [] (at 1 ∷ []) → ⊥
 along-none h = absurd cc
 
--- directives as sections, the first of which stands in the later line
+-- directives as sections, the first of which is in the later line
 abbrev line : ℕ → Place
 line n = record { line = n; column = 1 }
 

@@ -56,7 +56,7 @@ simple_laws =
 
 -- ---- levels of priority
 
--- what an expression may start with, and what may go on behind it
+-- what an expression may start with, and what may go on after it
 abbrev pub exprs : List Terminal
 exprs = Not ∷ Minus ∷ Open ∷ Left ∷ Identifier ∷ Number ∷ Special ∷ []
 

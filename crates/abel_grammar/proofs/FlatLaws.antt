@@ -10,7 +10,7 @@ same_pair : {X T : Type 0} (x y : T × List X) → read_as X x ≡ read_as X y �
 same_pair x y e = cc
 
 module _ {X T : Type 0} (form : Form X T) (read : Reader X T) (first : X → Bool) (goes : T → X → Bool) (null : Bool) (laws : Lawful form form read read first goes null) where
-  -- where the tokens spell a tree, it is read, and nothing is left
+  -- if the tokens spell a tree, it is read, and nothing is left
   reads : (ts : List X) (u : T) → SpellsWhole form ts u → read ts ≡ Ok (u, [])
   reads ts u s = laws.only ts u [] s refl
 

@@ -1,4 +1,4 @@
--- One form behind another keeps the laws where nothing that starts the second may go on behind the first.
+-- One form after another keeps the laws if nothing that starts the second may go on after the first.
 use Rattle.std.proofs.Common.{◌≡◌, ◌≤◌, ◌<◌, ◌⊎◌, inl, inr, Bool, true, false, List, [], ◌∷◌, ◌++◌, length, Result, Ok, Err, refl, sym, ap, subst, ◌∙◌, append_assoc, arith, length-append, ◌||◌, ◌&&◌}
 use Rattle.abel_grammar.proofs.Common.{Form, followed, Stop, Syntax, TooDeep, left_of, Reader, ◌>>=◌, starts, read_followed}
 use Rattle.abel_grammar.proofs.Laws.{Within, Lawful, bind_ok, bind_err, or_left, or_right, starts_apart, starts_wider, starts_or_false, never_grows, Within-less}
@@ -67,7 +67,7 @@ module _ {X A B : Type 0} (a a' : Form X A) (b b' : A → Form X B) (ra ra' : Re
       let is : ((p.0.0, q.0.0), q.0.1) ≡ x = cc in
       subst (λ (y : (A × B) × List X). (followed a b).spells ts y.0 y.1) is (p.0.1, la.sound ts p.0 p.1, (lb p.0.0).sound p.0.1 q.0 q.1)
 
-  -- what may come behind the first part
+  -- what may follow the first part
   after : (t : A × B) (mid rest : List X) → (b t.0).spells mid t.1 rest → starts (G t) rest ≡ false → starts (ga t.0) mid ≡ false
   after t mid rest s e =
       elim ((lb t.0).takes mid t.1 rest s) [

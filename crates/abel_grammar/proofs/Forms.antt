@@ -8,7 +8,7 @@ use Rattle.abel_grammar.proofs.Along.{along_none, along_append, along_first}
 pub record Lies {A : Type 0} (a : Form Token A) (p : A → List Place) : Type 0 where
   pub along : (ts : List Token) (t : A) (rest : List Token) → a.spells ts t rest → (own : List Token) × (ts ≡ own ++ rest) × Along own (p t)
 
--- ---- tokens, and forms one behind the other
+-- ---- tokens, and forms one after the other
 
 here : (p : Place) → All (λ q. q ≡ p) (p ∷ [])
 here p = All-cons (λ (q : Place). q ≡ p) p [] refl (All-nil (λ (q : Place). q ≡ p))
@@ -66,7 +66,7 @@ some_lies {A} {a} {p} la = record { along = some }
     some ts None rest s = ([], s, refl)
     some ts (Some t) rest s = la.along ts t rest s
 
--- a form, unless there is nothing to come
+-- a form, unless nothing follows
 pub unless_lies : {A : Type 0} {a : Form Token A} {p : A → List Place} → (b : Bool) (x : A) → p x ≡ [] → Lies a p → Lies (unless b x a) p
 unless_lies true x e la = given_lies e
 unless_lies false x e la = la
@@ -88,7 +88,7 @@ apart_lies {p = p} sign la =
     turned (λ x. ap (λ (l : List Place). p x.0 ++ l) (flat_map-map p (λ y. y.1) x.1))
     (both la (many_lies (behind (token_lies sign) la)))
 
--- values joined from the left, where what is joined adds its places behind
+-- values joined from the left, where what is joined adds its places at the end
 module _ {A B : Type 0} (join : A → B → A) (p : A → List Place) (q : B → List Place) (adds : (l : A) (x : B) → p (join l x) ≡ p l ++ q x) where
   grouped_places : (l : A) (xs : List B) → p (grouped join l xs) ≡ p l ++ flat_map q xs
   grouped_places l [] = sym (append-nil (p l))

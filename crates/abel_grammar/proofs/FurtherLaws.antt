@@ -140,7 +140,7 @@ pub opening_laws : {X A B : Type 0} (f : X × A → B) (test : X → Bool) (a : 
     → Lawful nothing (made f (token test then a)) (read_deep test) (read_made f (read_token test then_read r)) test goes false
 opening_laws f test a r goes = deep_laws (made f (token test then a)) (read_made f (read_token test then_read r)) test goes (λ x h. inl h) (inl tt) (λ ts e. miss_made f test r ts e)
 
--- ---- a second part that comes unless the first stops it
+-- ---- a second part that is answered unless the first stops it
 
 module _ {X A B : Type 0} (a a' : Form X A) (ra ra' : Reader X A) (fa : X → Bool) (ga : A → X → Bool) (na : Bool) (la : Lawful a a' ra ra' fa ga na)
     (stops : A → Bool) (d : B) (b b' : Form X B) (rb rb' : Reader X B) (fb : X → Bool) (gb : B → X → Bool) (nb : Bool) (lb : Lawful b b' rb rb' fb gb nb)

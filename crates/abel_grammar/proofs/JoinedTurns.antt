@@ -1,4 +1,4 @@
--- A loop that joins one list a turn to what it has reads what repeated reads, with the lists one behind the other.
+-- A loop that joins one list a turn to what it has reads what repeated reads, with the lists one after the other.
 use Rattle.std.proofs.Common.{◌≡◌, ◌<◌, Bool, true, false, List, [], ◌∷◌, ◌++◌, length, Result, Ok, Err, refl, sym, ap, ◌∙◌, append_assoc}
 use Rattle.abel_grammar.proofs.Common.{append-nil, Stop, Reader, ◌>>=◌, starts, read_repeated, read_made, flatten}
 use Rattle.abel_grammar.proofs.RepeatedTurns.{repeated_turn, repeated_fails, repeated_ends}

@@ -1,19 +1,19 @@
 -- What a form and its reader owe each other.
 --
 -- In the files of laws a and b are forms and a' and b' the same forms at the next depth of nesting; ra, rb, ra' and
--- rb' read them; fa and fb pass the tokens that they may start with, ga and gb those that may go on behind them; na
--- and nb tell whether they may take no token; la and lb are their laws. us, ts and rest are lists of tokens, c a
+-- rb' read them; fa and fb pass the tokens that they may start with, ga and gb those that may go on after them; na
+-- and nb say whether they may take no token; la and lb are their laws. us, ts and rest are lists of tokens, c a
 -- front of one, t and u trees, s what is spelled or why reading stopped, and e, d, h, k equations.
 use Rattle.std.proofs.Common.{◌≡◌, ◌≤◌, ◌<◌, ◌⊎◌, inl, inr, Bool, true, false, cond, List, [], ◌∷◌, ◌++◌, length, Result, Ok, Err, refl, sym, ap, subst, arith, length-append, ◌||◌}
 use Rattle.abel_grammar.proofs.Common.{Form, Stop, Syntax, TooDeep, left_of, Reader, ◌>>=◌, starts}
 
--- no further than the tokens that come after
+-- no further than the tokens that follow
 abbrev pub Within : {X T : Type 0} → List X → Result (T × List X) (Stop X) → Type 0
 Within more (Ok x) = length x.1 ≤ length more
 Within more (Err s) = length (left_of s) ≤ length more
 
--- f is the form at one depth of nesting, and f' at the next; r and r' read them. first passes the tokens that f
--- may start with, and goes t those that may go on behind t. Where null is false, f takes a token at least.
+-- f is the form at one depth of nesting, and f' at the next; r and r' read them. first passes the tokens that f may
+-- start with, and goes t those that may go on after t. Where null is false, f takes a token at least.
 pub record Lawful {X T : Type 0} (f f' : Form X T) (r r' : Reader X T) (first : X → Bool) (goes : T → X → Bool) (null : Bool) : Type 0 where
   pub place : (ts : List X) (t : T) (rest : List X) → f.spells ts t rest → (c : List X) × (ts ≡ c ++ rest) × ((other : List X) → f.spells (c ++ other) t other)
   pub whole : (us : List X) (t : T) → f.spells us t [] → f.begins us

@@ -1,4 +1,4 @@
--- What is made of a form keeps its laws; and the laws hold with more that may start it or go on behind it.
+-- What is made of a form keeps its laws; and the laws hold with more that may start it or go on after it.
 use Rattle.std.proofs.Common.{◌≡◌, ◌<◌, ◌⊎◌, inl, inr, Bool, true, false, cond, List, [], ◌∷◌, ◌++◌, length, Option, Some, None, Result, Ok, Err, refl, sym, ap, subst, arith}
 use Rattle.abel_grammar.proofs.Common.{Form, made, Stop, Syntax, TooDeep, left_of, Reader, ◌>>=◌, starts, read_made}
 use Rattle.abel_grammar.proofs.Laws.{Within, Lawful, bind_ok, bind_err, starts_wider}
@@ -46,7 +46,7 @@ module _ {X A B : Type 0} (f : A → B) (a a' : Form X A) (ra ra' : Reader X A) 
     same_err = λ ts left e. rw (la.same_err ts left (made_front ts (Syntax left) e)) refl;
   }
 
--- ---- more that may start a form, or that may go on behind it
+-- ---- more that may start a form, or that may go on after it
 
 module _ {X T : Type 0} (a a' : Form X T) (ra ra' : Reader X T) (fa fb : X → Bool) (ga gb : T → X → Bool) (na : Bool) (la : Lawful a a' ra ra' fa ga na)
     (first : (x : X) → fa x ≡ true → fb x ≡ true) (behind : (t : T) (x : X) → gb t x ≡ false → ga t x ≡ false) where

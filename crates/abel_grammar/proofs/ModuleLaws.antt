@@ -64,7 +64,7 @@ parts_laws n =
     either_one true q r f g h = f refl
     either_one false q r f g h = g h
 
--- what may go on behind any state, and a dc behind one without transitions
+-- what may go on after any state, and a dc after one without transitions
 abbrev behind_any_state : List Terminal
 behind_any_state = many_trans ++ Not ∷ Identifier ∷ Left ∷ When ∷ BraceOpen ∷ Semicolon ∷ Else ∷ []
 
@@ -140,7 +140,7 @@ states_laws n = repeated_sharp _ _ _ _ (among state_word) (among gall) behind_st
 
 -- ---- sections
 
--- what may go on behind any section, and a dc behind one that takes it
+-- what may go on after any section, and a dc after one that takes it
 abbrev pub behind_any_section : List Terminal
 behind_any_section = State ∷ Comma ∷ behind_any_state ++ behind_expr ++ exprs ++ option_words
 
@@ -207,7 +207,7 @@ dont_care_section_laws = turned DontCareSection dc (Semicolon ∷ []) false dont
 dont_cares_laws : Keeps (repeated dont_care_section) (read_repeated (among dc) read_dont_care_section) dc (DontCare ∷ Semicolon ∷ []) true
 dont_cares_laws = any_number dc (Semicolon ∷ []) dont_care_section_laws refl
 
--- what may go on behind a section and its dc
+-- what may go on after a section and its dc
 abbrev pub behind_group : List Terminal
 behind_group = DontCare ∷ Semicolon ∷ behind_any_section
 

@@ -1,9 +1,9 @@
--- Sections lie one behind the other, each along tokens of its own.
+-- Sections lie one after the other, each along tokens of its own.
 use Rattle.std.proofs.Common.{◌≡◌, Bool, true, false, List, [], ◌∷◌, ◌++◌, sym, ap, subst, ◌∙◌}
 use Rattle.abel_grammar.proofs.Common.{flat_map, append_assoc, append-nil, Form, followed, ◌then◌, SpellsList, repeated, made, unless, Place, Token, SectionTree, places_of_section, Along}
 use Rattle.abel_grammar.proofs.Forms.{Lies}
 
--- each section has tokens of its own, behind those of the section before it
+-- each section has tokens of its own, after those of the section before it
 abbrev pub InPieces : List Token → List SectionTree → Type 0
 InPieces ts [] = Unit {0}
 InPieces ts (s ∷ ss) =

@@ -48,7 +48,7 @@ module _ {X A : Type 0} (a a' : Form X A) (ra ra' : Reader X A) (fa gall : X →
         | inr (h, d) ↦ let is : ([], ts) ≡ x = cc in subst (λ (y : List A × List X). SpellsList a.spells ts y.0 y.1) is refl
       ]
 
-  -- what may come behind an item
+  -- what may follow an item
   item_ends : (t : A) (mid : List X) (list : List A) (rest : List X) → SpellsList a.spells mid list rest → starts (behind_list fa gall list) rest ≡ false → starts (ga t) mid ≡ false
   item_ends t [] list rest s e = refl
   item_ends t (x ∷ mid) [] rest s e =

@@ -93,9 +93,9 @@ module _ {X A : Type 0} (a b : Form X A) (p : Same a b) where
     begins_back = λ us h. (h.0, h.1, list_back us h.0 h.1 h.2, p.begins_back h.1 h.3);
   }
 
--- ---- a form behind several others
+-- ---- a form after several others
 
--- a choice, and a form behind it
+-- a choice, and a form after it
 pub either_then : {X A B : Type 0} (a b : Form X A) (e : Form X B) → Same (either a b then e) (either (a then e) (b then e))
 either_then a b e = record {
   there = λ ts t rest (mid, s, z). elim s [ inl h ↦ inl (mid, h, z) | inr h ↦ inr (mid, h, z) ];

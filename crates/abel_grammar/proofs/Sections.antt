@@ -1,4 +1,4 @@
--- The places of sections rise from section to section, where the tokens' places rise.
+-- The places of sections rise from section to section, if the tokens' places rise.
 use Rattle.std.proofs.Common.{◌≡◌, ℕ, List, [], ◌∷◌, ◌++◌, refl, sym, ap, subst, ◌∙◌}
 use Rattle.abel_grammar.proofs.Common.{All, flat_map, append-nil, All-nil, All-cons, All-head, All-tail, All-append, All-weaker, repeated, flatten, Spells, Place, Token, SectionTree, ModuleTree, Module, End, Identifier, takes_dont_care, dont_care_section, sections, source, places_of_section, Along, IsBefore, TokensRise, SectionsRise}
 use Rattle.abel_grammar.proofs.Forms.{some_lies}
@@ -85,7 +85,7 @@ rise_right : (us vs : List Token) → TokensRise (us ++ vs) → TokensRise vs
 rise_right [] vs r = r
 rise_right (u ∷ us) vs r = rise_right us vs r.1
 
--- each of the first tokens stands before each of the others
+-- each of the first tokens precedes each of the others
 abbrev Before : List Token → Token → Type 0
 Before vs u = All (λ v. IsBefore u.place v.place) vs
 

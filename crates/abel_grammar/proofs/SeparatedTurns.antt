@@ -5,7 +5,7 @@ use Rattle.abel_grammar.proofs.Laws.{result_cases, chosen}
 use Rattle.abel_grammar.proofs.RepeatedTurns.{repeated_turn, repeated_fails, repeated_ends}
 use Rattle.abel_grammar.proofs.ListTurns.{with_front, front_first}
 
--- a sign stands there, and the tokens behind it
+-- a sign is there, and the tokens after it
 behind_is : {X : Type 0} (sign : X → Bool) (ts rest : List X) → behind sign ts ≡ Some rest → (x : X) × (ts ≡ x ∷ rest) × (sign x ≡ true)
 behind_is sign [] rest e = absurd cc
 behind_is sign (x ∷ ts) rest e = elim (chosen (sign x) (Some ts) None (Some rest) e) [ inl (h, d) ↦ (x, ap (λ (m : List _). x ∷ m) cc, h) | inr (h, d) ↦ absurd cc ]
@@ -13,7 +13,7 @@ behind_is sign (x ∷ ts) rest e = elim (chosen (sign x) (Some ts) None (Some re
 pub behind_shorter : {X : Type 0} (sign : X → Bool) (ts rest : List X) → behind sign ts ≡ Some rest → length rest < length ts
 behind_shorter sign ts rest e = let p = behind_is sign ts rest e in omega (arith, ap length p.1)
 
--- no sign stands there
+-- no sign is there
 behind_none : {X : Type 0} (sign : X → Bool) (ts : List X) → behind sign ts ≡ None → starts sign ts ≡ false
 behind_none sign [] e = refl
 behind_none sign (x ∷ ts) e = elim (chosen (sign x) (Some ts) None None e) [ inl (h, d) ↦ absurd cc | inr (h, d) ↦ h ]
@@ -21,7 +21,7 @@ behind_none sign (x ∷ ts) e = elim (chosen (sign x) (Some ts) None None e) [ i
 abbrev paired : {X S A : Type 0} → A → Result (List (S × A) × List X) (Stop X) → Result ((A × List (S × A)) × List X) (Stop X)
 paired t read = read >>= λ y. Ok ((t, y.0), y.1)
 
--- an entry, and those that are still read behind it
+-- an entry, and those that are still read after it
 abbrev entries_with : {X S A : Type 0} → A → Result (List (S × A) × List X) (Stop X) → Result (List A × List X) (Stop X)
 entries_with t read = read >>= λ y. Ok (entries_of (t, y.0), y.1)
 
@@ -95,12 +95,12 @@ module _ {X A : Type 0} (ra : Reader X A) (sign : X → Bool) (shorter : (ts : L
   pub separated_shorter : (ts : List X) (x : A × List X) (rest : List X) → ra ts ≡ Ok x → behind sign x.1 ≡ Some rest → length rest < length ts
   separated_shorter ts x rest e d = omega (arith, shorter ts x e, behind_shorter sign x.1 rest d)
 
-  -- an entry was read, and no sign stands behind it
+  -- an entry was read, and no sign follows it
   pub separated_ends : (front : List A) (ts : List X) (x : A × List X) (total : Result (List A × List X) (Stop X)) → ra ts ≡ Ok x → behind sign x.1 ≡ None
       → with_front front (read_separated sign ra ts) ≡ total → total ≡ Ok (front ++ x.0 ∷ [], x.1)
   separated_ends front ts x total e d so_far =
       sym so_far ∙ ap (with_front front) (first_read ts x e ∙ ap (entries_with x.0) (repeated_ends link sign link_shorter x.1 (behind_none sign x.1 d)))
 
-  -- no entry stands there
+  -- no entry is there
   pub separated_fails : (front : List A) (ts : List X) (total : Result (List A × List X) (Stop X)) (s : Stop X) → ra ts ≡ Err s → with_front front (read_separated sign ra ts) ≡ total → total ≡ Err s
   separated_fails front ts total s e so_far = sym so_far ∙ rw e refl

@@ -1,5 +1,5 @@
--- The laws of forms with lists of terminals for what may start a form and what may go on behind it; what doesn't
--- depend on this grammar, but for the terminals.
+-- The laws of forms with lists of terminals for what may start a form and what may go on after it; what doesn't
+-- depend on this grammar, except for the terminals.
 use Rattle.std.proofs.Common.{◌≡◌, ◌<◌, inl, inr, Bool, true, false, List, [], ◌∷◌, ◌++◌, length, Option, None, Ok, refl, ◌||◌, ◌&&◌, not, ◌==◌}
 use Rattle.abel_grammar.proofs.Common.{Form, token, ◌then◌, followed, either, optional, repeated, made, nothing, Reader, read_token, ◌then_read◌, read_followed, read_either, read_optional, read_repeated, read_made, read_deep, placed, unless, read_placed, read_unless, Token, Terminal, number_of, terminal_of, among, one, each_apart_by, read_one, read_apart_by}
 use Rattle.abel_grammar.proofs.Laws.{Lawful}
@@ -59,7 +59,7 @@ pub apart_laws : {A : Type 0} {a a' : Form Token A} {ra ra' : Reader Token A} (t
     → Obeys (each_apart_by t a) (each_apart_by t a') (read_apart_by t ra) (read_apart_by t ra') first (t ∷ goes) false
 apart_laws t first goes la d e = laws.with_signs number_of terminal_of _ _ _ _ (t ∷ []) first goes la d e
 
--- more that may start a form, or go on behind it
+-- more that may start a form, or go on after it
 pub widened : {T : Type 0} {a a' : Form Token T} {ra ra' : Reader Token T} (fa ga fb gb : List Terminal) (na : Bool) → Obeys a a' ra ra' fa ga na → subset fa fb ≡ true → subset ga gb ≡ true → Obeys a a' ra ra' fb gb na
 widened {T} fa ga fb gb na la d e =
     relaxed_laws _ _ _ _ (among fa) (among fb) _ (λ (t : T) (x : Token). among gb x) na la (λ x h. laws.among_within number_of terminal_of fa fb d x h) (λ t x h. laws.outside number_of terminal_of ga gb e x h)
@@ -67,12 +67,12 @@ widened {T} fa ga fb gb na la d e =
 pub placed_obeys : {A : Type 0} {a a' : Form Token A} {ra ra' : Reader Token A} (fa ga : List Terminal) → Obeys a a' ra ra' fa ga false → Obeys (placed a) (placed a') (read_placed ra) (read_placed ra') fa ga false
 placed_obeys fa ga la = placed_laws _ _ _ _ (among fa) (λ t x. among ga x) la
 
--- what opens a nesting, where none may be opened
+-- what opens a nesting, if none may be opened
 pub too_deep : {A B : Type 0} (f : Token × A → B) (ks : List Terminal) (a : Form Token A) (r : Reader Token A) (goes : List Terminal)
     → Obeys nothing (made f (token (among ks) then a)) (read_deep (among ks)) (read_made f (read_token (among ks) then_read r)) ks goes false
 too_deep f ks a r goes = opening_laws f (among ks) a r (λ t x. among goes x)
 
--- a form whose followers depend on what it spells, behind one whose followers don't
+-- a form whose followers depend on what it spells, after one whose followers don't
 or_none : (b c : Bool) → b ≡ false → (b || (false && c)) ≡ false
 or_none true c e = absurd cc
 or_none false c e = refl
@@ -105,13 +105,13 @@ or_trails fa fb first goes la lb d e i =
     either_one true q r f g h = f refl
     either_one false q r f g h = g h
 
--- what goes on behind the tree may be said of the tree
+-- what goes on after the tree may be said of the tree
 pub trails : {T : Type 0} {a a' : Form Token T} {ra ra' : Reader Token T} (fa ga : List Terminal) (goes : T → Token → Bool) → Obeys a a' ra ra' fa ga false → ((t : T) (x : Token) → goes t x ≡ false → among ga x ≡ false) → Lawful a a' ra ra' (among fa) goes false
 trails fa ga goes la h = relaxed_laws _ _ _ _ (among fa) (among fa) _ goes false la (λ x k. k) h
 
--- ---- where a token goes on behind open trees alone
+-- ---- if a token goes on after open trees alone
 
--- ks may go on behind any tree, and js behind an open one
+-- ks may go on after any tree, and js after an open one
 abbrev pub behind_open : {T : Type 0} → List Terminal → List Terminal → (T → Bool) → T → Token → Bool
 behind_open ks js opened t x = among ks x || (opened t && among js x)
 
@@ -124,7 +124,7 @@ pub closed_false : (k j : Bool) → k ≡ false → (k || (false && j)) ≡ fals
 closed_false true j h = absurd cc
 closed_false false j h = refl
 
--- what goes on behind nothing of ks and js goes on behind no tree
+-- what goes on after nothing of ks and js goes on after no tree
 pub all_behind : {T : Type 0} (ks js both : List Terminal) (opened : T → Bool) → subset ks both ≡ true → subset js both ≡ true → (t : T) (x : Token) → among both x ≡ false → behind_open ks js opened t x ≡ false
 all_behind ks js both opened d e t x h = open_false (among ks x) (opened t) (among js x) (laws.outside number_of terminal_of ks both d x h) (laws.outside number_of terminal_of js both e x h)
 
@@ -144,7 +144,7 @@ many_open {T} fa ks js both opened la d e i =
         one true p q r g h = absurd cc
         one false p q r g h = g h
 
--- a tail that comes unless the tree before is opened, and may be missing
+-- a tail that is answered unless the tree before is opened, and may be missing
 module _ {T S : Type 0} (a a' : Form Token T) (ra ra' : Reader Token T) (fa ks js : List Terminal) (opened : T → Bool) (la : Lawful a a' ra ra' (among fa) (behind_open ks js opened) false)
     (b b' : Form Token S) (rb rb' : Reader Token S) (gb : S → Token → Bool) (lb : Lawful b b' rb rb' (among js) gb false) (d : disjoint js ks ≡ true) where
   abbrev pub part_behind : T × Option S → Token → Bool
@@ -161,7 +161,7 @@ module _ {T S : Type 0} (a a' : Form Token T) (ra ra' : Reader Token T) (fa ks j
       (optional_laws b b' rb rb' (among js) gb lb) tail_apart)
       (λ x h. or_first (among fa x) (among js x) h) (λ t x h. h)
 
--- a form whose followers depend on what it spells, behind one that may take no token
+-- a form whose followers depend on what it spells, after one that may take no token
 pub led_by_some : {A B : Type 0} {a a' : Form Token A} {b b' : Form Token B} {ra ra' : Reader Token A} {rb rb' : Reader Token B} (fa ga fb first : List Terminal) (gb : B → Token → Bool)
     → Obeys a a' ra ra' fa ga true → Lawful b b' rb rb' (among fb) gb false → disjoint fb ga ≡ true → subset fa first ≡ true → subset fb first ≡ true
     → Lawful (a then b) (a' then b') (ra then_read rb) (ra' then_read rb') (among first) (λ t x. gb t.1 x) false
@@ -175,7 +175,7 @@ led_by_some {A} {B} {a} {a'} {b} {b'} {ra} {ra'} {rb} {rb'} fa ga fb first gb la
     one_of true q r f g h = f refl
     one_of false q r f g h = g h
 
--- a form that may take no token and whose followers depend on what it spells, behind one that takes one
+-- a form that may take no token and whose followers depend on what it spells, after one that takes one
 pub led_by_less : {A B : Type 0} {a a' : Form Token A} {b b' : Form Token B} {ra ra' : Reader Token A} {rb rb' : Reader Token B} (fa ga fb : List Terminal) (gb : B → Token → Bool)
     → Obeys a a' ra ra' fa ga false → Lawful b b' rb rb' (among fb) gb true → disjoint fb ga ≡ true
     → Lawful (a then b) (a' then b') (ra then_read rb) (ra' then_read rb') (among fa) (λ t x. gb t.1 x || (true && among ga x)) false

@@ -1,4 +1,4 @@
--- Laws that say by the last part what may go on behind the whole.
+-- Laws that say by the last part what may go on after the whole.
 use Rattle.std.proofs.Common.{◌≡◌, ℕ, zero, suc, ◌≤◌, ◌<◌, ◌⊎◌, inl, inr, Bool, true, false, cond, List, [], ◌∷◌, ◌++◌, length, Option, Some, None, Result, Ok, Err, refl, sym, ap, subst, ◌∙◌, arith, length-append, ◌||◌, ◌&&◌, not, is_some}
 use Rattle.abel_grammar.proofs.Common.{Form, ◌then◌, followed, optional, repeated, SpellsList, Stop, Reader, ◌>>=◌, starts, ◌then_read◌, read_followed, read_optional, read_many, read_repeated, unless, read_unless}
 use Rattle.abel_grammar.proofs.Laws.{Lawful, or_false, starts_apart, starts_or_false}
@@ -28,7 +28,7 @@ with_only a a' r r' first goes null l sharp only = record {
   same_err = l.same_err;
 }
 
--- ---- a second part that is known to take a token where it is full
+-- ---- a second part that is known to take a token if it is full
 
 module _ {X A B : Type 0} (a a' : Form X A) (b b' : A → Form X B) (ra ra' : Reader X A) (rb rb' : A → Reader X B) (fa : X → Bool) (fb : A → X → Bool) (fall : X → Bool)
     (ga : A → X → Bool) (gb : A → B → X → Bool) (na nb : Bool)
@@ -121,7 +121,7 @@ module _ {X A B : Type 0} (a a' : Form X A) (ra ra' : Reader X A) (fa : X → Bo
   or_one true g e = refl
   or_one false g e = absurd cc
 
-  -- where it is there, what may go on is what may go on behind it
+  -- if it is there, what may go on is what may go on after it
   pub option_sharp : ((t : A) (x : X) → fb x ≡ true → ga t x ≡ false) → Lawful (a then optional b) (a' then optional b') (ra then_read read_optional fb rb) (ra' then_read read_optional fb rb') fa (λ t x. behind_option fb gb t.1 x || (not (is_some t.1) && ga t.0 x)) false
   option_sharp apart =
       relaxed_laws _ _ _ _ _ fa _ (λ (t : A × Option B) (x : X). behind_option fb gb t.1 x || (not (is_some t.1) && ga t.0 x)) false
@@ -129,7 +129,7 @@ module _ {X A B : Type 0} (a a' : Form X A) (ra ra' : Reader X A) (fa : X → Bo
       la (λ _. optional_laws b b' rb rb' fb gb lb) apart (λ t x h. h) is_some (λ t mid u s e. option_fills mid u s e))
       (λ x h. or_one (fa x) (fb x) h) (λ t x h. h)
 
-  -- the same where it comes unless the first part stops it
+  -- the same if it is answered unless the first part stops it
   module _ (stops : A → Bool) (apart : (t : A) (x : X) → stops t ≡ false → fb x ≡ true → ga t x ≡ false) where
     abbrev stop_first : A → X → Bool
     stop_first t x = not (stops t) && fb x

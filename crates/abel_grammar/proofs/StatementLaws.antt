@@ -14,7 +14,7 @@ semicolon = Semicolon ∷ []
 abbrev else_word : List Terminal
 else_word = Else ∷ []
 
--- what may go on behind a statement: a `;` behind a group or a dc, and an ELSE where a WHEN is open
+-- what may go on after a statement: a `;` after a group or a dc, and an ELSE if a WHEN is open
 abbrev pub behind : Statement → Token → Bool
 behind = behind_open semicolon else_word is_open
 
@@ -65,7 +65,7 @@ dont_care_trails = trails (DontCare ∷ []) semicolon behind (turned ADontCare (
 
 -- ---- WHEN and its ELSE
 
--- what may go on behind the parts may go on behind the whole
+-- what may go on after the parts may go on after the whole
 none_wider : (s e o : Bool) → (s || (true && e)) ≡ false → ((not o && e) || (true && (s || (o && e)))) ≡ false
 none_wider true e o h = absurd cc
 none_wider false true o h = absurd cc

@@ -5,7 +5,7 @@ use Rattle.abel_lexer.specs.Bytes.{line_feed}
 use Rattle.abel_lexer.specs.Scans.{past, place_past, Remainder, whole, Lexeme, Shown, Radix, tokens_among, IsFront, Passes, Leads, IsTokensOf}
 use Rattle.abel_lexer.proofs.Longest.{token_some}
 
--- a place stands at another or before it
+-- a place is at another or before it
 abbrev NotBehind : Place → Place → Type 0
 NotBehind p q = (p ≡ q) ⊎ IsBefore p q
 
@@ -45,7 +45,7 @@ not_behind_both p q r (inr a) h = inr (before_not_behind p q r a h)
 passed : (at behind : Remainder) → Passes at behind → NotBehind at.place behind.place
 passed at behind h = subst (NotBehind at.place) (sym h.place) (past_all at.place h.gap)
 
--- what stands behind a lexeme stands behind its place
+-- what follows a lexeme follows its place
 lexeme_before : (l : Lexeme) (at front behind : Remainder) → Passes at front → IsFront front l behind → NotBehind at.place behind.place
 lexeme_before (Shown t) at front behind h f =
     not_behind_both at.place front.place behind.place (passed at front h) (subst (NotBehind front.place) (sym f.4) (past_all front.place t.text))
@@ -60,7 +60,7 @@ token_front t front behind f =
     subst (λ (p : Place). IsBefore p behind.place) (sym f.2)
     (subst (IsBefore front.place) (sym f.4) (past_some front.place t.text (token_some t.kind t.text f.0.token)))
 
--- what stands at the end of a lexeme or behind it stands behind the lexeme's place
+-- what is at the end of a lexeme or after it follows the lexeme's place
 later : (l : Lexeme) (at front behind : Remainder) → Passes at front → IsFront front l behind → (ts : List Token) → All (From behind.place) ts → All (From at.place) ts
 later l at front behind p f ts h =
     All-weaker (From behind.place) (From at.place)

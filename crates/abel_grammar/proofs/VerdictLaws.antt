@@ -109,7 +109,7 @@ module _ {X T : Type 0} (form : ℕ → Form X T) (read : ℕ → Reader X T) (f
         at_end = λ d. absurd (omega arith);
       }
 
-  -- tokens are left behind a tree
+  -- tokens are left after a tree
   pub left_over : (n : ℕ) (ts : List X) (t : T) (x : X) (rest : List X) → read n ts ≡ Ok (t, x ∷ rest) → SyntaxAt form n ts (length ts - length (x ∷ rest))
   left_over n ts t x rest e =
       let s = (laws n).sound ts (t, x ∷ rest) e in

@@ -43,7 +43,7 @@ read_kept word =
     read_one word then_read read_optional (among (terminal.Number ∷ [])) read_nums
     then_read read_optional (among (terminal.Istype ∷ [])) read_istype then_read read_one terminal.Semicolon
 
--- ---- what comes behind the names
+-- ---- what follows the names
 
 -- the name of an item that is neither negated nor a range
 abbrev pub bare : Bool → Word → Option Word → Option Word
@@ -54,13 +54,13 @@ bare false w (Some l) = None
 abbrev pub bare_item : Item → Option Word
 bare_item i = bare i.negated i.first i.last
 
--- the name, where there is one alone
+-- the name, if there is one alone
 abbrev pub only_name : List Item → Option Word
 only_name [] = None
 only_name (i ∷ []) = bare_item i
 only_name (i ∷ j ∷ is) = None
 
--- the names, where none is negated or a range
+-- the names, if none is negated or a range
 abbrev pub bare_names : List Item → Option (List Word)
 bare_names [] = Some []
 bare_names (i ∷ is) = option_and_then (λ w. option_map (λ ws. w ∷ ws) (bare_names is)) (bare_item i)

@@ -1,4 +1,4 @@
--- State diagrams, read from left to right: an arm is read with the `;` behind it, so that no look past the
+-- State diagrams, read from left to right: an arm is read with the `;` after it, so that no look past the
 -- next token is needed (a helper of the parser's own contracts).
 use Rattle.std.specs.Prelude.{ℕ, zero, suc, Bool, true, false, ◌||◌, List, [], ◌∷◌, Option, None, Some, is_some}
 use Rattle.abel_grammar.specs.Prelude.{Place, Token, Tree, Statement, Branch, StateTree, SectionTree}
@@ -36,13 +36,13 @@ read_goal n =
     read_made goal_of
     (read_placed (read_expr n then_read read_optional (among (terminal.With ∷ [])) (read_with_part n)))
 
--- ---- an arm and the `;` behind it, if there is one
+-- ---- an arm and the `;` after it, if there is one
 
 -- an arm, and its `;`
 abbrev pub Ended : Type 0
 Ended = Branch × Option Token
 
--- IF expr THEN arm [;] [ELSE arm [;]]: the last `;` is the one behind
+-- IF expr THEN arm [;] [ELSE arm [;]]: the last `;` is the one after it
 abbrev pub if_ended_of : Token × (Tree × (Token × (Ended × Option (Token × Ended)))) → Ended
 if_ended_of (w, (c, (t, ((b, s), None)))) = (if_of (w, (c, (t, (b, None)))), s)
 if_ended_of (w, (c, (t, ((b, s), Some (e, (a, z)))))) = (if_of (w, (c, (t, (b, Some (s, (e, a)))))), z)

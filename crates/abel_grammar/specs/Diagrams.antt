@@ -18,7 +18,7 @@ braced (suc n) =
     made braced_of
     (one terminal.BraceOpen then repeated (stmt n) then one terminal.BraceClose then optional (one terminal.Endwith))
 
--- {stmt} ENDWITH, where the first statement is no group
+-- {stmt} ENDWITH, if the first statement is no group
 abbrev pub listed_of : Option (Statement × List Statement) × Token → List Statement
 listed_of (None, t) = []
 listed_of (Some (s, ss), t) = s ∷ ss
@@ -47,7 +47,7 @@ behind_goto x = x.1
 abbrev pub behind_word : Token × Branch → Branch
 behind_word x = x.1
 
--- Whether an ELSE behind the arm would belong to an IF in it. (No arm that is spelled has an open one before
+-- Whether an ELSE after the arm would belong to an IF in it. (No arm that is spelled has an open one before
 -- its own ELSE.)
 abbrev mutual
   pub is_open_arm : Branch → Bool
@@ -59,7 +59,7 @@ abbrev mutual
   is_open_other NoBranch b = true
   is_open_other (ABranch a) b = b || is_open_arm a
 
--- if = IF expr THEN arm [[;] ELSE arm], where an ELSE belongs to the nearest IF that has none
+-- if = IF expr THEN arm [[;] ELSE arm], if an ELSE belongs to the nearest IF that has none
 abbrev pub else_in : Option Token × (Token × Branch) → Branch
 else_in x = x.1.1
 
@@ -104,7 +104,7 @@ abbrev mutual
   is_closed_other NoBranch b = b
   is_closed_other (ABranch a) b = is_closed a
 
--- the `;` behind a transition, which may be missing where that is closed
+-- the `;` after a transition, which may be missing if that is closed
 abbrev pub ending : Bool → Form Token (Option Token)
 ending true = end
 ending false = made Some (one terminal.Semicolon)

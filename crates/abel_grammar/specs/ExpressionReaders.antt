@@ -38,7 +38,7 @@ read_paren expr = read_made paren_of (read_one terminal.Open then_read expr then
 unfoldable pub read_span_member : Reader Token SetMember
 read_span_member = read_made span_member_of (read_name then_read read_one terminal.Range then_read read_name)
 
--- a range where a name and `..` stand there
+-- a range if a name and `..` are there
 unfoldable pub read_member : Reader Token Tree → Reader Token SetMember
 read_member expr =
     read_picked (starts_two (among (terminal.Identifier ∷ [])) (among (terminal.Range ∷ []))) read_span_member

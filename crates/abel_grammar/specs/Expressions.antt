@@ -134,7 +134,7 @@ operand (suc n) =
 abbrev pub expr : ℕ → Form Token Tree
 expr n = expr_over (operand n)
 
--- a set that stands alone
+-- a set that is alone
 unfoldable pub set_at : ℕ → Form Token Tree
 set_at zero = nothing
 set_at (suc n) = set (expr n)

@@ -15,12 +15,12 @@ abbrev pub times : {X A : Type 0} → ℕ → Form X A → Form X (List A)
 times zero a = given []
 times (suc n) a = made (λ x. x.0 ∷ x.1) (a then times n a)
 
--- lists, one behind the other
+-- lists, one after the other
 abbrev pub flatten : {A : Type 0} → List (List A) → List A
 flatten [] = []
 flatten (l ∷ ls) = l ++ flatten ls
 
--- a form, unless there is nothing to come
+-- a form, unless nothing follows
 abbrev pub unless : {X A : Type 0} → Bool → A → Form X A → Form X A
 unless true x a = given x
 unless false x a = a
@@ -37,7 +37,7 @@ abbrev pub read_times : {X A : Type 0} → ℕ → Reader X A → Reader X (List
 read_times zero a = read_given []
 read_times (suc n) a = read_made (λ x. x.0 ∷ x.1) (a then_read read_times n a)
 
--- a form, unless there is nothing to come
+-- a form, unless nothing follows
 abbrev pub read_unless : {X A : Type 0} → Bool → A → Reader X A → Reader X A
 read_unless true x a = read_given x
 read_unless false x a = a
@@ -46,7 +46,7 @@ read_unless false x a = a
 abbrev pub read_nothing : {X A : Type 0} → Reader X A
 read_nothing ts = Err (Syntax ts)
 
--- the first form where the tokens pass a test, and else the second
+-- the first form if the tokens pass a test, and else the second
 abbrev pub read_picked : {X A : Type 0} → (List X → Bool) → Reader X A → Reader X A → Reader X A
 read_picked pick a b ts = if pick ts then a ts else b ts
 

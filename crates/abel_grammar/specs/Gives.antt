@@ -6,7 +6,7 @@ use Rattle.abel_grammar.specs.Reading.{Stop, Syntax, TooDeep}
 use Rattle.abel_grammar.specs.declared.halt.Halt.{Halt}
 use Rattle.abel_grammar.specs.declared.halt.Halt.TheVariants as halt
 
--- reading stops where the code did, unless that is for want of memory
+-- reading stops if the code did, unless that is for lack of memory
 abbrev pub Fails : {Y : Type 0} → Halt → Result Y (Stop Token) → Type 0
 Fails halt.Memory read = Unit {0}
 Fails (halt.Syntax left) read = read ≡ Err (Syntax left.now)

@@ -33,7 +33,7 @@ read_dont_care_section = read_made DontCareSection read_dont_care
 abbrev pub proper_starts : List Terminal
 proper_starts = terminal.Declarations ∷ terminal.Equations ∷ terminal.TruthTable ∷ terminal.StateDiagram ∷ terminal.TestVectors ∷ []
 
--- a section, and the dc behind it that are sections
+-- a section, and the dc after it that are sections
 abbrev pub read_free : Bool → Reader Token (List SectionTree)
 read_free taken = read_unless taken [] (read_repeated (among (terminal.DontCare ∷ [])) read_dont_care_section)
 
@@ -60,7 +60,7 @@ read_ending n =
     read_sections n then_read read_one terminal.End
     then_read read_optional (among (terminal.Identifier ∷ [])) (read_one terminal.Identifier) then_read read_end
 
--- what stands behind the module's name and title
+-- what follows the module's name and title
 abbrev pub Body : Type 0
 Body = List Word × (List Declaration × (List SectionTree × (Token × (Option Token × Option Token))))
 

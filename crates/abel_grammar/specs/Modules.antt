@@ -30,7 +30,7 @@ proper n = either (declarations n) (either (equations n) (either (table n) (eith
 unfoldable pub dont_care_section : Form Token SectionTree
 dont_care_section = made DontCareSection dont_care
 
--- Whether a dc behind the section is one of its declarations or statements.
+-- Whether a dc after the section is one of its declarations or statements.
 abbrev pub is_empty : {A : Type 0} → List A → Bool
 is_empty [] = true
 is_empty (x ∷ xs) = false
@@ -48,7 +48,7 @@ takes_dont_care (ADiagram p r states) = last_is_bare states
 takes_dont_care (SomeVectors t p i o rows) = false
 takes_dont_care (DontCareSection d) = false
 
--- a section, and the dc behind it that are sections; before the first section a dc is a declaration
+-- a section, and the dc after it that are sections; before the first section a dc is a declaration
 abbrev pub section_group_of : SectionTree × List SectionTree → List SectionTree
 section_group_of x = x.0 ∷ x.1
 
@@ -61,7 +61,7 @@ sections n =
 unfoldable pub options : Form Token (List Word)
 options = made flatten (repeated option)
 
--- {option} {decl}: an option that could stand in both stands in {option}
+-- {option} {decl}: an option that could be in both is in {option}
 abbrev pub decls_of : Option (Declaration × List Declaration) → List Declaration
 decls_of None = []
 decls_of (Some (d, ds)) = d ∷ ds

@@ -9,16 +9,16 @@ Along [] ps = ps ≡ []
 Along (t ∷ ts) ps =
     (here : List Place) × (more : List Place) × (ps ≡ here ++ more) × All (λ p. p ≡ t.place) here × Along ts more
 
--- a place stands before another: by line, and in one line by column
+-- a place precedes another: by line, and in one line by column
 abbrev pub IsBefore : Place → Place → Type 0
 IsBefore p q = (p.line < q.line) ⊎ ((p.line ≡ q.line) × (p.column < q.column))
 
--- each token stands before all those behind it
+-- each token precedes all those after it
 abbrev pub TokensRise : List Token → Type 0
 TokensRise [] = Unit {0}
 TokensRise (t ∷ ts) = All (λ u. IsBefore t.place u.place) ts × TokensRise ts
 
--- each place of a section stands before all places of the sections behind it
+-- each place of a section precedes all places of the sections after it
 abbrev pub SectionsRise : List SectionTree → Type 0
 SectionsRise [] = Unit {0}
 SectionsRise (s ∷ ss) =

@@ -24,7 +24,7 @@ places_of_item i = i.first.place ∷ places_of_some places_of_word i.last
 abbrev pub places_of_span : Span → List Place
 places_of_span s = s.first.place ∷ places_of_some places_of_number s.last
 
--- ---- expressions: an operator stands between its sides
+-- ---- expressions: an operator is between its sides
 
 abbrev mutual
   pub places_of_expr : Tree → List Place

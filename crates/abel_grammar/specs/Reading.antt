@@ -12,7 +12,7 @@ abbrev pub left_of : {X : Type 0} → Stop X → List X
 left_of (Syntax left) = left
 left_of (TooDeep left) = left
 
--- from tokens to what those at the front spell, and the tokens behind them
+-- from tokens to what those at the front spell, and the tokens after them
 abbrev pub Reader : Type 0 → Type 0 → Type 0
 Reader X T = List X → Result (T × List X) (Stop X)
 
@@ -27,7 +27,7 @@ abbrev pub starts : {X : Type 0} → (X → Bool) → List X → Bool
 starts test [] = false
 starts test (x ∷ ts) = test x
 
--- the tokens behind the next one, where it passes a test
+-- the tokens after the next one, if it passes a test
 abbrev pub behind : {X : Type 0} → (X → Bool) → List X → Option (List X)
 behind test [] = None
 behind test (x ∷ ts) = if test x then Some ts else None
@@ -46,11 +46,11 @@ infixr 30 ◌then_read◌
 abbrev pub ◌then_read◌ : {X A B : Type 0} → Reader X A → Reader X B → Reader X (A × B)
 a then_read b = read_followed a (λ _. b)
 
--- the first form where the next token starts it, and else the second
+-- the first form if the next token starts it, and else the second
 abbrev pub read_either : {X A : Type 0} → (X → Bool) → Reader X A → Reader X A → Reader X A
 read_either first a b ts = if starts first ts then a ts else b ts
 
--- a form where the next token starts it
+-- a form if the next token starts it
 abbrev pub read_optional : {X A : Type 0} → (X → Bool) → Reader X A → Reader X (Option A)
 read_optional first a ts =
     if starts first ts then (a ts >>= λ x. Ok (Some x.0, x.1)) else Ok (None, ts)
@@ -82,7 +82,7 @@ abbrev pub read_chain : {X A B : Type 0} → (A → B → A) → (X → Bool) �
 read_chain join first a b =
     read_made (λ x. grouped join x.0 x.1) (a then_read read_repeated first b)
 
--- a construct that is one nesting too deep, where the next token starts it
+-- a construct that is one nesting too deep, if the next token starts it
 abbrev pub read_deep : {X A : Type 0} → (X → Bool) → Reader X A
 read_deep first ts = if starts first ts then Err (TooDeep ts) else Err (Syntax ts)
 

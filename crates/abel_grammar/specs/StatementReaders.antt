@@ -45,7 +45,7 @@ plain_starts = terminal.Not ∷ terminal.Identifier ∷ terminal.Left ∷ termin
 abbrev pub stmt_starts : List Terminal
 stmt_starts = terminal.Not ∷ terminal.Identifier ∷ terminal.Left ∷ terminal.DontCare ∷ terminal.When ∷ terminal.BraceOpen ∷ []
 
--- as many statements as stand there
+-- as many statements as are there
 abbrev pub read_stmts : Reader Token Statement → Reader Token (List Statement)
 read_stmts stmt = read_repeated (among stmt_starts) stmt
 

@@ -48,7 +48,7 @@ assign n = made assign_of (placed (target n then token (among assigns) then expr
 unfoldable pub dont_care_stmt : Form Token Statement
 dont_care_stmt = made ADontCare dont_care
 
--- Whether an ELSE behind the statement would belong to a WHEN in it. (No statement that is spelled has an
+-- Whether an ELSE after the statement would belong to a WHEN in it. (No statement that is spelled has an
 -- open one before its own ELSE.)
 abbrev mutual
   pub is_open : Statement → Bool
@@ -61,7 +61,7 @@ abbrev mutual
   is_open_else NoElse b = true
   is_open_else (AnElse s) b = b || is_open s
 
--- when = WHEN expr THEN stmt [ELSE stmt], where an ELSE belongs to the nearest WHEN that has none
+-- when = WHEN expr THEN stmt [ELSE stmt], if an ELSE belongs to the nearest WHEN that has none
 abbrev pub when_of : Token × (Tree × (Token × (Statement × Option (Token × Statement)))) → Statement
 when_of x = AWhen x.0.place x.1.0 x.1.1.1.0 (otherwise_of (option_map (λ e. e.1) x.1.1.1.1))
 

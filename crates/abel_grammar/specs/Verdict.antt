@@ -1,4 +1,4 @@
--- What tokens spell, and where they stop to begin anything (this project's rule).
+-- What tokens spell, and the place at which they stop to begin anything (this project's rule).
 use Rattle.std.specs.Prelude.{◌≡◌, ℕ, ◌+◌, ◌≤◌, ◌<◌, List, [], length, take}
 use Rattle.abel_grammar.specs.Form.{Form}
 
@@ -15,7 +15,7 @@ abbrev pub Begins : {X T : Type 0} → (ℕ → Form X T) → List X → Type 0
 Begins form us = (n : ℕ) × (form n).begins us
 
 -- The tokens before the place begin the form, with at most this many constructs open. Those up to
--- and with it begin none; and where the place is the end of the text, the tokens spell nothing.
+-- and with it begin none; and if the place is the end of the text, the tokens spell nothing.
 pub record SyntaxAt {X T : Type 0} (form : ℕ → Form X T) (depth : ℕ) (ts : List X) (place : ℕ)
     : Type 0 where
   pub within : place ≤ length ts

@@ -9,7 +9,7 @@ use std::alloc::{AllocError, AllocFailed};
 pub enum Halt<'a> {
     /// Memory ran out.
     Memory,
-    /// The next token, or the end of them, can't stand here.
+    /// The next token, or the end of them, can't be here.
     Syntax(&'a [Token]),
     /// The next token opens one nesting too many.
     TooDeep(&'a [Token]),

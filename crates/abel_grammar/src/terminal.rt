@@ -238,7 +238,7 @@ pub fn starts(tokens: &[Token], terminals: &[Terminal]) -> bool
     }
 }
 
-/// The tokens behind the next one, where that is one of these terminals.
+/// The tokens after the next one, if that is one of these terminals.
 pub fn behind<'a>(tokens: &'a [Token], terminals: &[Terminal]) -> Option<&'a [Token]>
     ensures { option_map (λ r. r.now) result ≡ behind (among terminals.now) tokens.now }
 {

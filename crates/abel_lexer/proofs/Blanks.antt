@@ -1,4 +1,4 @@
--- Blanks at the front, and what stands behind them.
+-- Blanks at the front, and what follows them.
 use Rattle.std.proofs.Common.{◌≡◌, ℕ, suc, ◌+◌, inl, inr, Bool, true, false, cond, List, [], ◌∷◌, ◌++◌, length, take, drop, refl, sym, ap, subst, ◌∙◌, arith}
 use Rattle.abel_lexer.proofs.Common.{list_all, prefix_len, take_at, drop_at, is_blank, starts}
 use Rattle.abel_lexer.proofs.Booleans.{bool_cases, and_parts}
@@ -7,7 +7,7 @@ use Rattle.abel_lexer.proofs.Booleans.{bool_cases, and_parts}
 abbrev pub gap_of : List ℕ → List ℕ
 gap_of ts = take (prefix_len is_blank ts) ts
 
--- what stands behind them
+-- what follows them
 abbrev pub behind_gap : List ℕ → List ℕ
 behind_gap ts = drop (prefix_len is_blank ts) ts
 
@@ -18,13 +18,13 @@ gap_len (b ∷ gap) rest h s =
     let p = and_parts (is_blank b) (list_all is_blank gap) h in
     rw p.0 (omega (arith, gap_len gap rest p.1 s))
 
--- blanks before a byte that is none are all the blanks at the front
+-- blanks before a byte that isn't one are all the blanks at the front
 pub gap_is : (ts gap rest : List ℕ) → ts ≡ gap ++ rest → list_all is_blank gap ≡ true → starts is_blank rest ≡ false → (gap ≡ gap_of ts) × (rest ≡ behind_gap ts)
 gap_is ts gap rest e h s =
     let n : length gap ≡ prefix_len is_blank ts = sym (ap (prefix_len is_blank) e ∙ gap_len gap rest h s) in
     (sym (ap (take (prefix_len is_blank ts)) e ∙ take_at gap rest (prefix_len is_blank ts) n), sym (ap (drop (prefix_len is_blank ts)) e ∙ drop_at gap rest (prefix_len is_blank ts) n))
 
--- behind the blanks stands no blank
+-- after the blanks is no blank
 pub dark_behind : (ts : List ℕ) → starts is_blank (behind_gap ts) ≡ false
 dark_behind [] = refl
 dark_behind (b ∷ bs) =

@@ -1,4 +1,4 @@
--- The first bytes of a token tell its kind, and the first is no blank.
+-- The first bytes of a token give its kind, and the first is no blank.
 use Rattle.std.proofs.Common.{◌≡◌, ℕ, ◌+◌, ◌≤◌, ◌<◌, ◌⊎◌, inl, inr, Bool, true, false, not, cond, List, [], ◌∷◌, ◌++◌, refl, sym, ap, subst, ◌∙◌, arith, ◌==◌, ◌&&◌, ◌||◌, nat_le, nat_lt, codes, if◌then◌else◌}
 use Rattle.abel_lexer.proofs.Common.{list_all, list_any, is_in_range, is_ascii_digit, is_ascii_alphabetic, is_ascii_alphanumeric, to_ascii_lowercase, bytes_eq, str_eq_ignore_ascii_case, str_to_ascii_lowercase, leb-true, ltb-false, eqb-true, TokenKind, quote, dot, caret, is_blank, is_letter, is_name_first, is_name_later, starts, is_listed, signs, is_sign, IsWord, IsShaped, IsToken, no_byte, letter_special, voltage_special, directives, word_kind}
 use Rattle.abel_lexer.specs.declared.token.TokenKind.TheVariants as kind
@@ -105,7 +105,7 @@ differs p n b f t =
       | inr e ↦ e
     ]
 
--- ---- the kind that the first bytes tell
+-- ---- the kind that the first bytes give
 
 -- of what begins with a dot
 abbrev dotted : List ℕ → TokenKind
@@ -141,7 +141,7 @@ sign_said kind.Directive e = absurd cc
 told_dotted : (w bs : List ℕ) (b : ℕ) → w ≡ b ∷ bs → (b == dot) ≡ true → told w ≡ dotted bs
 told_dotted w bs b s e = ap told s ∙ ap (λ (n : ℕ). told (n ∷ bs)) (eqb-true b dot e)
 
--- what begins with a byte that is no dot and has one behind is no extension
+-- what begins with a byte that is no dot and has one after is no extension
 special_told : (c : ℕ) (front back : List ℕ) → (c == dot) ≡ false → dotted (c ∷ (front ++ dot ∷ back)) ≡ kind.Special
 special_told c front back e = rw e (rw (not_all is_name_later (c ∷ front) dot back refl) refl)
 

@@ -84,7 +84,7 @@ radix_last [] w n = refl
 radix_last (Shown u ∷ ls) w n = ap (λ (z : List Token). u ∷ z) (radix_last ls w n)
 radix_last (Radix v m ∷ ls) w n = radix_last ls w n
 
--- the tokens found in a text so far, and where its rest stands
+-- the tokens found in a text so far, and the place of its rest
 abbrev pub HasFound : List ℕ → List Token → Place → ℕ → List ℕ → Type 0
 HasFound text ts p radix rest = (ls : List Lexeme) × Reaches (whole text) ls (remainder p radix rest) × (ts ≡ tokens_among ls)
 
@@ -125,7 +125,7 @@ radix_found text rest gap front behind word ts p q r radix known h g f e at w rp
       h.2 ∙ sym (radix_last h.0 form.0 known),
     )
 
--- what stands behind a form is shorter
+-- what follows a form is shorter
 pub radix_shorter : (radix known : ℕ) (front behind : List ℕ) → radix_at radix front ≡ Some (known, behind) → length behind < length front
 radix_shorter radix known front behind at =
     let form = form_found radix front behind known at in

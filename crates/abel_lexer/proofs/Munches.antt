@@ -65,7 +65,7 @@ module _ (later : ℕ → Bool) where
   shaped_above at (t ∷ tests) [] rest h = absurd h
   shaped_above at (t ∷ tests) (b ∷ w) rest h = rw h.0 (omega (arith, shaped_above (at + 1) tests w rest h.1))
 
-  -- a prefix ends where a byte fails
+  -- a prefix ends if a byte fails
   prefix_ends : (w rest : List ℕ) → list_all later w ≡ true → starts later rest ≡ false → prefix_len later (w ++ rest) ≡ length w
   prefix_ends [] [] h s = refl
   prefix_ends [] (b ∷ bs) h s = rw s refl
@@ -119,7 +119,7 @@ either_munches {P} {Q} {f} {g} m n =
 
 -- ---- words
 
--- the words are not empty, and none is behind a shorter one
+-- the words are not empty, and none is after a shorter one
 abbrev falling : ℕ → List (List ℕ) → Bool
 falling n [] = true
 falling n (s ∷ ss) = nat_le (length s) n && (nat_lt 0 (length s) && falling (length s) ss)

@@ -13,7 +13,7 @@ end_fits at taken (b ∷ bs) =
       | inr e ↦ rw e (omega (arith, end_fits (at + 1) (not taken && b == backslash) bs))
     ]
 
--- behind pieces and a quote the text ends
+-- after pieces and a quote the text ends
 end_past : (at : ℕ) (pieces : List (List ℕ)) (rest : List ℕ) → AllByRecursion IsPiece pieces → quote_end at false (concat pieces ++ quote ∷ rest) ≡ at + length (concat pieces) + 1
 end_past at [] rest h = omega arith
 end_past at ([] ∷ ps) rest h = absurd h.0

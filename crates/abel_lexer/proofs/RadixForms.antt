@@ -14,7 +14,7 @@ use Rattle.abel_lexer.proofs.Munches.{same_length, prefix_passes, shape_ends}
 pub short_word : (ts : List ℕ) → length ts < 6 → str_eq_ignore_ascii_case (codes "@RADIX") (take 6 ts) ≡ true → ⊥
 short_word ts lt e = omega (arith, same_length (codes "@RADIX") (take 6 ts) e, length-take 6 ts)
 
--- ---- where a number ends
+-- ---- the end of a number
 
 -- a letter or digit is no blank
 alphanumeric_from : (b : ℕ) → is_ascii_alphanumeric b ≡ true → 48 ≤ b
@@ -56,7 +56,7 @@ number_ends (b ∷ w) rest (inr h) s =
     let long : shaped_len marked_head is_ascii_alphanumeric ((b ∷ w) ++ rest) ≡ length (b ∷ w) = shape_ends is_ascii_alphanumeric marked_head (b ∷ w) rest h s in
     ap (λ (n : ℕ). larger n (shaped_len marked_head is_ascii_alphanumeric ((b ∷ w) ++ rest))) plain ∙ larger_second _ ∙ long
 
--- ---- a form that stands at the front is found
+-- ---- a form that is at the front is found
 
 -- a form begins with its word
 pub form_begins : (radix : ℕ) (w rest : List ℕ) (n : ℕ) (f : IsRadixForm radix w n) → f.word ++ ((f.gap ++ (f.number ++ (f.gap_behind ++ codes ";"))) ++ rest) ≡ w ++ rest
@@ -67,7 +67,7 @@ pub form_some : (radix : ℕ) (w : List ℕ) (n : ℕ) → IsRadixForm radix w n
 form_some radix w n f =
     omega (arith, ap length f.parts, length-append f.word (f.gap ++ (f.number ++ (f.gap_behind ++ codes ";"))), same_length (codes "@RADIX") f.word f.directive)
 
--- its parts behind the word, each before all that follows it
+-- its parts after the word, each before all that follows it
 nested : (gap number behind rest : List ℕ) → (gap ++ (number ++ (behind ++ codes ";"))) ++ rest ≡ gap ++ (number ++ (behind ++ 59 ∷ rest))
 nested gap number behind rest =
     append_assoc gap (number ++ (behind ++ codes ";")) rest

@@ -1,4 +1,4 @@
--- What stands at the front of a remainder is one thing alone, and so are the tokens of a text or its
+-- What is at the front of a remainder is one thing alone, and so are the tokens of a text or its
 -- first fault.
 use Rattle.std.proofs.Common.{◌≡◌, ℕ, ◌+◌, ◌-◌, ◌≤◌, ◌<◌, ◌⊎◌, inl, inr, Bool, true, false, List, [], ◌∷◌, ◌++◌, length, take, drop, Option, None, Some, refl, sym, ap, subst, ◌∙◌, arith, length-append, ◌==◌, codes}
 use Rattle.abel_lexer.proofs.Common.{str_eq_ignore_ascii_case, str_to_ascii_lowercase, take_at, drop_at, Place, Token, TokenKind, ScanFault, is_blank, starts, is_listed, IsToken, directives, value_of, fault_of, radix_at, Remainder, Lexeme, Shown, Radix, place_past, IsRadixForm, IsLongest, IsFront, Passes, Leads, Faults, tokens_among}
@@ -13,7 +13,7 @@ use Rattle.abel_lexer.proofs.RadixForms.{found_form, form_begins, unwrapped}
 
 -- ---- parts of one text
 
--- two fronts of one length are one, and so is what stands behind them
+-- two fronts of one length are one, and so is what follows them
 same_parts : (w v rest more : List ℕ) → length w ≡ length v → w ++ rest ≡ v ++ more → (w ≡ v) × (rest ≡ more)
 same_parts w v rest more n e = (
   sym (take_at w rest (length v) n) ∙ ap (take (length v)) e ∙ take_at v more (length v) refl,

@@ -1,10 +1,10 @@
--- Digits are good where each is one of the radix and the value stays small.
+-- Digits are good if each is one of the radix and the value stays small.
 use Rattle.std.proofs.Common.{◌≡◌, ℕ, zero, suc, ◌+◌, ◌*◌, ◌^◌, ◌<◌, ◌≤◌, ◌⊎◌, inl, inr, Bool, true, false, List, [], ◌∷◌, length, drop, drop-cons, get_or, refl, sym, ap, subst, ◌∙◌, arith, ◌&&◌, nat_lt}
 use Rattle.abel_lexer.proofs.Common.{list_all, digit_value, is_digit, digits_value, digits_value_after, ltb-true, ltb-false, are_good_digits}
 use Rattle.std.proofs.Math.Nat.{le-mul_of_pos_right}
 use Rattle.abel_lexer.proofs.Booleans.{bool_cases, and_both}
 
--- a value is no less with more digits behind it
+-- a value is no less with more digits after it
 value_grows : (radix n : ℕ) (cs : List ℕ) → 0 < radix → n ≤ digits_value_after radix n cs
 value_grows radix n [] lt = omega arith
 value_grows radix n (c ∷ cs) lt =

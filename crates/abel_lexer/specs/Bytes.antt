@@ -1,5 +1,5 @@
--- The bytes that sources are made of (ABEL-HDL Reference Manual, language elements; that `~` may
--- stand in a name, and byte 26 among the blanks, is this project's rule).
+-- The bytes that sources are made of (ABEL-HDL Reference Manual, language elements; that `~` may be
+-- in a name, and byte 26 among the blanks, is this project's rule).
 use Rattle.std.specs.Prelude.{ℕ, Bool, false, ◌==◌, ◌||◌, List, [], ◌∷◌, codes}
 use Rattle.std.specs.List.{list_any}
 use Rattle.std.specs.Char.{is_ascii_alphabetic, is_ascii_digit, to_ascii_lowercase}
@@ -45,7 +45,7 @@ is_name_later b = is_name_first b || is_ascii_digit b
 abbrev pub is_letter : ℕ → ℕ → Bool
 is_letter l b = to_ascii_lowercase b == l
 
--- what names the radix of a number behind its `^`: b, o, d or h, in either case
+-- what names the radix of a number after its `^`: b, o, d or h, in either case
 abbrev pub is_radix_letter : ℕ → Bool
 is_radix_letter b = list_any (λ l. is_letter l b) (codes "bodh")
 

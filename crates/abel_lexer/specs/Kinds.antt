@@ -16,7 +16,7 @@ use Rattle.abel_lexer.specs.Signs.{is_sign}
 
 -- ---- forms
 
--- the first bytes pass these tests in turn, and each byte behind them passes a last one
+-- the first bytes pass these tests in turn, and each byte after them passes a last one
 abbrev pub IsShaped : List (ℕ → Bool) → (ℕ → Bool) → List ℕ → Type 0
 IsShaped [] later w = list_all later w ≡ true
 IsShaped (t ∷ ts) later [] = ⊥
@@ -84,7 +84,7 @@ IsToken kind.Text w = IsQuoted w
 IsToken kind.Sign w = is_sign w ≡ true
 IsToken kind.Directive w = is_listed directives w ≡ true
 
--- what a number says, where this radix is in force; 0 for every other kind
+-- what a number says, if this radix is in force; 0 for every other kind
 abbrev pub value_of : ℕ → TokenKind → List ℕ → ℕ
 value_of radix kind.Identifier w = 0
 value_of radix kind.Keyword w = 0
@@ -110,11 +110,11 @@ taken_extensions =
 abbrev pub longest_name : ℕ
 longest_name = 31
 
--- the fault, where the test holds
+-- the fault, if the test holds
 abbrev pub fault_if : Bool → ScanFault → Option ScanFault
 fault_if test f = if test then Some f else None
 
--- what is wrong with a token that stands at a place, where this radix is in force
+-- what is wrong with a token that is at a place, if this radix is in force
 abbrev pub fault_of : ℕ → TokenKind → List ℕ → Place → Option ScanFault
 fault_of radix kind.Identifier w p = fault_if (nat_lt longest_name (length w)) (fault.LongName p)
 fault_of radix kind.Keyword w p = fault_if (is_left_out w) (fault.Unsupported p)

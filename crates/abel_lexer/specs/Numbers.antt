@@ -6,12 +6,12 @@ use Rattle.std.specs.Char.{is_digit}
 use Rattle.std.specs.Str.Parse.{digits_value}
 use Rattle.abel_lexer.specs.Bytes.{caret, is_letter}
 
--- the radix that the letter behind `^` names: b 2, o 8, h 16, and d 10
+-- the radix that the letter after `^` names: b 2, o 8, h 16, and d 10
 abbrev pub marked_radix : ℕ → ℕ
 marked_radix l = if is_letter 98 l then 2 else if is_letter 111 l then 8 else if is_letter 104 l then 16 else 10
 
--- the radix that a number is read in, where this one is in force: its own, if it has a mark as
--- `^h1F` has
+-- the radix that a number is read in, if this one is in force: its own, if it has a mark as `^h1F`
+-- has
 abbrev pub radix_of : ℕ → List ℕ → ℕ
 radix_of radix [] = radix
 radix_of radix (b ∷ []) = radix
@@ -27,7 +27,7 @@ digits_of (b ∷ l ∷ ds) = if b == caret then ds else b ∷ l ∷ ds
 abbrev pub are_good_digits : ℕ → List ℕ → Bool
 are_good_digits radix ds = list_all (λ d. is_digit d radix) ds && nat_lt (digits_value radix ds) (2 ^ 32)
 
--- what a number says, where this radix is in force
+-- what a number says, if this radix is in force
 abbrev pub number_value : ℕ → List ℕ → ℕ
 number_value radix w = digits_value (radix_of radix w) (digits_of w)
 

@@ -16,11 +16,11 @@ use Rattle.abel_lexer.specs.Kinds.{IsToken, value_of, fault_of}
 
 -- ---- places
 
--- the place behind one byte: a line feed begins a line, and every other byte takes a column
+-- the place after one byte: a line feed begins a line, and every other byte takes a column
 abbrev pub past : Place → ℕ → Place
 past p b = if b == line_feed then record { line = p.line + 1; column = 1 } else record { line = p.line; column = p.column + 1 }
 
--- the place behind these bytes
+-- the place after these bytes
 abbrev pub place_past : Place → List ℕ → Place
 place_past p [] = p
 place_past p (b ∷ bs) = place_past (past p b) bs
@@ -29,7 +29,7 @@ place_past p (b ∷ bs) = place_past (past p b) bs
 abbrev pub first_place : Place
 first_place = record { line = 1; column = 1 }
 
--- ---- what stands next
+-- ---- what is next
 
 -- what is left to scan: its place, the radix in force there, and its bytes
 pub record Remainder : Type 0 where
@@ -73,8 +73,8 @@ tokens_among [] = []
 tokens_among (Shown t ∷ ls) = t ∷ tokens_among ls
 tokens_among (Radix w n ∷ ls) = tokens_among ls
 
--- such a lexeme stands at the front of a remainder, and leaves another; a token is the longest there
--- and has nothing wrong
+-- such a lexeme is at the front of a remainder, and leaves another; a token is the longest there and
+-- has nothing wrong
 abbrev pub IsFront : Remainder → Lexeme → Remainder → Type 0
 IsFront at (Shown t) behind =
     IsLongest at.text t.kind t.text behind.text × (fault_of at.radix t.kind t.text at.place ≡ None) × (t.place ≡ at.place)
@@ -107,15 +107,15 @@ pub record IsTokensOf (text : List ℕ) (ts : List Token) : Type 0 where
   pub empty : end.text ≡ []
   pub tokens : ts ≡ tokens_among lexemes
 
--- a fault stands at the front of a remainder that isn't empty: nothing begins there, or its longest
--- token has something wrong
+-- a fault is at the front of a remainder that isn't empty: nothing begins there, or its longest token
+-- has something wrong
 abbrev pub Faults : Remainder → ScanFault → Type 0
 Faults at f =
     ((f ≡ fault.NotText at.place) × (0 < length at.text) × ((k : TokenKind) (w rest : List ℕ) → at.text ≡ w ++ rest → IsToken k w → ⊥)
     × ((w rest : List ℕ) (n : ℕ) → at.text ≡ w ++ rest → IsRadixForm at.radix w n → ⊥))
     ⊎ ((k : TokenKind) × (w : List ℕ) × (rest : List ℕ) × IsLongest at.text k w rest × (fault_of at.radix k w at.place ≡ Some f))
 
--- the first fault of a text: what stands before it is blanks, `@RADIX` forms and sound tokens
+-- the first fault of a text: what precedes it is blanks, `@RADIX` forms and sound tokens
 pub record IsFirstFault (text : List ℕ) (f : ScanFault) : Type 0 where
   pub lexemes : List Lexeme
   pub end : Remainder

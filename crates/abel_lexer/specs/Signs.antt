@@ -4,7 +4,7 @@ use Rattle.std.specs.Prelude.{ℕ, Bool, List, [], ◌∷◌, codes}
 use Rattle.std.specs.List.{list_any}
 use Rattle.std.specs.Str.{bytes_eq}
 
--- the signs, none behind a shorter one
+-- the signs, none after a shorter one
 abbrev pub signs : List (List ℕ)
 signs =
     codes "?:=" ∷ codes ":=" ∷ codes "?=" ∷ codes "!$" ∷ codes "<<" ∷ codes ">>" ∷ codes "==" ∷ codes "!=" ∷ codes "<=" ∷ codes ">=" ∷ codes "->" ∷ codes ":>" ∷ codes ".." ∷ codes "(" ∷ codes ")" ∷ codes "[" ∷ codes "]" ∷ codes "{"

@@ -24,7 +24,7 @@ pub fn is_name_later(byte: u8) -> bool
     is_name_first(byte) || byte.is_ascii_digit()
 }
 
-/// Whether a byte names a radix behind `^`: b, o, d or h, in either case.
+/// Whether a byte names a radix after `^`: b, o, d or h, in either case.
 pub fn is_radix_letter(byte: u8) -> bool
     ensures { result ≡ spec.is_radix_letter byte }
 {

@@ -13,7 +13,7 @@ use crate::bytes::{is_blank, is_name_first, is_name_later, is_radix_letter};
 use crate::keyword::{is_directive, word_kind};
 use crate::token::TokenKind;
 
-/// How many blanks stand at the front.
+/// How many blanks are at the front.
 pub fn blank_len(bytes: &[u8]) -> usize
     ensures value { result ≡ prefix_len is_blank bytes.now }
     ensures within { result ≤ length bytes.now }
@@ -78,7 +78,7 @@ fn marked_len(bytes: &[u8]) -> usize
     }
 }
 
-/// How long the number at the front is; 0 if there is none.
+/// How long the number at the front is; 0 if there isn't one.
 #[tactic(auto, using(crate::proofs::Longest::number_fits))]
 pub fn number_len(bytes: &[u8]) -> usize
     ensures value { result ≡ spec.number_len bytes.now }
@@ -102,7 +102,7 @@ fn extension_len(bytes: &[u8]) -> usize
     }
 }
 
-/// How long the letter between dots at the front is; 0 if there is none.
+/// How long the letter between dots at the front is; 0 if there isn't one.
 #[tactic(auto, using(crate::proofs::Munches::none_passes))]
 pub fn letter_special_len(bytes: &[u8]) -> usize
     ensures { result ≡ spec.shaped_len letter_special no_byte bytes.now }
@@ -139,7 +139,7 @@ fn special_len(bytes: &[u8]) -> usize
     larger(letter_special_len(bytes), voltage_special_len(bytes))
 }
 
-/// Whether a byte is the closing quote, where a backslash may have taken it.
+/// Whether a byte is the closing quote, if a backslash may have taken it.
 fn closes(taken: bool, byte: u8) -> bool
     ensures { result ≡ (not taken && byte == quote) }
 {
@@ -153,7 +153,7 @@ fn takes_next(taken: bool, byte: u8) -> bool
     !taken && byte == b'\\'
 }
 
-/// Where the closing quote ends in a text whose first byte is a quote; 0 if there is none.
+/// The end of the closing quote in a text whose first byte is a quote; 0 if there isn't one.
 fn quote_end(bytes: &[u8]) -> usize
     requires { length bytes.now ≤ 1048576 }
     ensures { result ≡ spec.quote_end 1 false bytes.now }
@@ -180,7 +180,7 @@ fn quoted_len(bytes: &[u8]) -> usize
     }
 }
 
-/// How long the sign is that is one byte; 0 if it is none.
+/// How long the sign is that is one byte; 0 if it isn't one.
 fn short_sign_len(byte: u8) -> usize
     ensures { result ≡ spec.listed_len signs (byte ∷ []) }
 {
@@ -191,7 +191,7 @@ fn short_sign_len(byte: u8) -> usize
     }
 }
 
-/// How long the sign at the front is, where two bytes begin the text; 0 if there is none.
+/// How long the sign at the front is, if two bytes begin the text; 0 if there isn't one.
 fn long_sign_len(first: u8, second: u8) -> usize
     ensures { (rest : List ℕ) → starts_with nat_eq (first ∷ second ∷ rest) (codes "?:=") ≡ false → result ≡ spec.listed_len signs (first ∷ second ∷ rest) }
 {
@@ -212,7 +212,7 @@ fn long_sign_len(first: u8, second: u8) -> usize
     }
 }
 
-/// How long the sign at the front is; 0 if there is none.
+/// How long the sign at the front is; 0 if there isn't one.
 pub fn sign_len(bytes: &[u8]) -> usize
     ensures { result ≡ spec.listed_len signs bytes.now }
 {
@@ -224,7 +224,7 @@ pub fn sign_len(bytes: &[u8]) -> usize
     }
 }
 
-/// The first six bytes, or all where there are fewer.
+/// The first six bytes, or all if there are fewer.
 #[tactic(auto, using(crate::proofs::Munches::all_taken))]
 pub fn first_six(bytes: &[u8]) -> &[u8]
     ensures { result.now ≡ take 6 bytes.now }
@@ -266,7 +266,7 @@ fn longest_word(bytes: &[u8]) -> (TokenKind, usize)
     longer(longer(word_at(bytes), number), longer(special, extension))
 }
 
-/// The kind and the length of the longest token at the front, of length 0 if there is none.
+/// The kind and the length of the longest token at the front, of length 0 if there isn't one.
 #[tactic(auto, unfolding(crate::specs::Lengths::longest_at), using(crate::proofs::Longest::fits))]
 pub fn longest_at(bytes: &[u8]) -> (TokenKind, usize)
     requires { length bytes.now ≤ 1048576 }

@@ -5,7 +5,7 @@ ghost use Rattle.std.specs.Char.{digit_value, is_digit};
 ghost use Rattle.std.specs.Str.Parse.{digits_value};
 ghost use Rattle.abel_lexer.specs.Numbers as spec;
 
-/// The radix that the letter behind `^` names.
+/// The radix that the letter after `^` names.
 fn marked_radix(letter: u8) -> u32
     ensures value { result ≡ spec.marked_radix letter }
     ensures low { 2 ≤ result }
@@ -19,7 +19,7 @@ fn marked_radix(letter: u8) -> u32
     }
 }
 
-/// A number with one more digit behind it, if this is one of the radix and it stays below 2 to the 32.
+/// A number with one more digit after it, if this is one of the radix and it stays below 2 to the 32.
 fn with_digit(radix: u32, value: u32, digit: u8) -> Option<u32>
     requires low { 2 ≤ radix }
     requires high { radix ≤ 16 }
@@ -47,7 +47,7 @@ fn digits_value(radix: u32, bytes: &[u8]) -> Option<u32>
     Some(value)
 }
 
-/// What a number says where a radix is in force, if its digits are some of its radix and the value is
+/// What a number says if a radix is in force, if its digits are some of its radix and the value is
 /// below 2 to the 32.
 pub fn number_value(radix: u32, word: &[u8]) -> Option<u32>
     requires low { 2 ≤ radix }

@@ -9,14 +9,14 @@ ghost use Rattle.abel_lexer.specs.Numbers.{is_radix};
 use crate::length::{blank_len, first_six, number_len};
 use crate::number::number_value;
 
-/// What stands behind the blanks at the front.
+/// What follows the blanks at the front.
 fn behind_blanks(bytes: &[u8]) -> &[u8]
     ensures { result.now ≡ spec.behind_blanks bytes.now }
 {
     bytes.split_at(blank_len(bytes)).1
 }
 
-/// What stands behind `@RADIX`.
+/// What follows `@RADIX`.
 #[tactic(auto, unfolding(crate::specs::Lengths::behind_radix_word), using(crate::proofs::RadixForms::short_word))]
 fn behind_radix_word(bytes: &[u8]) -> Option<&[u8]>
     ensures some { IfSome result (λ r. spec.behind_radix_word bytes.now ≡ Some r.now) }
@@ -31,7 +31,7 @@ fn behind_radix_word(bytes: &[u8]) -> Option<&[u8]>
     }
 }
 
-/// What stands behind a `;`.
+/// What follows a `;`.
 fn behind_semicolon(bytes: &[u8]) -> Option<&[u8]>
     ensures some { IfSome result (λ r. spec.behind_semicolon bytes.now ≡ Some r.now) }
     ensures none { IfNone result (spec.behind_semicolon bytes.now ≡ None) }
@@ -62,7 +62,7 @@ fn known_radix(radix: u32, number: &[u8]) -> Option<u32>
     if is_radix(value) { Some(value) } else { None }
 }
 
-/// The radix that the number at the front sets where a `;` follows, and what stands behind that.
+/// The radix that the number at the front sets if a `;` follows, and what follows that.
 #[tactic(auto, unfolding(crate::specs::Lengths::radix_set), using(crate::proofs::Longest::number_fits))]
 fn radix_set(radix: u32, bytes: &[u8]) -> Option<(u32, &[u8])>
     requires low { 2 ≤ radix }
@@ -77,7 +77,7 @@ fn radix_set(radix: u32, bytes: &[u8]) -> Option<(u32, &[u8])>
     Some((value, rest))
 }
 
-/// The radix that the `@RADIX` form at the front sets, and what stands behind it.
+/// The radix that the `@RADIX` form at the front sets, and what follows it.
 #[tactic(auto, unfolding(crate::specs::Lengths::radix_at))]
 pub fn radix_at(radix: u32, bytes: &[u8]) -> Option<(u32, &[u8])>
     requires low { 2 ≤ radix }

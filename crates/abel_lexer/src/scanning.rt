@@ -16,7 +16,7 @@ use crate::token::{Token, TokenKind};
 use pld_base::{NameText, Place};
 use std::alloc::Global;
 
-/// The place behind these bytes.
+/// The place after these bytes.
 pub fn place_past(from: Place, bytes: &[u8]) -> Place
     requires line { from.line + length bytes.now < 2 ^ 32 }
     requires first { 1 ≤ from.column }
@@ -38,7 +38,7 @@ pub fn place_past(from: Place, bytes: &[u8]) -> Place
     place
 }
 
-/// The value of a token that stands at a place: what a number says, else 0; or what is wrong with it.
+/// The value of a token that is at a place: what a number says, else 0; or what is wrong with it.
 fn token_value(radix: u32, kind: TokenKind, word: &[u8], place: Place) -> Result<u32, ScanFault>
     requires low { 2 ≤ radix }
     requires high { radix ≤ 16 }
@@ -62,7 +62,7 @@ fn token_value(radix: u32, kind: TokenKind, word: &[u8], place: Place) -> Result
     }
 }
 
-/// The token at the front of a text that begins with no `@RADIX` form, and what stands behind it.
+/// The token at the front of a text that begins with no `@RADIX` form, and what follows it.
 fn token_at(
     alloc: Global,
     place: Place,
@@ -93,7 +93,7 @@ fn token_at(
     Ok((token, behind))
 }
 
-/// The bytes of a text that stand before an end of it.
+/// The bytes of a text that precede an end of it.
 fn before<'a>(front: &'a [u8], behind: &[u8]) -> &'a [u8]
     requires { length behind.now ≤ length front.now }
     ensures { result.now ≡ take (length front.now - length behind.now) front.now }

@@ -23,7 +23,7 @@ pub enum TokenKind {
     Directive,
 }
 
-/// A token with its slice of the text, its place and, where it is a number, its value (else 0).
+/// A token with its slice of the text, its place and, if it is a number, its value (else 0).
 #[derive(Drop)]
 pub struct Token {
     pub kind: TokenKind,

@@ -1,4 +1,4 @@
--- What was read stands before what stands behind it.
+-- What was read precedes what follows it.
 use Rattle.std.proofs.Common.{◌++◌, ◌≡◌, ◌<◌, ◌≤◌, ◌-◌, ℕ, List, Option, Some, None, Bool, length, take, drop, ap, arith, length-drop, length-take, refl, option_map}
 use Rattle.abel_macros.proofs.Common.{lt-ltb, before, behind_some, given}
 

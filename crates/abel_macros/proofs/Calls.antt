@@ -14,7 +14,7 @@ all_taken {A = A} (w ∷ ws) (suc i) h = ap (λ (x : List A). w ∷ x) (all_take
 pub taken_more : (ps : List (List ℕ)) (i : ℕ) (d : List ℕ) → i < length ps → joined (take (i + 1) ps) ≡ joined (take i ps) ++ get_or ps i d
 taken_more ps i d h = ap (λ (n : ℕ). joined (take n ps)) (add-one i) ∙ ap joined (take-suc ps i d h) ∙ joined-push (take i ps) (get_or ps i d)
 
--- what stands behind a front of a text
+-- what follows a front of a text
 pub stripped : (left p more : List ℕ) → bytes_eq (take (length p) left) p ≡ true → more ≡ drop (length p) left → left ≡ p ++ more
 stripped left p more e m = sym (take-append-drop (length p) left) ∙ ap (λ (w : List ℕ). w ++ drop (length p) left) ((bytes_eq-Decides (take (length p) left) p).0 e) ∙ ap (λ (w : List ℕ). p ++ w) (sym m)
 

@@ -1,4 +1,4 @@
--- A gap, from a place in it that stands in the plain text.
+-- A gap, from a place in it that is in the plain text.
 use Rattle.std.proofs.Common.{◌≡◌, ℕ, true, List, ◌∷◌, refl, ◌∙◌}
 use Rattle.abel_macros.proofs.Common.{Mode, is_plain, ends_gap, gap_in, gap}
 use Rattle.text_pieces.specs.declared.mode.Mode.TheVariants as mode

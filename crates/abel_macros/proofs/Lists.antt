@@ -13,7 +13,7 @@ texts_push ws w = map-append (λ v. joined v.items) ws (w ∷ [])
 pub names_push : (ws : List (Vec ℕ)) (w : Vec ℕ) → names (ws ++ w ∷ []) ≡ names ws ++ w.items ∷ []
 names_push ws w = map-append (λ v. v.items) ws (w ∷ [])
 
--- what stands before a list goes before what a list of one more holds
+-- what precedes a list goes before what a list of one more holds
 longer_front : (front : List (List ℕ)) (a : List ℕ) (o : Found) → behind_all (front ++ a ∷ []) o ≡ behind_all front (o >>= λ more. Some (a ∷ more.0, more.1))
 longer_front front a None = refl
 longer_front front a (Some r) = ap (λ (z : List (List ℕ)). Some (z, r.1)) (append_assoc front (a ∷ []) r.0)
@@ -67,7 +67,7 @@ module _ (front : List (List ℕ)) (text : List ℕ) (more : ℕ) (r : Found) (s
     abbrev chosen : Bool → Option (List ℕ) → Found
     chosen t o = if t then Some (n ∷ [], rest_of (gap end)) else (o >>= λ behind. parameters_in (more - 1) behind >>= λ ps. Some (n ∷ ps.0, ps.1))
 
-    -- a byte that was passed stood there
+    -- a byte that was passed was there
     stood : (t : Bool) (rest behind : List ℕ) → given t rest ≡ Some behind → (t ≡ true) × (rest ≡ behind)
     stood true rest behind g = (refl, unwrapped g)
     stood false rest behind g = absurd cc

@@ -16,7 +16,7 @@ one k b w e = sum_by-cons (λ c. if c == k then 1 else 0) b w ∙ ap (λ (t : Bo
 other : (k b : ℕ) (w : List ℕ) → (b == k) ≡ false → count k (b ∷ w) ≡ count k w
 other k b w e = sum_by-cons (λ c. if c == k then 1 else 0) b w ∙ ap (λ (t : Bool). (if t then 1 else 0) + count k w) e ∙ omega arith
 
--- a byte that is nowhere isn't the first, and stands nowhere behind it
+-- a byte that is nowhere isn't the first, and is nowhere after it
 record Absent (k b : ℕ) (w : List ℕ) : Type 0 where
   first : (b == k) ≡ false
   behind : count k w ≡ 0
@@ -28,7 +28,7 @@ absent k b w e =
       | inr f ↦ record { first = f; behind = sym (other k b w f) ∙ e }
     ]
 
--- brackets behind a byte, of which so many stay open
+-- brackets after a byte, of which so many stay open
 record Bracket (opening shutting b inside : ℕ) (w : List ℕ) : Type 0 where
   some : 0 < inside
   stay : count shutting w < nested opening shutting inside b
@@ -166,7 +166,7 @@ take_all (suc m) (b ∷ v) l = ap (λ (u : List ℕ). b ∷ u) (take_all m v (om
 pub all_counted : (k : ℕ) (w : List ℕ) (i n : ℕ) → length w ≤ i → n ≡ count k (take i w) → n ≡ count k w
 all_counted k w i n h c = c ∙ ap (count k) (take_all i w h)
 
--- a stretch more in which a byte doesn't stand
+-- a stretch more in which a byte isn't
 count_append : (k : ℕ) (v w : List ℕ) → count k (v ++ w) ≡ count k v + count k w
 count_append k v w = sum_by-append (λ b. if b == k then 1 else 0) v w
 

@@ -2,7 +2,7 @@
 use Rattle.std.proofs.Common.{ℕ, zero, suc, ◌+◌, ◌==◌, List, [], ◌∷◌, Ok, Err, if◌then◌else◌}
 use Rattle.abel_macros.proofs.Common.{Cause, TooLong, ExpansionLimit, BadDirective, Unsupported, Config, turn}
 
--- a text expands to these bytes, or is refused behind these bytes
+-- a text expands to these bytes, or is refused after these bytes
 pub data Outcome : Type 0 where
   Whole : List ℕ → Outcome
   Stopped : Cause → List ℕ → Outcome

@@ -60,7 +60,7 @@ all_behind : (v w : List ℕ) → list_all is_blank w ≡ true → list_all is_b
 all_behind [] w h = h
 all_behind (a ∷ v) w h = ap (λ (t : Bool). is_blank a && t) (all_behind v w h)
 
--- a text behind which nothing but blanks stands
+-- a text after which nothing but blanks is
 pub blanks_behind : (v w : List ℕ) → trimmed_end w ≡ [] → trimmed_end (v ++ w) ≡ trimmed_end v
 blanks_behind [] w e = e
 blanks_behind (a ∷ v) w e = rw (all_behind (a ∷ v) w (chosen_all w e)) (elim (bool_cases (list_all is_blank (a ∷ v))) [
@@ -79,7 +79,7 @@ not_all_blank (b ∷ bs) h = elim (bool_cases (list_all is_blank (b ∷ bs))) [
   | inr f ↦ f
 ]
 
--- a text behind which something stands
+-- a text after which something is
 pub dark_behind : (v w : List ℕ) → 0 < length (trimmed_end w) → trimmed_end (v ++ w) ≡ v ++ trimmed_end w
 dark_behind [] w h = refl
 dark_behind (a ∷ v) w h = rw (some_dark (a ∷ v) w (not_all_blank w h)) (ap (λ (z : List ℕ). a ∷ z) (dark_behind v w h))

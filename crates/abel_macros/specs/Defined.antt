@@ -5,11 +5,11 @@ use Rattle.abel_macros.specs.Prelude.{is_some, bytes_eq, line_feed}
 -- ---- what a text has defined
 
 pub record Macro : Type 0 where
-  -- none where the macro is called without parentheses
+  -- none if the macro is called without parentheses
   pub parameters : Option (List (List ℕ))
   pub block : List ℕ
 
--- what names stand for, and the radix in force
+-- what names represent, and the radix in force
 pub record Tables : Type 0 where
   pub macros : List ℕ → Option Macro
   pub values : List ℕ → Option ℕ
@@ -32,8 +32,8 @@ pub data Cause : Type 0 where
   BadDirective : Cause
   Unsupported : Cause
 
--- tables, bytes that are done and what stands behind them; or a result that is put before what stands
--- behind; or a refusal
+-- tables, bytes that are done and what follows them; or a result that is put before what follows; or
+-- a refusal
 pub data Move : Type 0 where
   Done : Tables → List ℕ → List ℕ → Move
   Rewritten : List ℕ → List ℕ → Move

@@ -1,16 +1,16 @@
--- The tables as the code keeps them: lists of names with what they stand for.
+-- The tables as the code keeps them: lists of names with what they represent.
 use Rattle.std.specs.Prelude.{◌≡◌, ℕ, List, [], ◌∷◌, Option, None, Some, map, if◌then◌else◌}
 use Rattle.abel_macros.specs.Prelude.{bytes_eq, Vec}
 use Rattle.abel_macros.specs.Forms.{replaced, standing_for}
 use Rattle.abel_macros.specs.Rules.{Macro, Tables}
 
--- names with what they stand for, and the radix in force
+-- names with what they represent, and the radix in force
 pub record Kept : Type 0 where
   pub macros : List (List ℕ × Macro)
   pub values : List (List ℕ × ℕ)
   pub radix : ℕ
 
--- what a name stands for: the entry of that name
+-- what a name represents: the entry of that name
 abbrev pub under : {X : Type 0} → List (List ℕ × X) → List ℕ → Option X
 under [] w = None
 under (e ∷ es) w = if bytes_eq w e.0 then Some e.1 else under es w

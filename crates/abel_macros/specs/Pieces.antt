@@ -1,8 +1,8 @@
--- Texts that stand in pieces, and names, as the code keeps them.
+-- Texts that are in pieces, and names, as the code keeps them.
 use Rattle.std.specs.Prelude.{ℕ, List, map}
 use Rattle.abel_macros.specs.Prelude.{Vec, joined}
 
--- the texts that stand in these pieces
+-- the texts that are in these pieces
 abbrev pub texts : List (Vec (List ℕ)) → List (List ℕ)
 texts ws = map (λ w. joined w.items) ws
 

@@ -1,4 +1,4 @@
--- The forms of definitions and directives, behind their words (ABEL-HDL Reference Manual, macros and
+-- The forms of definitions and directives, after their words (ABEL-HDL Reference Manual, macros and
 -- directives; what is broken is this project's rule).
 use Rattle.std.specs.Prelude.{ℕ, Bool, ◌==◌, List, [], ◌∷◌, ◌++◌, length, map, Option, Some, None, codes, if◌then◌else◌}
 use Rattle.abel_macros.specs.Prelude.{concat, bytes_eq, str_eq_ignore_ascii_case, line_feed, known_radix, Mode}
@@ -10,7 +10,7 @@ use Rattle.abel_macros.specs.Defined.{Macro, Tables, is_defined}
 
 -- ---- macros
 
--- the word MACRO behind blanks and comments, and what stands behind it
+-- the word MACRO after blanks and comments, and what follows it
 abbrev pub macro_word : List ℕ → Option (List ℕ)
 macro_word text = name text >>= λ w. given (str_eq_ignore_ascii_case (codes "MACRO") w.0) w.1
 
@@ -20,17 +20,17 @@ heading text =
     if starts_byte 40 (gap text) then (parameters_in (length text) (rest_of (gap text)) >>= λ ps. Some (Some ps.0, ps.1))
     else Some (None, text)
 
--- behind a semicolon that may stand there
+-- after a semicolon that may be there
 abbrev pub optional_semicolon : List ℕ → List ℕ
 optional_semicolon text = if starts_byte 59 (gap text) then rest_of (gap text) else text
 
--- a macro's parameters and block behind the word MACRO, and what stands behind its form
+-- a macro's parameters and block after the word MACRO, and what follows its form
 abbrev pub macro_form : List ℕ → Option (Macro × List ℕ)
 macro_form text = heading text >>= λ h. block h.1 >>= λ b. Some (record { parameters = h.0; block = b.0 }, optional_semicolon b.1)
 
 -- ---- directives
 
--- what stands behind this sign
+-- what follows this sign
 abbrev pub past_sign : List ℕ → List ℕ → Option (List ℕ)
 past_sign s text = given (bytes_eq (sign (gap text)) s) (behind_sign text)
 
@@ -62,7 +62,7 @@ defined_form t behind = name behind >>= λ n. block n.1 >>= λ b. Some ((is_defi
 abbrev pub arguments_and_block : List ℕ → Option ((List (List ℕ) × List ℕ) × List ℕ)
 arguments_and_block text = arguments text >>= λ found. block found.1 >>= λ b. Some ((found.0, b.0), b.1)
 
--- a block once for each argument, which stands for this parameter
+-- a block once for each argument, which represents this parameter
 abbrev pub each_replaced : List ℕ → List (List ℕ) → List ℕ → List ℕ
 each_replaced n found b = concat (map (λ a. replaced (standing_for (n ∷ []) (a ∷ [])) 0 b) found)
 
@@ -70,7 +70,7 @@ each_replaced n found b = concat (map (λ a. replaced (standing_for (n ∷ []) (
 abbrev pub each_form : List ℕ → Option (List ℕ × List ℕ)
 each_form behind = name behind >>= λ n. arguments_and_block n.1 >>= λ r. Some (each_replaced n.0 r.0.0 r.0.1, r.1)
 
--- a block that may stand there
+-- a block that may be there
 abbrev pub optional_block : List ℕ → Option (List ℕ × List ℕ)
 optional_block text = if starts_byte 123 (gap text) then block text else Some ([], text)
 
@@ -78,7 +78,7 @@ optional_block text = if starts_byte 123 (gap text) then block text else Some ([
 abbrev pub value_form : Tables → List ℕ → Option (List ℕ × List ℕ)
 value_form t behind = optional_block behind >>= λ b. terminated t b.1 >>= λ v. Some (b.0 ++ digits_in 32 t.radix v.0, v.1)
 
--- a text with each comment as one space; the first byte stands in such a mode
+-- a text with each comment as one space; the first byte is in such a mode
 abbrev pub shown_in : Mode → List ℕ → List ℕ
 shown_in m [] = []
 shown_in m (b ∷ bs) = shown_byte m (passing m b bs) ++ shown_in (passing m b bs) bs

@@ -18,7 +18,7 @@ abbrev pub definition : Tables → List ℕ → List ℕ → List ℕ → Option
 definition t text named behind =
     macro_form behind >>= λ m. Some (Done (record t { macros = with_name named m.0 t.macros }) (line_feeds (before text m.1)) m.1)
 
--- a macro's block, where its parameters are replaced if it has them, and what stands behind the call
+-- a macro's block, if its parameters are replaced if it has them, and what follows the call
 abbrev pub called : Macro → List ℕ → Option (List ℕ × List ℕ)
 called m behind =
     elim m.parameters [
@@ -26,7 +26,7 @@ called m behind =
       | Some ps ↦ arguments behind >>= λ found. given (length found.0 == length ps) (replaced (standing_for ps found.0) 0 m.block, found.1)
     ]
 
--- a name that stands behind no `@`: a definition, a call, or itself
+-- a name that follows no `@`: a definition, a call, or itself
 abbrev pub named : Tables → List ℕ → List ℕ → Move
 named t text behind =
     elim (macro_word behind) [

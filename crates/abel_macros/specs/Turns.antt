@@ -18,20 +18,20 @@ nothing_defined = record { macros = λ w. None; values = λ w. None; radix = 10 
 abbrev pub start : List ℕ → Config
 start text = record { done = []; tables = nothing_defined; rewritings = 0; rest = text }
 
--- the most bytes that the text done and the rest may have together behind a rewriting
+-- the most bytes that the text done and the rest may have together after a rewriting
 abbrev pub limit : ℕ
 limit = 1048576
 
 abbrev pub most_rewritings : ℕ
 most_rewritings = 65536
 
--- a rewritten configuration, where it is no rewriting too many and not too long
+-- a rewritten configuration, if it is no rewriting too many and not too long
 abbrev pub within_limits : Bool → Bool → Config → Result Config Cause
 within_limits true long c = Err ExpansionLimit
 within_limits false true c = Err TooLong
 within_limits false false c = Ok c
 
--- a configuration behind a move
+-- a configuration after a move
 abbrev pub moved : Config → Move → Result Config Cause
 moved c (Done t w behind) = Ok (record { done = c.done ++ w; tables = t; rewritings = c.rewritings; rest = behind })
 moved c (Refused cause) = Err cause

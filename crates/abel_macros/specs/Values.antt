@@ -72,17 +72,17 @@ operator_of priority.Relation s = relation_of s
 operator_of priority.Sum s = sum_of s
 operator_of priority.Product s = product_of s
 
--- what may stand before an operand: `!`, `-` or a parenthesis
+-- what may precede an operand: `!`, `-` or a parenthesis
 abbrev pub prefix_of : List ℕ → Prefix
 prefix_of s = if bytes_eq s (codes "!") then prefix.Not else if bytes_eq s (codes "-") then prefix.Minus else if bytes_eq s (codes "(") then prefix.Open else prefix.Plain
 
 -- ---- the grammar
 
--- a value and what stands behind its expression
+-- a value and what follows its expression
 abbrev pub Read : Type 0
 Read = Option (ℕ × List ℕ)
 
--- items with operators of one priority between them, from the left: at most so many more, behind a value
+-- items with operators of one priority between them, from the left: at most so many more, after a value
 abbrev pub chain_on : Priority → (List ℕ → Read) → ℕ → ℕ → List ℕ → Read
 chain_on p item zero value text = Some (value, text)
 chain_on p item (suc more) value text =
@@ -94,8 +94,8 @@ chain_on p item (suc more) value text =
 abbrev pub chain : Priority → (List ℕ → Read) → List ℕ → Read
 chain p item text = item text >>= λ x. chain_on p item (length text) x.0 x.1
 
--- what operators of a priority stand between: relations between sums, these between products, and
--- these between operands
+-- what operators of a priority are between: relations between sums, these between products, and these
+-- between operands
 abbrev pub item : Priority → (List ℕ → Read) → List ℕ → Read
 item priority.Relation operand text = chain priority.Sum (chain priority.Product operand) text
 item priority.Sum operand text = chain priority.Product operand text
@@ -117,14 +117,14 @@ primary radix values text =
 abbrev pub closed : ℕ → List ℕ → Read
 closed value text = given (bytes_eq (sign (gap text)) (codes ")")) (value, behind_sign text)
 
--- what a prefix makes of what stands behind it, an operand or an expression
+-- what a prefix makes of what follows it, an operand or an expression
 abbrev pub behind_prefix : Prefix → (List ℕ → Read) → (List ℕ → Read) → List ℕ → Read
 behind_prefix prefix.Not operand plain text = operand text >>= λ x. Some (whole - 1 - x.0, x.1)
 behind_prefix prefix.Minus operand plain text = operand text >>= λ x. Some ((whole - x.0) % whole, x.1)
 behind_prefix prefix.Open operand plain text = level priority.Relation operand text >>= λ x. closed x.0 x.1
 behind_prefix prefix.Plain operand plain text = plain text
 
--- what stands behind a prefix; without one, behind blanks and comments
+-- what follows a prefix; without one, after blanks and comments
 abbrev pub past_prefix : Prefix → List ℕ → List ℕ
 past_prefix prefix.Not text = behind_sign text
 past_prefix prefix.Minus text = behind_sign text
@@ -145,7 +145,7 @@ operand zero radix values text = begun (prefix_of (sign (gap text))) None (prima
 operand (suc more) radix values text =
     begun (prefix_of (sign (gap text))) (Some (operand more radix values)) (primary radix values) (past_prefix (prefix_of (sign (gap text))) text)
 
--- what a prefix makes of what stands behind it, where so many may be nested in that
+-- what a prefix makes of what follows it, where so many may be nested in that
 abbrev pub prefixed : Prefix → ℕ → ℕ → (List ℕ → Option ℕ) → List ℕ → Read
 prefixed p more radix values text = behind_prefix p (operand more radix values) (primary radix values) text
 
@@ -153,7 +153,7 @@ prefixed p more radix values text = behind_prefix p (operand more radix values) 
 abbrev pub deepest : ℕ
 deepest = 64
 
--- the value of the expression at the front, and what stands behind it
+-- the value of the expression at the front, and what follows it
 abbrev pub expression : ℕ → (List ℕ → Option ℕ) → List ℕ → Read
 expression radix values text = level priority.Relation (operand deepest radix values) text
 

@@ -19,11 +19,11 @@ is_word w d = str_eq_ignore_ascii_case w d
 abbrev pub is_dont_care : List ℕ → Bool
 is_dont_care w = is_word (codes "@DCSET") w || is_word (codes "@ONSET") w
 
--- the directive of a word that takes nothing behind it, or is refused
+-- the directive of a word that takes nothing after it, or is refused
 unfoldable pub plain_directive : List ℕ → Directive
 plain_directive w = if is_dont_care w then directive.DontCare else if is_listed left_out w then directive.LeftOut else directive.Unknown
 
--- the directive of a word that repeats, tells or sets something, or of a further one
+-- the directive of a word that repeats, reports or sets something, or of a further one
 unfoldable pub further_directive : List ℕ → Directive
 further_directive w =
     if is_word (codes "@IRP") w then directive.Each
@@ -37,6 +37,6 @@ directive_of w =
     else if is_word (codes "@IF") w then directive.If
     else if is_word (codes "@IFDEF") w then directive.IfDefined else if is_word (codes "@IFNDEF") w then directive.IfUndefined else further_directive w
 
--- behind the word of a directive: `@` and letters, digits, `_` and `~`
+-- after the word of a directive: `@` and letters, digits, `_` and `~`
 abbrev pub behind_directive : List ℕ → List ℕ
 behind_directive text = drop (prefix_len is_name_later (rest_of text)) (rest_of text)

@@ -51,7 +51,7 @@ fn skip_argument(at: &mut Ahead) -> bool
     false
 }
 
-/// Passes an argument up to the comma or parenthesis that ends it, if there is one: at once where its end is known.
+/// Passes an argument up to the comma or parenthesis that ends it, if there is one: at once if its end is known.
 fn skip_to_end(at: &mut Ahead) -> bool
     ensures yes { result ≡ true → spec.argument_end 0 0 mode.Plain (ahead at.old) ≡ Some (ahead at.new) }
     ensures no { result ≡ false → spec.argument_end 0 0 mode.Plain (ahead at.old) ≡ None }
@@ -65,7 +65,7 @@ fn skip_to_end(at: &mut Ahead) -> bool
     true
 }
 
-/// Reads an argument, and stops at the comma or parenthesis behind it.
+/// Reads an argument, and stops at the comma or parenthesis after it.
 fn read_argument<'a>(
     alloc: Global,
     at: &mut Ahead<'_, 'a>,

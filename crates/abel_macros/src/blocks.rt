@@ -10,7 +10,7 @@ use crate::stretches::{STRETCH, skip_braced};
 use std::alloc::{AllocError, Global};
 use text_pieces::{Ahead, Mode, Piece};
 
-/// How many of a pair of brackets are open behind a byte.
+/// How many of a pair of brackets are open after a byte.
 fn nested(opening: u8, shutting: u8, inside: usize, byte: u8) -> usize
     requires { inside < 2 ^ 63 }
     ensures value { result ≡ spec.nested opening shutting inside byte }
@@ -25,7 +25,7 @@ fn nested(opening: u8, shutting: u8, inside: usize, byte: u8) -> usize
     }
 }
 
-/// The same where the byte stands in the plain text; else as many as before.
+/// The same if the byte is in the plain text; else as many as before.
 pub fn open_in(mode: Mode, opening: u8, shutting: u8, inside: usize, byte: u8) -> usize
     requires { inside < 2 ^ 63 }
     ensures value { result ≡ spec.open_in mode opening shutting inside byte }
@@ -74,7 +74,7 @@ fn skip_inside(at: &mut Ahead) -> bool
     false
 }
 
-/// Passes the text of a block up to the brace that closes it, if there is one: at once where its end is known.
+/// Passes the text of a block up to the brace that closes it, if there is one: at once if its end is known.
 fn skip_to_closing(at: &mut Ahead) -> bool
     ensures yes { result ≡ true → spec.closing 0 mode.Plain (ahead at.old) ≡ Some (ahead at.new) }
     ensures no { result ≡ false → spec.closing 0 mode.Plain (ahead at.old) ≡ None }
@@ -88,7 +88,7 @@ fn skip_to_closing(at: &mut Ahead) -> bool
     true
 }
 
-/// Reads a block's text behind its opening brace, and passes its closing brace.
+/// Reads a block's text after its opening brace, and passes its closing brace.
 #[tactic(auto, using(crate::proofs::Behind::part_fits))]
 fn read_inside<'a>(
     alloc: Global,

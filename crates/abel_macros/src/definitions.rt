@@ -1,4 +1,4 @@
-//! Definitions of macros ahead, behind their names.
+//! Definitions of macros ahead, after their names.
 
 ghost use Rattle.std.specs.Prelude.{◌≡◌, ◌≤◌, option_map, true, false, Some, None, IfOk, IfSome, IfNone};
 ghost use Rattle.abel_macros.specs.Prelude.{ahead};
@@ -78,7 +78,7 @@ fn read_heading(alloc: Global, at: &mut Ahead) -> Result<Option<Option<Vec<Vec<u
     }
 }
 
-/// Passes a semicolon that may stand behind blanks and comments, with these.
+/// Passes a semicolon that may follow blanks and comments, with these.
 fn skip_semicolon(at: &mut Ahead)
     ensures ahead { ahead at.new ≡ spec.optional_semicolon (ahead at.old) }
     ensures whole { at.new.whole ≡ at.old.whole }
@@ -92,7 +92,7 @@ fn skip_semicolon(at: &mut Ahead)
     }
 }
 
-/// Reads a macro's parameters and block behind the word MACRO.
+/// Reads a macro's parameters and block after the word MACRO.
 pub fn read_macro<'a>(
     alloc: Global,
     at: &mut Ahead<'_, 'a>,

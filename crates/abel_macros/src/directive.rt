@@ -66,7 +66,7 @@ fn is_dont_care(word: &[u8]) -> bool
     b"@DCSET".eq_ignore_ascii_case(word) || b"@ONSET".eq_ignore_ascii_case(word)
 }
 
-/// The directive of a word that takes nothing behind it, or is refused.
+/// The directive of a word that takes nothing after it, or is refused.
 #[tactic(auto, unfolding(crate::specs::Words::plain_directive))]
 fn plain_directive(word: &[u8]) -> Directive
     ensures { result ≡ spec.plain_directive word.now }
@@ -80,7 +80,7 @@ fn plain_directive(word: &[u8]) -> Directive
     }
 }
 
-/// The directive of a word that repeats, tells or sets something, or of a further one.
+/// The directive of a word that repeats, reports or sets something, or of a further one.
 #[tactic(auto, unfolding(crate::specs::Words::further_directive))]
 fn further_directive(word: &[u8]) -> Directive
     ensures { result ≡ spec.further_directive word.now }

@@ -1,4 +1,4 @@
-//! Comments and blanks ahead: each function passes what stands there.
+//! Comments and blanks ahead: each function passes what is there.
 
 ghost use Rattle.std.specs.Prelude.{◌≡◌, ℕ, ◌<◌, ◌≤◌, List, ◌∷◌, length, true, false, Some, None};
 ghost use Rattle.abel_macros.specs.Prelude.{ahead};
@@ -17,7 +17,7 @@ pub fn is_next(at: &Ahead, byte: u8) -> bool
     }
 }
 
-/// Whether the byte behind the next one is this one.
+/// Whether the byte after the next one is this one.
 fn is_second(at: &Ahead, byte: u8) -> bool
     ensures { result ≡ spec.starts_byte byte (spec.rest_of (ahead at.now)) }
 {
@@ -131,7 +131,7 @@ pub fn skip_gap(at: &mut Ahead)
     }
 }
 
-/// Passes blanks and comments, up to a place among them where so many bytes are left; tells whether it
+/// Passes blanks and comments, up to a place among them where so many bytes are left; says whether it
 /// stopped there.
 #[tactic(auto, using(crate::proofs::Gapped::plain_gap, crate::proofs::Gapped::ended_gap))]
 pub fn skip_gap_to(at: &mut Ahead, left: usize) -> bool

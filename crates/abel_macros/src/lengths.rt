@@ -44,7 +44,7 @@ fn alphanumeric_len(at: &Ahead) -> usize
     count
 }
 
-/// How long the name or keyword ahead is; 0 if there is none.
+/// How long the name or keyword ahead is; 0 if there isn't one.
 pub fn word_len(at: &Ahead) -> usize
     ensures value { result ≡ shaped_len word_head is_name_later (ahead at.now) }
     ensures within { result ≤ length (ahead at.now) }
@@ -57,7 +57,7 @@ pub fn word_len(at: &Ahead) -> usize
     }
 }
 
-/// How long the number in the radix in force is that is ahead; 0 if there is none.
+/// How long the number in the radix in force is that is ahead; 0 if there isn't one.
 fn digits_len(at: &Ahead) -> usize
     ensures value { result ≡ shaped_len number_head is_ascii_alphanumeric (ahead at.now) }
     ensures within { result ≤ length (ahead at.now) }
@@ -70,7 +70,7 @@ fn digits_len(at: &Ahead) -> usize
     }
 }
 
-/// How long the number with its radix is that is ahead; 0 if there is none.
+/// How long the number with its radix is that is ahead; 0 if there isn't one.
 fn marked_len(at: &Ahead) -> usize
     ensures value { result ≡ shaped_len marked_head is_ascii_alphanumeric (ahead at.now) }
     ensures within { result ≤ length (ahead at.now) }
@@ -93,7 +93,7 @@ fn marked_len(at: &Ahead) -> usize
     }
 }
 
-/// How long the number ahead is; 0 if there is none.
+/// How long the number ahead is; 0 if there isn't one.
 pub fn number_len(at: &Ahead) -> usize
     ensures value { result ≡ number_len (ahead at.now) }
     ensures within { result ≤ length (ahead at.now) }
@@ -101,7 +101,7 @@ pub fn number_len(at: &Ahead) -> usize
     larger(digits_len(at), marked_len(at))
 }
 
-/// How long the extension ahead is; 0 if there is none.
+/// How long the extension ahead is; 0 if there isn't one.
 pub fn extension_len(at: &Ahead) -> usize
     ensures value { result ≡ shaped_len extension_head is_name_later (ahead at.now) }
     ensures within { result ≤ length (ahead at.now) }

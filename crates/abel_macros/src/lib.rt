@@ -1,4 +1,4 @@
-//! Macros and directives: what stands at the front of a source, and what its expanded text is.
+//! Macros and directives: what is at the front of a source, and what its expanded text is.
 #![tactic(auto)]
 
 mod arguments;

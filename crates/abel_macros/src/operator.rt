@@ -33,7 +33,7 @@ pub enum Priority {
     Product,
 }
 
-/// What may stand before an operand.
+/// What may precede an operand.
 #[derive(Clone, Copy)]
 pub enum Prefix {
     Not,

@@ -1,4 +1,4 @@
-//! The forms of directives, behind their words.
+//! The forms of directives, after their words.
 
 ghost use Rattle.std.specs.Prelude.{◌≡◌, ◌<◌, ◌≤◌, ◌^◌, length, Some, None, IfOk, IfSome, IfNone};
 ghost use Rattle.abel_macros.specs.Prelude.{ahead, joined};
@@ -14,7 +14,7 @@ use crate::words::{read_name, skip_sign};
 use std::alloc::{AllocError, Global};
 use text_pieces::{Ahead, Piece};
 
-/// Reads an expression and the `;` behind it.
+/// Reads an expression and the `;` after it.
 pub fn read_terminated(
     alloc: Global,
     at: &mut Ahead,
@@ -71,7 +71,7 @@ pub fn read_const(
     }
 }
 
-/// Reads a number and a block, as behind `@IF` and `@REPEAT`.
+/// Reads a number and a block, as after `@IF` and `@REPEAT`.
 pub fn read_counted<'a>(
     alloc: Global,
     at: &mut Ahead<'_, 'a>,
@@ -91,7 +91,7 @@ pub fn read_counted<'a>(
     }
 }
 
-/// Reads a name and a block, as behind `@IFDEF` and `@IFNDEF`, and tells whether the name is defined.
+/// Reads a name and a block, as after `@IFDEF` and `@IFNDEF`, and says whether the name is defined.
 pub fn read_defined<'a>(
     alloc: Global,
     at: &mut Ahead<'_, 'a>,
@@ -131,7 +131,7 @@ fn read_arguments_and_block<'a>(
     }
 }
 
-/// What stands behind `@IRP`: a parameter, its arguments and a block.
+/// What follows `@IRP`: a parameter, its arguments and a block.
 #[derive(Drop)]
 pub struct Each<'a> {
     pub parameter: Vec<u8>,
@@ -139,7 +139,7 @@ pub struct Each<'a> {
     pub block: Vec<Piece<'a>>,
 }
 
-/// Reads a parameter, its arguments and a block, as behind `@IRP`.
+/// Reads a parameter, its arguments and a block, as after `@IRP`.
 pub fn read_each<'a>(alloc: Global, at: &mut Ahead<'_, 'a>) -> Result<Option<Each<'a>>, AllocError>
     ensures some { IfOk result (λ o. IfSome o (λ e. spec.each_form (ahead at.old) ≡ Some (spec.each_replaced e.parameter.items (texts e.arguments.items) (joined e.block.items), ahead at.new))) }
     ensures none { IfOk result (λ o. IfNone o (spec.each_form (ahead at.old) ≡ None)) }

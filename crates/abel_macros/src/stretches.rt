@@ -1,4 +1,4 @@
-//! Stretches of text, passed whole where no block and no argument ends in them, or a byte isn't there.
+//! Stretches of text, passed whole if no block and no argument ends in them, or a byte isn't there.
 
 ghost use Rattle.std.specs.Prelude.{◌≡◌, ℕ, ◌+◌, ◌-◌, ◌<◌, ◌≤◌, ◌^◌, ◌==◌, length, take, drop, true, IfSome};
 ghost use Rattle.abel_macros.specs.Prelude.{count_by, ahead};
@@ -10,7 +10,7 @@ use text_pieces::{Ahead, Mode};
 /// How many bytes are looked at together. A sum over so many fits a byte, which lets many be added at once.
 pub const STRETCH: usize = 128;
 
-/// How often a byte stands in a stretch.
+/// How often a byte is in a stretch.
 fn count(stretch: &[u8], byte: u8) -> usize
     requires { length stretch.now ≤ 128 }
     ensures value { result ≡ count_by (λ b. b == byte) stretch.now }
@@ -23,7 +23,7 @@ fn count(stretch: &[u8], byte: u8) -> usize
     count as usize
 }
 
-/// Whether none of three bytes stands in a stretch.
+/// Whether none of three bytes is in a stretch.
 fn has_none(stretch: &[u8], first: u8, second: u8, third: u8) -> bool
     requires { length stretch.now ≤ 128 }
     ensures first { result ≡ true → count_by (λ b. b == first) stretch.now ≡ 0 }
@@ -33,7 +33,7 @@ fn has_none(stretch: &[u8], first: u8, second: u8, third: u8) -> bool
     count(stretch, first) == 0 && count(stretch, second) == 0 && count(stretch, third) == 0
 }
 
-/// How many of a pair of brackets are open behind a stretch, if some stay open all through it.
+/// How many of a pair of brackets are open after a stretch, if some stay open all through it.
 fn open_behind(stretch: &[u8], opening: u8, shutting: u8, inside: usize) -> Option<usize>
     requires short { length stretch.now ≤ 128 }
     requires fits { inside < 2 ^ 63 }
@@ -48,7 +48,7 @@ fn open_behind(stretch: &[u8], opening: u8, shutting: u8, inside: usize) -> Opti
     Some(inside - shut + count(stretch, opening))
 }
 
-/// The stretch ahead, if it stands in one piece.
+/// The stretch ahead, if it is in one piece.
 #[tactic(auto, using(crate::proofs::Passed::front_begins))]
 fn stretch_ahead<'r>(at: &Ahead<'r, '_>) -> Option<&'r [u8]>
     ensures bytes { IfSome result (λ s. s.now ≡ take 128 (ahead at.now)) }
@@ -64,7 +64,7 @@ fn stretch_ahead<'r>(at: &Ahead<'r, '_>) -> Option<&'r [u8]>
 }
 
 /// Passes stretches of plain text in which no string and no comment begins and no block ends; so many
-/// braces are open before them, and the answer behind them.
+/// braces are open before them, and the answer after them.
 #[tactic(auto, using(crate::proofs::Passed::block_goes_on))]
 pub fn skip_braced(at: &mut Ahead, mode: Mode, inside: usize) -> usize
     requires { inside + length (ahead at.old) < 2 ^ 63 }
@@ -90,8 +90,8 @@ pub fn skip_braced(at: &mut Ahead, mode: Mode, inside: usize) -> usize
     open
 }
 
-/// Passes stretches of plain text in which no string begins, no argument ends and no bracket stands; so
-/// many parentheses are open before them, and the answer behind them.
+/// Passes stretches of plain text in which no string begins, no argument ends and no bracket is; so many
+/// parentheses are open before them, and the answer after them.
 #[tactic(auto, using(crate::proofs::Passed::argument_goes_on))]
 pub fn skip_enclosed(at: &mut Ahead, mode: Mode, parens: usize, brackets: usize) -> usize
     requires { parens + length (ahead at.old) < 2 ^ 63 }
@@ -118,7 +118,7 @@ pub fn skip_enclosed(at: &mut Ahead, mode: Mode, parens: usize, brackets: usize)
     open
 }
 
-/// Passes stretches in which a byte doesn't stand; how many bytes these are.
+/// Passes stretches in which a byte isn't; how many bytes these are.
 #[tactic(auto, using(crate::proofs::Passed::none_more))]
 pub fn skip_without(at: &mut Ahead, byte: u8) -> usize
     ensures none { count_by (λ b. b == byte) (take result (ahead at.old)) ≡ 0 }

@@ -15,7 +15,7 @@ use std::alloc::{AllocError, Global};
 use std::marker::Model;
 use text_pieces::Piece;
 
-/// A macro: its parameters, none where it is called without parentheses, and its block in pieces.
+/// A macro: its parameters, none if it is called without parentheses, and its block in pieces.
 #[derive(Drop)]
 pub struct Macro<'a> {
     parameters: Option<Vec<Vec<u8>>>,
@@ -167,7 +167,7 @@ impl<'a> Tables<'a> {
         Ok(Some(whole(alloc, pieces)?))
     }
 
-    /// A macro with its block in one piece, if there is room to keep that: then it is quick to find where a block within it
+    /// A macro with its block in one piece, if there is room to keep that: then it is quick to find if a block within it
     /// ends, however often the macro is called.
     fn settled(&mut self, alloc: Global, entry: Macro<'a>) -> Result<Macro<'a>, AllocError>
         ensures entry { IfOk result (λ m. m ≡ entry.entry) }

@@ -1,4 +1,4 @@
-//! What stands behind `@EXPR` and `@RADIX`.
+//! What follows `@EXPR` and `@RADIX`.
 
 ghost use Rattle.std.specs.Prelude.{◌≡◌, ◌≤◌, ◌++◌, Some, None, IfOk, IfSome, IfNone};
 ghost use Rattle.abel_macros.specs.Prelude.{ahead, joined, known_radix};
@@ -15,7 +15,7 @@ use abel_lexer::{is_radix, number_value};
 use std::alloc::{AllocError, Global};
 use text_pieces::{Ahead, Piece};
 
-/// Reads a block that may stand there.
+/// Reads a block that may be there.
 fn read_optional_block<'a>(
     alloc: Global,
     at: &mut Ahead<'_, 'a>,
@@ -34,7 +34,7 @@ fn read_optional_block<'a>(
     }
 }
 
-/// Reads a block that may stand there and a value, as behind `@EXPR`.
+/// Reads a block that may be there and a value, as after `@EXPR`.
 pub fn read_expression<'a>(
     alloc: Global,
     at: &mut Ahead<'_, 'a>,

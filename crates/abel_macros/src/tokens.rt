@@ -41,7 +41,7 @@ pub fn string_len(at: &Ahead) -> usize
     if count > 0 { count } else { at.left() }
 }
 
-/// How long the letter between dots is that is ahead; 0 if there is none.
+/// How long the letter between dots is that is ahead; 0 if there isn't one.
 fn letter_special_at(at: &Ahead) -> usize
     ensures value { result ≡ shaped_len letter_special no_byte (ahead at.now) }
     ensures within { result ≤ length (ahead at.now) }
@@ -83,7 +83,7 @@ fn voltage_special_at(at: &Ahead) -> usize
     voltage_special_len(&[first, second, third, fourth, fifth])
 }
 
-/// How long the special ahead is; 0 if there is none.
+/// How long the special ahead is; 0 if there isn't one.
 fn special_len(at: &Ahead) -> usize
     ensures value { result ≡ special_len (ahead at.now) }
     ensures within { result ≤ length (ahead at.now) }
@@ -91,7 +91,7 @@ fn special_len(at: &Ahead) -> usize
     larger(letter_special_at(at), voltage_special_at(at))
 }
 
-/// How long the sign ahead is; 0 if there is none.
+/// How long the sign ahead is; 0 if there isn't one.
 pub fn sign_at(at: &Ahead) -> usize
     ensures value { result ≡ listed_len signs (ahead at.now) }
     ensures within { result ≤ length (ahead at.now) }

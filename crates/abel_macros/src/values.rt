@@ -40,7 +40,7 @@ fn sign_ahead(alloc: Global, at: &Ahead) -> Result<Vec<u8>, AllocError>
     read_sign(alloc, &mut look)
 }
 
-/// Reads what stands before an operand; a sign that is none of the three stays ahead.
+/// Reads what precedes an operand; a sign that isn't one of the three stays ahead.
 #[tactic(auto, using(crate::proofs::Operands::sign_taken))]
 fn read_prefix(alloc: Global, at: &mut Ahead) -> Result<Prefix, AllocError>
     ensures prefix { IfOk result (λ p. p ≡ spec.prefix_of (gaps.sign (gaps.gap (ahead at.old)))) }
@@ -61,7 +61,7 @@ fn read_prefix(alloc: Global, at: &mut Ahead) -> Result<Prefix, AllocError>
     }
 }
 
-/// An operand: a primary, or an operand behind `!` or `-`, or an expression in parentheses; so many of
+/// An operand: a primary, or an operand after `!` or `-`, or an expression in parentheses; so many of
 /// the three may be nested.
 #[cycle(expression)]
 fn read_operand(
@@ -88,7 +88,7 @@ fn read_operand(
     }
 }
 
-/// What stands behind a prefix of an operand, and what the prefix makes of it.
+/// What follows a prefix of an operand, and what the prefix makes of it.
 #[cycle(expression)]
 fn read_prefixed(
     alloc: Global,
@@ -119,7 +119,7 @@ fn read_prefixed(
     }
 }
 
-/// A value, if a closing parenthesis stands behind its expression.
+/// A value, if a closing parenthesis follows its expression.
 fn closed(alloc: Global, at: &mut Ahead, value: u32) -> Result<Option<u32>, AllocError>
     ensures some { IfOk result (λ o. IfSome o (λ v. spec.closed value (ahead at.old) ≡ Some (v, ahead at.new))) }
     ensures none { IfOk result (λ o. IfNone o (spec.closed value (ahead at.old) ≡ None)) }
@@ -133,7 +133,7 @@ fn closed(alloc: Global, at: &mut Ahead, value: u32) -> Result<Option<u32>, Allo
     }
 }
 
-/// What operators of a priority stand between.
+/// What operators of a priority are between.
 #[cycle(expression)]
 fn read_item(
     alloc: Global,

@@ -13,7 +13,7 @@ use Rattle.abel_meaning.proofs.RelationWords.{relation_value_of}
 abbrev pub at_number : Value → ℕ → Value
 at_number c n = record c { number = n }
 
--- a value at a point is the constant one but for its number, which the bits have
+-- a value at a point is the constant one except for its number, which the bits have
 pub record Agrees (c v : Value) (bs : List Bool) : Type 0 where
   pub same : v ≡ at_number c v.number
   pub has : HasBits c.shape c.number v.number bs
@@ -83,7 +83,7 @@ computes_small binary.Xor w x y = position_small differ w x y
 computes_small binary.Xnor w x y = position_small same_level w x y
 computes_small _ w x y = pow_pos w
 
--- an operator of the shape s; where it is a number, so were both operands
+-- an operator of the shape s; if it is a number, so were both operands
 operator_has : (at : Levels) (sign : Binary) (s : Shape) (k1 k2 x y : ℕ) (xs ys : Word) → (s ≡ Number → (x ≡ k1) × (y ≡ k2)) → y < 2 ^ width_of s → AreWords at (width_of s) x y xs ys → HasBits s (operator_number sign s k1 k2) (operator_number sign s x y) (map (formula_value at) (operator_word sign s xs ys).what)
 operator_has at sign Number k1 k2 x y xs ys same small are =
     ap₂ (λ a b. computes_numbers sign a b) (same refl).0 (same refl).1

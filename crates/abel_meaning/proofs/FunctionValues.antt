@@ -1,4 +1,4 @@
--- Where one way to read terms follows another, the functions and controls of signals do.
+-- If one way to read terms follows another, the functions and controls of signals do.
 use Rattle.std.proofs.Common.{◌≡◌, ℕ, Bool, true, false, not, ◌&&◌, ◌||◌, cond, List, [], ◌∷◌, map, Some, refl, sym, ap, ap₂, ◌∙◌, inl, inr, filter, fold, option_map, if◌then◌else◌, is_some}
 use Rattle.abel_meaning.proofs.Common.{cases_Bool, list_any, list_all, Levels, Extension, Design, Evaluator, Gives, One, Any, Match, Contribution, is_data_to, same_gives, some_holds, gives_some, is_free_elsewhere, any_of, is_complement, single_function, is_data_in, is_both, gives_in, both_function, function_of, Function, function_seen, formula_value, formulas, truth_at, given_at, given_formulas, Follows, seen}
 use Rattle.abel_meaning.specs.Controls.{is_control, control_by, control_of}
@@ -62,7 +62,7 @@ module _ {V W : Type 0} (h : V → W) (ev : Evaluator V) (fv : Evaluator W) (l :
   chosen true v w x y p q = p
   chosen false v w x y p q = q
 
-  -- what may be anything, also where no don't-care block matches
+  -- what may be anything, also if no don't-care block matches
   or_no_match_seen : (cs : List (Contribution V)) (s : ℕ) (v : V) (w : W) → h v ≡ w
       → h (if is_free_elsewhere cs s then ev.either v (ev.not (gives_some ev cs Match s)) else v) ≡ if is_free_elsewhere (map (seen h) cs) s then fv.either w (fv.not (gives_some fv (map (seen h) cs) Match s)) else w
   or_no_match_seen cs s v w p =

@@ -1,4 +1,4 @@
--- What a function allows are the values of its signal, also where these are all `p or not n` of two sets.
+-- What a function allows are the values of its signal, also if these are all `p or not n` of two sets.
 use Rattle.std.proofs.Common.{◌≡◌, Bool, true, false, not, ◌||◌, inl, inr, refl}
 use Rattle.abel_meaning.proofs.Common.{cases_Bool, truth_at, given_at, One, Any, allows_plain, any_against, gives_in, is_both}
 use Rattle.abel_meaning.specs.AgreeLaws.{ValuesAgree}

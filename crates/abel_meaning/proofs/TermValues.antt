@@ -1,4 +1,4 @@
--- The bit formulas of a term have the value of its arithmetic, also where the term is refused.
+-- The bit formulas of a term have the value of its arithmetic, also if the term is refused.
 use Rattle.std.proofs.Common.{◌≡◌, ℕ, zero, suc, ◌+◌, ◌-◌, ◌*◌, ◌%◌, ◌^◌, ◌<◌, Bool, true, false, not, List, [], ◌∷◌, map, length, replicate, get_or, refl, sym, ap, ap₂, ◌∙◌, arith, ◌==◌}
 use Rattle.abel_meaning.proofs.Common.{Levels, Source, Zero, LeafRead, source_value, Shape, Number, Single, Set, met_number, digits_low_first, one_bit, number_with, Formula, Const, Read, formula_value, make_source, met_by, resized, Word, each_not, difference_bits, not_value}
 use Rattle.abel_meaning.proofs.WordValues.{added, added_value, digits_of_sum, lowest_bit}

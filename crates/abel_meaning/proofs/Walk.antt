@@ -1,4 +1,4 @@
--- Where one way to read terms follows another, all contributions do.
+-- If one way to read terms follows another, all contributions do.
 use Rattle.std.proofs.Common.{◌≡◌, ℕ, Bool, true, false, cond, List, [], ◌∷◌, ◌++◌, map, reverse, get_or, Option, None, Some, length, refl, sym, ap, ap₂, ◌∙◌, filter, ◌==◌, if◌then◌else◌}
 use Rattle.abel_meaning.proofs.Common.{list_any, map-append, Extension, Term, term_of, Context, Design, width_of, digits, constant_of, Evaluator, condition, Gives, One, Contribution, Guard, guarded, contribution, Follows, seen, seen_guard}
 use Rattle.std.proofs.Math.ListN.{get_or-map}

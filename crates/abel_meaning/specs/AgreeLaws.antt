@@ -18,7 +18,7 @@ ExpressionsAgree =
     (d : Context) (at : Levels) (width : ℕ) (t : Term)
     → map (formula_value at) ((formulas d).word width t) ≡ (truth_at d at).word width t
 
--- the contributions by formulas hold where the contributions hold
+-- the contributions by formulas hold if the contributions hold
 abbrev pub ContributionsAgree : Type 0
 ContributionsAgree =
     (d : Design) (at : Levels) → map (seen (formula_value at)) (given_formulas d) ≡ given_at d at

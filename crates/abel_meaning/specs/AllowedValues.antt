@@ -19,15 +19,15 @@ is_either_or_not ps ns v = list_any (λ p. ps p && list_any (λ n. ns n && same_
 abbrev pub name_values : Evaluator Bool → List (Contribution Bool) → ℕ → Bool → Bool
 name_values ev cs s = allows_plain (gives_in ev cs false One s) (gives_in ev cs false Any s)
 
--- the values of the complement by the contributions to it, which may be anything where no don't-care block matches
+-- the values of the complement by the contributions to it, which may be anything if no don't-care block matches
 abbrev pub complement_values : Evaluator Bool → List (Contribution Bool) → ℕ → Bool → Bool
 complement_values ev cs s = allows_plain (gives_in ev cs true One s) (any_against ev cs s)
 
--- the values of a signal whose contributions are of one polarity: of the name, or of the complement where they are to it
+-- the values of a signal whose contributions are of one polarity: of the name, or of the complement if they are to it
 abbrev pub single_values : Evaluator Bool → List (Contribution Bool) → ℕ → Bool → Bool
 single_values ev cs s v = allows_plain (gives_some ev cs One s) (any_of ev cs s) (complement_if (is_complement cs s) v)
 
--- the values of a signal: where it is assigned in both polarities, each `p or not n` with p of the name and n of the
+-- the values of a signal: if it is assigned in both polarities, each `p or not n` with p of the name and n of the
 -- complement
 abbrev pub values_by : Evaluator Bool → List (Contribution Bool) → ℕ → Bool → Bool
 values_by ev cs s v =

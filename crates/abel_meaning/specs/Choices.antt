@@ -20,10 +20,10 @@ abbrev pub inverting : (inverts : ℕ → Bool) → Context → ℕ → Bool
 inverting inverts d c = is_free_signal d (signal_on d c) && inverts c
 
 -- the logic of a module under a choice: what an equation means of a name it means under each choice; a free register that
--- inverts stores the complement of what it stores where its pin follows Q, so its pin is the complement of its Q
+-- inverts stores the complement of what it stores if its pin follows Q, so its pin is the complement of its Q
 abbrev pub source_logic_under : Table → ModuleTree → (inverts : ℕ → Bool) → Logic
 source_logic_under t m inverts = exchanged (inverting inverts (design_of t m).context) (source_logic t m)
 
--- the values that stand for its nodes
+-- the values that represent its nodes
 abbrev pub source_values_under : Table → ModuleTree → (inverts : ℕ → Bool) → NodeValues
 source_values_under t m inverts = exchanged_values (inverting inverts (design_of t m).context) (source_values t m)

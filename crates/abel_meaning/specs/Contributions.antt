@@ -32,7 +32,7 @@ pub record Contribution (W : Type 0) : Type 0 where
   pub gives : Gives
   pub holds : W
 
--- what stands round a statement: the conditions, whether @DCSET is in force for the block, and the block
+-- what surrounds a statement: the conditions, whether @DCSET is in force for the block, and the block
 pub record Guard (W : Type 0) : Type 0 where
   pub holds : W
   pub dontcare : Bool

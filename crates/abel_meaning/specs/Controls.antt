@@ -25,7 +25,7 @@ control_by ev [] = None
 control_by ev (c ∷ cs) =
     Some (if c.complement then ev.not (some_holds ev (c ∷ cs)) else some_holds ev (c ∷ cs))
 
--- a control of a signal, none where it has no equation
+-- a control of a signal, none if it has no equation
 abbrev pub control_of : {W : Type 0} → Evaluator W → List (Contribution W) → ℕ → Extension → Option W
 control_of ev cs s e = control_by ev (filter (is_control s e) cs)
 
@@ -34,12 +34,12 @@ abbrev pub is_on_pin : (pin : ℕ) → Kind → Bool
 is_on_pin pin (APin other negated) = other == pin
 is_on_pin pin _ = false
 
--- the signal that is assigned on a cell, none where nothing is
+-- the signal that is assigned on a cell, none if nothing is
 abbrev pub signal_on : Context → (cell : ℕ) → Option ℕ
 signal_on d c =
     position (λ (x : Entry). x.assigned && is_on_pin (cell_at d.device c).pin x.kind) d.names
 
--- a cell that nothing assigns stores where it can't be combinational
+-- a cell that nothing assigns stores if it can't be combinational
 abbrev pub must_register : Kinds → Bool
 must_register Combinational = false
 must_register Registered = true
@@ -54,7 +54,7 @@ cell_stores_for d c (Some s) = is_stored (name_at d s)
 abbrev pub cell_stores : Context → (cell : ℕ) → Bool
 cell_stores d c = cell_stores_for d c (signal_on d c)
 
--- the enable of a cell whose enable is a row: its equation, always without one, never where nothing is assigned
+-- the enable of a cell whose enable is a row: its equation, always without one, never if nothing is assigned
 abbrev pub enable_equation : {W : Type 0} → Evaluator W → List (Contribution W) → Option ℕ → W
 enable_equation ev cs None = ev.constant false
 enable_equation ev cs (Some s) = unwrap_or (control_of ev cs s extension.Oe) (ev.constant true)

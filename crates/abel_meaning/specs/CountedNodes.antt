@@ -24,11 +24,11 @@ value_nodes d g n e = term_nodes d e + guard_nodes g ((formulas d).word n (term_
 abbrev pub condition_of : Context → Tree → Formula
 condition_of d c = condition (formulas d) (term_of d.known c)
 
--- the guard of what counts where the condition holds
+-- the guard of what counts if the condition holds
 abbrev pub guard_then : (guard condition : Formula) → Made Formula
 guard_then g c = make_and g c
 
--- the guard of what counts where it doesn't
+-- the guard of what counts if it doesn't
 abbrev pub guard_else : (guard condition : Formula) → Made Formula
 guard_else g c = make_not c >>= λ f. make_and g f
 

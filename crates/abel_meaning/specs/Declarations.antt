@@ -58,7 +58,7 @@ all_said texts = fold (λ (said : Words) (w : Word). said_by_either said (said_w
 
 -- ---- names
 
--- a name of a declaration, with whether `!` stands before it
+-- a name of a declaration, with whether `!` precedes it
 pub record GivenName : Type 0 where
   pub name : List ℕ
   pub place : Place

@@ -5,7 +5,7 @@ use Rattle.abel_meaning.specs.Declarations.{no_words}
 use Rattle.abel_meaning.specs.Kinds.{names_of}
 use Rattle.abel_meaning.specs.Terms.{Known, known_of}
 
--- what the expressions of a source are over: a device, the names that are declared, and what these stand for
+-- what the expressions of a source are over: a device, the names that are declared, and what these represent
 pub record Context : Type 0 where
   pub device : Table
   pub names : List Entry
@@ -40,7 +40,7 @@ design_for t names m =
 abbrev pub design_of : Table → ModuleTree → Design
 design_of t m = design_for t (names_of t m) m
 
--- what stands for a name past the last one
+-- what represents a name past the last one
 abbrev pub no_name : Entry
 no_name = record { name = []; place = record { line = 0; column = 0 }; kind = ADeviceName; words = no_words; assigned = false }
 

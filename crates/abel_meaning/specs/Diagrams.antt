@@ -24,7 +24,7 @@ registers_equal ev found (s ∷ ss) (b ∷ bs) =
 abbrev pub is_state : {W : Type 0} → Evaluator W → Context → (registers : List ℕ) → (value : Term) → W
 is_state ev d ss v = registers_equal ev (ev.constant true) ss (digits (length ss) (constant_of d v).number)
 
--- a goal: one where the register's bit of the value is 1, and a match
+-- a goal: one if the register's bit of the value is 1, and a match
 abbrev pub goal_gives : {W : Type 0} → Evaluator W → Context → Guard W → List ℕ → List W
     → List (Contribution W)
 goal_gives ev d g [] ws = []
@@ -34,12 +34,12 @@ goal_gives ev d g (s ∷ ss) (w ∷ ws) =
     ∷ match_of d g false true s
     ∷ goal_gives ev d g ss ws
 
--- the statements of a WITH, none where there is none
+-- the statements of a WITH, none if there isn't one
 abbrev pub with_statements : Option (List Statement) → Statements
 with_statements None = NoStatement
 with_statements (Some ss) = statements_of ss
 
--- a transition; the statements of WITH count where it is taken
+-- a transition; the statements of WITH count if it is taken
 abbrev mutual
   pub branch_gives : {W : Type 0} → Evaluator W → Context → Guard W → List ℕ → Branch → List (Contribution W)
   branch_gives ev d g ss (AGoal place value statements) =
@@ -85,7 +85,7 @@ states_give ev d g ss (s ∷ states) = state_gives ev d ss s (in_state ev d g ss
 abbrev pub is_other : {W : Type 0} → List ℕ → Contribution W → Bool
 is_other ss c = is_data c.extension && not (list_any (λ s. c.signal == s) ss)
 
--- one, where its signal is none of those before
+-- one, if its signal isn't one of those before
 abbrev pub once : {W : Type 0} → (before : List ℕ) → Contribution W → List (Contribution W)
 once before c = if list_any (λ s. c.signal == s) before then [] else c ∷ []
 
@@ -94,7 +94,7 @@ abbrev pub first_of_each : {W : Type 0} → (before : List ℕ) → List (Contri
 first_of_each before [] = []
 first_of_each before (c ∷ cs) = once before c ++ first_of_each (c.signal ∷ before) cs
 
--- for a signal that is no register, the diagram matches where the present state is listed
+-- for a signal that is no register, the diagram matches if the present state is listed
 abbrev pub state_matches : {W : Type 0} → Evaluator W → Context → Guard W → List ℕ → List StateTree
     → Contribution W → List (Contribution W)
 state_matches ev d g ss states c = map (λ s. match_of d (in_state ev d g ss s) c.complement c.clocked c.signal) states

@@ -10,7 +10,7 @@ use Rattle.abel_meaning.specs.Values.{is_relation, constant_of}
 use Rattle.abel_meaning.specs.Contributions.{Evaluator}
 use Rattle.abel_meaning.specs.BitWords.{Word, unary_word, relation_bit, operator_bits}
 
--- a read makes a leaf, and a Not where it reads the complement
+-- a read makes a leaf, and a Not if it reads the complement
 abbrev pub make_held : (complement : Bool) → Leaf → Made Formula
 make_held false leaf = fresh (Read leaf)
 make_held true leaf = fresh (Read leaf) >>= make_not

@@ -4,7 +4,7 @@ use Rattle.std.specs.Prelude.{ℕ, ◌==◌, Bool, true, false, not, ◌&&◌, �
 use Rattle.abel_meaning.specs.Prelude.{list_any, list_all, same_level, complement_if, is_data, is_raw}
 use Rattle.abel_meaning.specs.Contributions.{Evaluator, Gives, One, Any, Match, Contribution}
 
--- where a signal is one, and where it may be anything; said of its complement where `complement` is true
+-- if a signal is one, and if it may be anything; said of its complement where `complement` is true
 pub record Function (W : Type 0) : Type 0 where
   pub one : W
   pub any : W
@@ -36,13 +36,13 @@ is_free_elsewhere {W} cs s =
     list_any (is_data_to s) cs
     && list_all (λ (c : Contribution W). not (is_data_to s c) || (is_some c.block && c.dontcare)) cs
 
--- anything, also where none of those tables and diagrams matches
+-- anything, also if none of those tables and diagrams matches
 abbrev pub any_of : {W : Type 0} → Evaluator W → List (Contribution W) → ℕ → W
 any_of ev cs s =
     if is_free_elsewhere cs s then ev.either (gives_some ev cs Any s) (ev.not (gives_some ev cs Match s))
     else gives_some ev cs Any s
 
--- data are to the complement; all are, where the signal is assigned in one polarity
+-- data are to the complement; all are, if the signal is assigned in one polarity
 abbrev pub is_complement : {W : Type 0} → List (Contribution W) → ℕ → Bool
 is_complement {W} cs s = list_any (λ (c : Contribution W). is_data_to s c && c.complement) cs
 
@@ -50,7 +50,7 @@ is_complement {W} cs s = list_any (λ (c : Contribution W). is_data_to s c && c.
 abbrev pub is_raw_signal : {W : Type 0} → List (Contribution W) → ℕ → Bool
 is_raw_signal {W} cs s = list_any (λ (c : Contribution W). is_data_to s c && is_raw c.extension) cs
 
--- what they amount to where all data are of one polarity, or there are none
+-- what they amount to if all data are of one polarity, or there aren't any
 abbrev pub single_function : {W : Type 0} → Evaluator W → List (Contribution W) → ℕ → Function W
 single_function ev cs s =
     record { one = gives_some ev cs One s; any = any_of ev cs s; complement = is_complement cs s }
@@ -70,14 +70,14 @@ abbrev pub gives_in : {W : Type 0} → Evaluator W → List (Contribution W) →
 gives_in {W} ev cs complement gives s =
     some_holds ev (filter (λ (c : Contribution W). is_data_in complement s c && same_gives gives c.gives) cs)
 
--- the complement may be anything, also where none of the tables and diagrams matches that are don't-care for the signal
+-- the complement may be anything, also if none of the tables and diagrams matches that are don't-care for the signal
 abbrev pub any_against : {W : Type 0} → Evaluator W → List (Contribution W) → ℕ → W
 any_against ev cs s =
     if is_free_elsewhere cs s then ev.either (gives_in ev cs true Any s) (ev.not (gives_some ev cs Match s))
     else gives_in ev cs true Any s
 
--- what they amount to, said of the name: it is 1 where a contribution to it is, and where the complement is 0; it may be
--- anything where a contribution to it may, and where the complement isn't 1
+-- what they amount to, said of the name: it is 1 if a contribution to it is, and if the complement is 0; it may be
+-- anything if a contribution to it may, and if the complement isn't 1
 abbrev pub both_function : {W : Type 0} → Evaluator W → List (Contribution W) → ℕ → Function W
 both_function ev cs s =
     record {

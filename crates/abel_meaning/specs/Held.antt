@@ -73,7 +73,7 @@ sections_parts (x ∷ xs) = section_parts x ++ sections_parts xs
 
 -- ---- what an expression names
 
--- what is read has `.Q` behind it: its own, or else that of the set, the constant or the whole expression around it
+-- what is read has `.Q` after it: its own, or else that of the set, the constant or the whole expression around it
 abbrev pub asks_q : (as_q : Bool) → Option Extension → Bool
 asks_q as_q None = as_q
 asks_q as_q (Some extension.Q) = true
@@ -84,7 +84,7 @@ abbrev pub read_names : {A : Type 0} → (List ℕ → Bool → List A) → (as_
 read_names of as_q [] = []
 read_names of as_q (name ∷ names) = of name as_q ++ read_names of as_q names
 
--- what each name of an expression gives, read with `.Q` behind it or without
+-- what each name of an expression gives, read with `.Q` after it or without
 abbrev mutual
   pub read_in : {A : Type 0} → (List ℕ → Bool → List A) → (as_q : Bool) → Tree → List A
   read_in of as_q (ANumber n) = []
@@ -114,7 +114,7 @@ parts_read of (p ∷ ps) = part_reads of p ++ parts_read of ps
 
 -- ---- the names
 
--- a name with the signals whose Q is read where it stands, with `.Q` behind it or without
+-- a name with the signals whose Q is read its place, with `.Q` after it or without
 pub record Held : Type 0 where
   pub name : List ℕ
   pub signals : (as_q : Bool) → List ℕ
@@ -123,7 +123,7 @@ abbrev pub held_by : List Held → List ℕ → (as_q : Bool) → List ℕ
 held_by [] name as_q = []
 held_by (k ∷ ks) name as_q = if bytes_eq name k.name then k.signals as_q else held_by ks name as_q
 
--- a signal's Q is read where `.Q` stands behind it; a constant stands for its expression over the names before it
+-- a signal's Q is read where `.Q` follows it; a constant represents its expression over the names before it
 abbrev pub held_meant : List Held → ℕ → Kind → (as_q : Bool) → List ℕ
 held_meant ks s (APin pin negated) as_q = if as_q then s ∷ [] else []
 held_meant ks s (ANode number) as_q = if as_q then s ∷ [] else []

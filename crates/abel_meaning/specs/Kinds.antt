@@ -6,7 +6,7 @@ use Rattle.pld_device.specs.declared.flip.Flip.{Flip}
 use Rattle.abel_meaning.specs.Declarations.{declared_names}
 use Rattle.abel_meaning.specs.Held.{Holds, holds_of, is_held}
 
--- a register's pin equals Q where neither word is said
+-- a register's pin equals Q if neither word is said
 abbrev pub is_buffer_by_default : Flip → Bool
 is_buffer_by_default Always = false
 is_buffer_by_default AfterRegister = true
@@ -16,7 +16,7 @@ is_buffer_by_default BeforeRegister = false
 abbrev pub is_registered : Words → (clocked : Bool) → Bool
 is_registered words clocked = words.registered || (not words.combinational && clocked)
 
--- its pin equals Q where it is a register, or may be chosen to
+-- its pin equals Q if it is a register, or may be chosen to
 abbrev pub is_buffer : Flip → Words → Bool
 is_buffer flip words = words.buffer || (not words.invert && is_buffer_by_default flip)
 
@@ -24,7 +24,7 @@ is_buffer flip words = words.buffer || (not words.invert && is_buffer_by_default
 abbrev pub is_open : Flip → Words → Bool
 is_open flip words = not words.buffer && (not words.invert && is_buffer_by_default flip)
 
--- a register is free where neither word is said and nothing holds it
+-- a register is free if neither word is said and nothing holds it
 abbrev pub stays_free : Flip → Holds → ℕ → Words → (registered : Bool) → Bool
 stays_free flip held s words registered = registered && (is_open flip words && not (is_held held s))
 
@@ -54,7 +54,7 @@ with_kind flip held found s e =
       assigned = is_assigned found s;
     }
 
--- all names with their kinds, of which the first has this place
+-- all names with their kinds, the first of which has this place
 abbrev pub with_kinds : Flip → Holds → List Assigned → ℕ → List Entry → List Entry
 with_kinds flip held found s [] = []
 with_kinds flip held found s (e ∷ es) = with_kind flip held found s e ∷ with_kinds flip held found (suc s) es

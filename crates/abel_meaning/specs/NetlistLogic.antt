@@ -5,7 +5,7 @@ use Rattle.pld_device.specs.Registers.{stores_by}
 use Rattle.abel_meaning.specs.Functions.{allows, value_with_any_0}
 use Rattle.abel_meaning.specs.Netlists.{Wanted, PlainNetlist, node_at, wanted_at, function_at, as_named, own_or_shared}
 
--- a cell is a register where it is asked to be; one that is assigned nothing, where it can't be anything else
+-- a cell is a register if it is asked to be; one that is assigned nothing, if it can't be anything else
 abbrev pub registers_as : Kinds → Option Wanted → Bool
 registers_as kinds None = stores_by kinds false
 registers_as kinds (Some w) = w.registered
@@ -33,7 +33,7 @@ may_drive at c (Some w) level =
     then same_level level (complement_if (not w.buffer) (is_on at.q c))
     else allows (function_at at w.function) (as_named w level)
 
--- a next Q that a register may have; 0 where it is assigned nothing
+-- a next Q that a register may have; 0 if it is assigned nothing
 abbrev pub may_store : Levels → Option Wanted → Bool → Bool
 may_store at None q = not q
 may_store at (Some w) q = allows (function_at at w.function) (as_named w q)
@@ -55,6 +55,6 @@ netlist_logic t net =
       allows_next = λ at c q. may_store at (wanted_at net c) q;
     }
 
--- the value that stands for each node: that of its function with any as 0
+-- the value that represents each node: that of its function with any as 0
 abbrev pub netlist_values : PlainNetlist → NodeValues
 netlist_values net at n = value_with_any_0 (function_at at (node_at net n))

@@ -1,4 +1,4 @@
--- What the signals of a netlist read while it comes to rest, and what its resets read (this project's rule).
+-- What the signals of a netlist read while it settles, and what its resets read (this project's rule).
 use Rattle.std.specs.Prelude.{ℕ, ◌+◌, ◌-◌, Bool, false, not, ◌&&◌, ◌||◌, nat_lt, if◌then◌else◌, Option, None, Some, length}
 use Rattle.abel_meaning.specs.Prelude.{list_any, Table, cell_at, HasNoLoop, HasNoPath, Leaf}
 use Rattle.bit_expr.specs.declared.node.Leaf.TheVariants as leaf
@@ -6,12 +6,12 @@ use Rattle.abel_meaning.specs.Netlists.{Wanted, PlainNetlist, node_at, wanted_at
 use Rattle.abel_meaning.specs.NetlistLogic.{netlist_stores}
 use Rattle.abel_meaning.specs.SignalReads.{names_if_any, function_names}
 
--- while it comes to rest, a cell reads its enable and, where it is combinational, its function
+-- while it settles, a cell reads its enable and, if it is combinational, its function
 abbrev pub cell_names : Option Wanted → Leaf → Bool
 cell_names None l = false
 cell_names (Some w) l = names_if_any w.enable l || (not w.registered && function_names w.function l)
 
--- so many signals there are: the cells of the device, and behind them the nodes
+-- so many signals there are: the cells of the device, and after them the nodes
 abbrev pub signal_count : Table → PlainNetlist → ℕ
 signal_count t net = length t.cells + length net.nodes
 
@@ -38,7 +38,8 @@ signal_leaf t net v = if nat_lt v (length t.cells) then cell_leaf t net v else l
 abbrev pub netlist_reads : Table → PlainNetlist → (v w : ℕ) → Bool
 netlist_reads t net v w = netlist_names t net v (signal_leaf t net w)
 
--- the first waits for the second: it reads it, and the second is no register, since a register's Q stands still
+-- the first waits for the second: it reads it, and the second is no register, since a register's Q doesn't
+-- change
 abbrev pub netlist_waits : Table → PlainNetlist → (v w : ℕ) → Bool
 netlist_waits t net v w = not (is_register_signal t net w) && netlist_reads t net v w
 

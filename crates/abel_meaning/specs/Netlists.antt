@@ -24,7 +24,7 @@ pub record PlainNetlist : Type 0 where
   pub nodes : List (Function Formula)
   pub cells : List Wanted
 
--- ---- the netlist that one over an arena stands for
+-- ---- the netlist that one over an arena represents
 
 -- a function over the formulas of an arena
 abbrev pub plain_function : List Formula → IdFunction → Function Formula
@@ -61,7 +61,7 @@ plain_netlist net =
 
 -- ---- functions and controls by their numbers
 
--- what stands for a node that is assigned nothing: it is 0
+-- what represents a node that is assigned nothing: it is 0
 abbrev pub no_function : Function Formula
 no_function = record { one = Const false; any = Const false; complement = false }
 
@@ -69,7 +69,7 @@ no_function = record { one = Const false; any = Const false; complement = false 
 abbrev pub node_at : PlainNetlist → ℕ → Function Formula
 node_at net n = get_or net.nodes n no_function
 
--- what is asked of a cell; none where it is assigned nothing
+-- what is asked of a cell; none if it is assigned nothing
 abbrev pub wanted_at : PlainNetlist → ℕ → Option Wanted
 wanted_at net c = find (λ (w : Wanted). w.cell == c) net.cells
 
@@ -77,8 +77,8 @@ wanted_at net c = find (λ (w : Wanted). w.cell == c) net.cells
 abbrev pub function_at : Levels → Function Formula → Function Bool
 function_at at f = function_seen (formula_value at) f
 
--- the value of which a cell's function speaks, where the pin of a combinational one has this level, or a register
--- this next Q: that of the name, or of the input itself
+-- the value of which a cell's function speaks, if the pin of a combinational one has this level, or a register this next
+-- Q: that of the name, or of the input itself
 abbrev pub as_named : Wanted → Bool → Bool
 as_named w v = if w.raw then v else complement_if w.negated (complement_if (w.registered && not w.buffer) v)
 
@@ -97,7 +97,7 @@ abbrev pub own_of : (Wanted → Option Formula) → Option Wanted → Option For
 own_of own None = None
 own_of own (Some w) = own w
 
--- the function that all registers share; 0 where there is no equation
+-- the function that all registers share; 0 if there is no equation
 abbrev pub shared_function : (Wanted → Option Formula) → PlainNetlist → Formula
 shared_function own net = unwrap_or (own_of own (first_with own net.cells)) (Const false)
 

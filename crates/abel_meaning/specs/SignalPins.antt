@@ -50,7 +50,7 @@ is_registered_node x = is_registered_by x.words.registered x.kind
 
 -- ---- columns
 
--- a pair of columns carries the pin's level: not so where the cell on it must register and nothing is assigned
+-- a pair of columns carries the pin's level: not so if the cell on it must register and nothing is assigned
 abbrev pub carries_level : Table → Entry → (pin : ℕ) → Bool
 carries_level t x pin =
     is_some (position (λ p. p == pin) (pair_pins t))

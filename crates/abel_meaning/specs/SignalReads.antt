@@ -20,7 +20,7 @@ settles_by x (APin pin negated) = x.assigned && not x.words.registered
 settles_by x (ANode n) = true
 settles_by x _ = false
 
--- a combinational signal with data, or a node: it comes to rest by what it reads
+-- a combinational signal with data, or a node: it settles by what it reads
 abbrev pub settles : Entry → Bool
 settles x = settles_by x x.kind
 

@@ -16,7 +16,7 @@ IsIn count id = id.0 < count
 abbrev pub IsFunctionIn : ℕ → Function → Type 0
 IsFunctionIn count f = IsIn count f.one × IsIn count f.any
 
--- that of a control, where there is one, does
+-- that of a control, if there is one, does
 abbrev pub IsControlIn : ℕ → Option Control → Type 0
 IsControlIn count None = Unit {0}
 IsControlIn count (Some control) = IsIn count control.bit
@@ -30,7 +30,7 @@ pub record IsCellIn (count : ℕ) (w : CellWanted) : Type 0 where
 
 -- ---- pairs
 
--- what stands for a pair where there is none
+-- what represents a pair if there isn't one
 abbrev pub no_pair : ℕ
 no_pair = 255
 

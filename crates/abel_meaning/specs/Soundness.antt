@@ -31,7 +31,7 @@ pub record IsSoundFunction (t : Table) (net : PlainNetlist) (f : Function Formul
 
 -- ---- cells and nodes
 
--- a reset or preset that may be there: of a register, where the device has one
+-- a reset or preset that may be there: of a register, if the device has one
 pub record IsSoundShared (t : Table) (net : PlainNetlist) (w : Wanted) (device : Option ℕ) (f : Formula) : Type 0 where
   pub register : w.registered ≡ true
   pub has_one : IsSome device
@@ -43,8 +43,8 @@ MayRegister Combinational registered = registered ≡ false
 MayRegister Registered registered = registered ≡ true
 MayRegister Either registered = Unit {0}
 
--- an assigned cell: one of the device, of a kind that it may have; its pin follows Q only where the device
--- complements behind the register, it has no enable of its own where a pin enables it, and it reads what can be read
+-- an assigned cell: one of the device, of a kind that it may have; its pin follows Q only if the device complements after
+-- the register, it has no enable of its own if a pin enables it, and it reads what can be read
 pub record IsSoundCell (t : Table) (net : PlainNetlist) (w : Wanted) : Type 0 where
   pub within : w.cell < length t.cells
   pub kind : MayRegister (cell_at t w.cell).kinds w.registered
@@ -59,8 +59,8 @@ pub record IsSoundCell (t : Table) (net : PlainNetlist) (w : Wanted) : Type 0 wh
 abbrev pub HasNoControls : PlainNetlist → Type 0
 HasNoControls net = All (λ (v : Wanted). (v.reset ≡ None) × (v.preset ≡ None)) net.cells
 
--- a free cell: a register whose data are its name's, and whose pin follows Q until it is chosen, in a device that complements
--- behind the register; and no register is reset or preset, since that would show which is chosen
+-- a free cell: a register whose data are its name's, and whose pin follows Q until it is chosen, in a device that
+-- complements after the register; and no register is reset or preset, since that would show which is chosen
 pub record IsSoundFree (t : Table) (net : PlainNetlist) (w : Wanted) : Type 0 where
   pub registered : w.registered ≡ true
   pub buffer : w.buffer ≡ true
@@ -68,8 +68,8 @@ pub record IsSoundFree (t : Table) (net : PlainNetlist) (w : Wanted) : Type 0 wh
   pub behind : t.flip ≡ AfterRegister
   pub no_controls : HasNoControls net
 
--- the netlist is one for the device: each cell stands once, no signal waits for itself, and no reset reads a
--- register, through others or not
+-- the netlist is one for the device: each cell is once, no signal waits for itself, and no reset reads a register, through
+-- others or not
 pub record IsSound (t : Table) (net : PlainNetlist) : Type 0 where
   pub few_nodes : length net.nodes ≤ 128
   pub nodes : All (IsSoundFunction t net) net.nodes

@@ -25,7 +25,7 @@ is_negated _ = false
 abbrev pub signal_allows : FunctionReading → Context → Levels → List (Contribution Bool) → ℕ → Bool → Bool
 signal_allows choice d at cs s value = choice (function_of (truth_at d at) cs s) value
 
--- the pin of a signal: its pin polarity where it is stored, else a value that the name may have
+-- the pin of a signal: its pin polarity if it is stored, else a value that the name may have
 abbrev pub assigned_level : FunctionReading → Context → Levels → List (Contribution Bool) → (cell signal : ℕ)
     → Entry → Bool → Bool
 assigned_level choice d at cs c s x level =
@@ -38,7 +38,7 @@ abbrev pub pin_allows : FunctionReading → Context → Levels → List (Contrib
 pin_allows choice d at cs c None level = if cell_stores d c then same_level level (not (is_on at.q c)) else false
 pin_allows choice d at cs c (Some s) level = assigned_level choice d at cs c s (name_at d s) level
 
--- the next Q: for raw data the value itself, else the one with which the name has the value; 0 where nothing is assigned
+-- the next Q: for raw data the value itself, else the one with which the name has the value; 0 if nothing is assigned
 abbrev pub q_complements : (raw : Bool) → Entry → Bool
 q_complements true x = false
 q_complements false x = complement_if (is_negated x.kind) (not (follows_q x))
@@ -84,7 +84,7 @@ logic_by choice d =
 abbrev pub design_logic : Design → Logic
 design_logic d = logic_by allows d
 
--- what it asks where any counts as 0
+-- what it asks if any counts as 0
 abbrev pub logic_with_any_0 : Design → Logic
 logic_with_any_0 d = logic_by takes_any_as_0 d
 
@@ -97,7 +97,7 @@ abbrev pub node_value_by : Context → Levels → List (Contribution Bool) → O
 node_value_by d at cs None = false
 node_value_by d at cs (Some s) = value_with_any_0 (function_of (truth_at d at) cs s)
 
--- the value that stands for each node of a design, and of a module
+-- the value that represents each node of a design, and of a module
 abbrev pub node_values : Design → NodeValues
 node_values d at n = node_value_by d.context at (given_at d at) (node_signal d.context n)
 

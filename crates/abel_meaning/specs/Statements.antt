@@ -9,7 +9,7 @@ use Rattle.abel_meaning.specs.Designs.{Context}
 use Rattle.abel_meaning.specs.Contributions.{Evaluator, condition, Gives, Contribution, Guard, guarded, contribution}
 use Rattle.abel_meaning.specs.Contributions as give
 
--- what the sign gives where the value is 1
+-- what the sign gives if the value is 1
 abbrev pub sign_gives : Sign → Gives
 sign_gives sign.Equal = give.One
 sign_gives sign.Clocked = give.One
@@ -27,7 +27,7 @@ given_each ev d g extension complement clocked gives (Some s ∷ ss) (w ∷ ws) 
     contribution d g extension complement clocked gives s (ev.both g.holds w)
     ∷ given_each ev d g extension complement clocked gives ss ws
 
--- those of `s` count where the condition holds, those of `t` where it doesn't
+-- those of `s` count if the condition holds, those of `t` if it doesn't
 abbrev mutual
   pub statement_gives : {W : Type 0} → Evaluator W → Context → Guard W → Statement → List (Contribution W)
   statement_gives ev d g (AnAssign place complement target sign sign_place value) =

@@ -1,4 +1,4 @@
--- Expressions over signals: constants stand for their expressions, ranges for their names, an extension at each
+-- Expressions over signals: constants represent their expressions, ranges for their names, an extension at each
 -- signal (ABEL-HDL Reference Manual, sets and constants).
 use Rattle.std.specs.Prelude.{ℕ, suc, Option, None, Some, List, [], ◌∷◌, ◌++◌, if◌then◌else◌, bytes_eq, codes}
 use Rattle.abel_meaning.specs.Prelude.{Binary, Extension, Unary, Kind, APin, ANode, AConstant, ADeviceName, Entry, range_names, Tree, ANumber, ASpecial, AName, ASet, AParen, AUnary, ABinary, SetMember, OneMember, SpanMember, Members, NoMember, MoreMembers}
@@ -20,12 +20,12 @@ mutual
     NoTerm : Terms
     Before : Term → Terms → Terms
 
--- names, each with what it stands for
+-- names, each with what it represents
 pub record Known : Type 0 where
   pub name : List ℕ
   pub term : Term
 
--- what a name stands for, a number where it is unknown
+-- what a name represents, a number if it is unknown
 abbrev pub term_named : List Known → List ℕ → Term
 term_named [] name = Number 0
 term_named (k ∷ ks) name = if bytes_eq name k.name then k.term else term_named ks name
@@ -80,19 +80,19 @@ abbrev mutual
   member_before known (OneMember t) ts = Before (term_of known t) ts
   member_before known (SpanMember first last) ts = named_before known (range_names first.text last.text) ts
 
--- what a declared name stands for: a signal for itself, a constant for its expression over the names before it
+-- what a declared name represents: a signal for itself, a constant for its expression over the names before it
 abbrev pub term_meant : List Known → ℕ → Kind → Term
 term_meant known s (APin pin negated) = Read s None
 term_meant known s (ANode number) = Read s None
 term_meant known s (AConstant value) = term_of known value
 term_meant known s ADeviceName = Number 0
 
--- the names known after these, of which the first has this place
+-- the names known after these, the first of which has this place
 abbrev pub known_after : List Known → ℕ → List Entry → List Known
 known_after known s [] = known
 known_after known s (e ∷ es) =
     known_after (known ++ record { name = e.name; term = term_meant known s e.kind } ∷ []) (suc s) es
 
--- what all names of the list stand for
+-- what all names of the list represent
 abbrev pub known_of : List Entry → List Known
 known_of es = known_after [] 0 es

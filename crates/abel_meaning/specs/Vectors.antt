@@ -16,14 +16,14 @@ abbrev pub char_by : Bool → (low high : ℕ) → ℕ
 char_by false low high = low
 char_by true low high = high
 
--- the character of an input at its pin, whose name is its complement or not; none where it isn't driven
+-- the character of an input at its pin, whose name is its complement or not; none if it isn't driven
 abbrev pub input_char : (negated : Bool) → Mark → Option ℕ
 input_char negated (Level on) = Some (char_by (complement_if negated on) (char_of (codes "0")) (char_of (codes "1")))
 input_char negated Pulsed = Some (char_by negated (char_of (codes "C")) (char_of (codes "K")))
 input_char negated Unknown = None
 input_char negated Released = None
 
--- the character of an output at its pin; none where it isn't tested
+-- the character of an output at its pin; none if it isn't tested
 abbrev pub output_char : (negated : Bool) → Mark → Option ℕ
 output_char negated (Level on) = Some (char_by (complement_if negated on) (char_of (codes "L")) (char_of (codes "H")))
 output_char negated Released = Some (char_of (codes "Z"))

@@ -11,7 +11,7 @@ use Rattle.abel_parser.specs.declared.fault.ParseFault.TheVariants as fault
 use Rattle.abel_grammar.proofs.ModuleLaws.{source_laws}
 use Rattle.abel_parser.specs.Refusals.{place_at, IsParsed, IsRefused}
 
--- the token behind so many is the first of the others
+-- the token after so many is the first of the others
 place_behind : (c left : List Token) (end : Place) → place_at (c ++ left) end (length c) ≡ place_at left end 0
 place_behind [] left end = refl
 place_behind (t ∷ c) left end = place_behind c left end
@@ -31,7 +31,7 @@ refused_deep ts left end e =
     let c = is_end ts (TooDeep left) e in
     (length ts - length left, place_left ts c.0 left end c.1, is_too_deep ts left e)
 
--- tokens are left behind the module
+-- tokens are left after the module
 pub refused_left : (ts : List Token) (t : ModuleTree) (rest : List Token) (end : Place) → read_source 64 ts ≡ Ok (t, rest) → (length rest == 0) ≡ false → IsRefused ts end (fault.Syntax (place_at rest end 0))
 refused_left ts t [] end e some = absurd cc
 refused_left ts t (x ∷ rest) end e some =

@@ -1,4 +1,4 @@
--- When the tokens of a source are accepted, and where they are refused (this project's rule).
+-- When the tokens of a source are accepted, and if they are refused (this project's rule).
 use Rattle.std.specs.Prelude.{◌≡◌, ℕ, zero, suc, List, [], ◌∷◌}
 use Rattle.abel_grammar.specs.Verdict.{SpellsWhole, SyntaxAt, TooDeepAt}
 use Rattle.pld_base.specs.declared.place.Place.{Place}
@@ -16,7 +16,7 @@ nestings = 64
 abbrev pub IsParsed : List Token → ModuleTree → Type 0
 IsParsed ts m = SpellsWhole (source nestings) ts m
 
--- the place of a token by its number, or the place behind the last byte of the text
+-- the place of a token by its number, or the place after the last byte of the text
 abbrev pub place_at : List Token → Place → ℕ → Place
 place_at [] end k = end
 place_at (t ∷ ts) end zero = t.place

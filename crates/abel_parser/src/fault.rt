@@ -7,7 +7,7 @@ use thiserror::Error;
 #[derive(Clone, Copy, Debug, PartialEq, Eq, Error)]
 pub enum ParseFault {
     /// The tokens up to and with the one at this place begin no module; at the end of the text, they
-    /// are none.
+    /// aren't one.
     #[error("a token that can't stand here")]
     Syntax(Place),
     /// The token at this place opens the 65th nesting.

@@ -1,4 +1,5 @@
-//! The one tree that the tokens of a source spell, or the exact place where they stop to begin one.
+//! The one tree that the tokens of a source spell, or the exact place at which they stop to begin
+//! one.
 #![tactic(auto)]
 
 mod fault;

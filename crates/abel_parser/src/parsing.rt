@@ -30,7 +30,7 @@ fn place_of(tokens: &[Token], end: Place) -> Place
     }
 }
 
-/// The one tree that the tokens spell, all of them. `end` is the place behind the last byte of the text.
+/// The one tree that the tokens spell, all of them. `end` is the place after the last byte of the text.
 pub fn parse(alloc: Global, tokens: &[Token], end: Place) -> Result<Module, ParseFault>
     ensures tree { IfOk result (λ m. IsParsed tokens.now (view_module m)) }
     ensures only { IfOk result (λ m. (t : ModuleTree) → Spells grammar.source tokens.now t

@@ -14,7 +14,7 @@ pub before_by : {F : Type 0} (o : Ranks F) (f g : F) → is_before o f g ≡ soo
 unfolding is_before
 before_by o f g = refl
 
--- what comes before an earlier one comes before a later one
+-- what precedes an earlier one precedes a later one
 pub before_trans : {F : Type 0} (o : Ranks F) (f g h : F) → is_before o f g ≡ true → is_before o g h ≡ true → is_before o f h ≡ true
 unfolding is_before
 before_trans o f g h p q = sooner_trans (o.place f).line (o.place f).column (o.rank f) (o.place g).line (o.place g).column (o.rank g) (o.place h).line (o.place h).column (o.rank h) p q
@@ -49,7 +49,7 @@ first_append o (f ∷ fs) gs = ap (earlier o (Some f)) (first_append o fs gs) �
 pub first_push : {F : Type 0} (o : Ranks F) (fs : List F) (f : F) → first_refusal o (fs ++ f ∷ []) ≡ earlier o (first_refusal o fs) (Some f)
 first_push o fs f = first_append o fs (f ∷ [])
 
--- a list has no first one only where it is empty
+-- a list has no first one only if it is empty
 first_some : {F : Type 0} (o : Ranks F) (x : F) (g : Option F) → None ≡ earlier o (Some x) g → ⊥
 first_some o x None e = cc
 first_some {F = F} o x (Some y) e = chosen (is_before o y x) e

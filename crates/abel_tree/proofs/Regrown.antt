@@ -1,4 +1,4 @@
--- An expression from its first operand and the operators behind it, each with its right side.
+-- An expression from its first operand and the operators after it, each with its right side.
 use Rattle.std.proofs.Common.{◌≡◌, ℕ, ◌<◌, ◌≤◌, List, [], ◌∷◌, ◌++◌, map, refl, sym, ap, ◌∙◌, arith, rules, Bor}
 use Rattle.pld_base.specs.declared.place.Place.{Place}
 use Rattle.abel_tree.specs.declared.words.Binary.{Binary}
@@ -23,7 +23,7 @@ EachBelow n (x ∷ xs) = (size-Expr x.2 < n) × EachBelow n xs
 abbrev pub seen : Binary × Place × Bor Expr → Link
 seen x = (x.0, x.1, x.2.now)
 
--- what is at hand and what stands on the list make up the whole
+-- what is at hand and what is on the list make up the whole
 pub record Regrows (e : Expr) (xs : List Link) (whole : Expr) : Type 0 where
   pub same : regrown e xs ≡ whole
   pub below : EachBelow (size-Expr whole) xs

@@ -44,7 +44,7 @@ abbrev mutual
   signals_of_member ks (OneMember t) = signals_of ks t
   signals_of_member ks (SpanMember first last) = signals_of_names ks (range_names first.text last.text)
 
--- a constant stands for its expression over the names before it
+-- a constant represents its expression over the names before it
 abbrev pub meant : List Named → ℕ → Kind → List ℕ
 meant ks s (APin pin negated) = s ∷ []
 meant ks s (ANode number) = s ∷ []

@@ -3,7 +3,7 @@ use Rattle.std.specs.Prelude.{Bool, true, false, Option, None, Some}
 use Rattle.abel_tree.specs.declared.words.Extension.{Extension}
 use Rattle.abel_tree.specs.declared.words.Extension.TheVariants as extension
 
--- the extension that counts of two, of which the first stands inside
+-- the extension that counts of two, the first of which is inside
 abbrev pub innermost : (own outer : Option Extension) → Option Extension
 innermost (Some e) outer = Some e
 innermost None outer = outer

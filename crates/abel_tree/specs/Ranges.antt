@@ -11,7 +11,7 @@ use Rattle.abel_tree.specs.declared.words.Span.{Span}
 abbrev pub is_digit : ℕ → Bool
 is_digit c = nat_le 48 c && nat_le c 57
 
--- the digits at the end of a name, and what stands before them
+-- the digits at the end of a name, and what precedes them
 abbrev pub last_digits : List ℕ → List ℕ
 last_digits name = reverse (take_while is_digit (reverse name))
 
@@ -42,7 +42,7 @@ abbrev pub names_between : (first last : List ℕ) → List (List ℕ)
 names_between first last =
     map (λ k. stem first ++ decimal k) (numbers_between (number_of (last_digits first)) (number_of (last_digits last)))
 
--- the names of a range, none where its ends don't agree
+-- the names of a range, none if its ends don't agree
 abbrev pub range_names : (first last : List ℕ) → List (List ℕ)
 range_names first last = if ends_agree first last then names_between first last else []
 

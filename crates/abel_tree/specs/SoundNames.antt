@@ -8,7 +8,7 @@ use Rattle.abel_tree.specs.Ranges.{range_names}
 use Rattle.abel_tree.specs.Uses.{Use, OneName, Range, uses, all_uses, section_uses}
 use Rattle.abel_tree.specs.Entries.{Kind, APin, ANode, AConstant, ADeviceName, Entry, entries_of, is_value, names_any}
 
--- the names that a use stands for
+-- the names that a use represents
 abbrev pub used_names : Use → List (List ℕ)
 used_names (OneName word) = word.text ∷ []
 used_names (Range first last) = range_names first.text last.text

@@ -1,5 +1,5 @@
--- The tree that tokens spell, without where it lies in memory (ABEL-HDL Reference Manual, source
--- file structure).
+-- The tree that tokens spell, without its place in memory (ABEL-HDL Reference Manual, source file
+-- structure).
 use Rattle.std.specs.Prelude.{ℕ, Bool, List, [], ◌∷◌, Option, Some, None}
 use Rattle.pld_base.specs.declared.place.Place.{Place}
 use Rattle.abel_tree.specs.declared.words.Word.{Word}

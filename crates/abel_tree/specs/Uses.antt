@@ -78,7 +78,7 @@ abbrev pub states_uses : List StateTree → List Use
 states_uses [] = []
 states_uses (s ∷ ss) = uses s.value ++ (list_uses s.statements ++ (branches_uses s.transitions ++ states_uses ss))
 
--- DECLARATIONS has none of its own: what it uses is seen where it declares
+-- DECLARATIONS has none of its own: what it uses is seen if it declares
 abbrev pub section_uses : SectionTree → List Use
 section_uses (Declarations ds) = []
 section_uses (Equations ss) = list_uses ss

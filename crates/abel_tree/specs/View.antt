@@ -1,4 +1,4 @@
--- The tree that a tree of the code stands for.
+-- The tree that a tree of the code represents.
 use Rattle.std.specs.Prelude.{List, map, option_map, false}
 use Rattle.pld_base.specs.declared.place.Place.{Place}
 use Rattle.abel_tree.specs.declared.expressions.Expr.{Expr}

@@ -38,7 +38,7 @@ impl Member {
 }
 
 impl Expr {
-    /// An equal expression. Calls go as deep as the nestings, however many operators stand in a row.
+    /// An equal expression. Calls go as deep as the nestings, however many operators are in a row.
     #[cycle(copies)]
     pub fn copy(&self, alloc: Global) -> Result<Expr, OutOfMemory>
         ensures { IfOk result (λ e. e ≡ self.now) }

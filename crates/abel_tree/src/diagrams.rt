@@ -4,7 +4,8 @@ use crate::expressions::Expr;
 use crate::statements::Stmt;
 use pld_base::{Boxed, ListOf, Place};
 
-/// Where a transition goes, with the statements behind WITH. The place is that of the value's first token.
+/// The target of a transition, with the statements after WITH. The place is that of the value's first
+/// token.
 #[derive(Drop)]
 pub struct Goal {
     pub place: Place,

@@ -8,7 +8,7 @@ use crate::expressions::Expr;
 use bitflags::Flags;
 use pld_base::{DeviceName, ListOf, NameText, Place};
 
-/// What a name is declared as. A pin is `negated` where the name is the complement of its level.
+/// What a name is declared as. A pin is `negated` if the name is the complement of its level.
 #[derive(Drop)]
 pub enum Meaning {
     Pin { pin: u8, negated: bool },
@@ -18,7 +18,7 @@ pub enum Meaning {
 }
 
 /// A declared name. Of a signal the attributes are its kind (COM or REG), its pin polarity (BUFFER or
-/// INVERT) and DC; `assigned` where some data assignment, table output or diagram register names it.
+/// INVERT) and DC; `assigned` if some data assignment, table output or diagram register names it.
 #[derive(Drop)]
 pub struct Declared {
     pub name: NameText,
@@ -43,7 +43,7 @@ impl Declared {
         self.is_registered() && self.assigned
     }
 
-    /// Whether the pin of a register follows Q, as it does where nothing says otherwise.
+    /// Whether the pin of a register follows Q, as it does if nothing says otherwise.
     pub fn follows_q(&self) -> bool
         ensures { result ≡ follows_q (view_declared self.now) }
     {

@@ -6,18 +6,18 @@ ghost use Rattle.abel_tree.specs.FirstRefusal as refusal;
 
 use pld_base::Place;
 
-/// What stands at a place of a source and, among others at that place, has a rank.
+/// What is at a place of a source and, among others at that place, has a rank.
 pub trait Ranked {
     ghost use Rattle.std.specs.Prelude.{◌≡◌};
     ghost use Rattle.abel_tree.specs.FirstRefusal.{Ranks};
 
     ghost ranks: { Ranks Self };
 
-    /// Where it stands.
+    /// Its place.
     fn place(&self) -> Place
         ensures { result ≡ ranks.place self.now };
 
-    /// Which comes first at one place.
+    /// Which is first at one place.
     fn rank(&self) -> u8
         ensures { result ≡ ranks.rank self.now };
 }
@@ -36,7 +36,7 @@ impl Ranked for Place {
     }
 }
 
-/// Whether one comes before another: by line, by column, and at one place by rank.
+/// Whether one precedes another: by line, by column, and at one place by rank.
 #[tactic(auto, unfolding(crate::specs::FirstRefusal::is_before))]
 pub fn is_before<F: Ranked>(here: &F, there: &F) -> bool
     ensures { result ≡ is_before F.ranks here.now there.now }
@@ -51,7 +51,7 @@ pub fn is_before<F: Ranked>(here: &F, there: &F) -> bool
     here.rank() < there.rank()
 }
 
-/// The first of two that may be none, the left one where neither comes before the other.
+/// The first of two that may be none, the left one if neither precedes the other.
 pub fn earlier<F: Ranked + Drop>(left: Option<F>, right: Option<F>) -> Option<F>
     ensures { result ≡ refusal.earlier F.ranks left right }
 {

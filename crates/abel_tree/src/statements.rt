@@ -25,7 +25,7 @@ pub struct When {
     pub otherwise: Option<Boxed<Stmt>>,
 }
 
-/// A statement; a group stands between braces.
+/// A statement; a group is between braces.
 #[cycle(stmt)]
 #[derive(Drop)]
 pub enum Stmt {

@@ -19,8 +19,8 @@ pub struct Number {
     pub place: Place,
 }
 
-/// A name of a declaration, or a range of names from `first` up or down to `last`; `negated` where a `!`
-/// stands before it.
+/// A name of a declaration, or a range of names from `first` up or down to `last`; `negated` if a `!`
+/// precedes it.
 #[derive(Drop)]
 pub struct Item {
     pub negated: bool,
@@ -42,7 +42,7 @@ pub struct DontCare {
     pub place: Place,
 }
 
-/// What a name or a set is asked for behind its dot, as in `q.CLK`.
+/// What a name or a set is asked for after its dot, as in `q.CLK`.
 #[derive(Clone, Copy, PartialEq, Eq)]
 pub enum Extension {
     Clk,
@@ -70,7 +70,7 @@ impl Extension {
         matches!(extension, Some(Extension::D))
     }
 
-    /// The extension that counts of two, of which the first stands inside.
+    /// The extension that counts of two, the first of which is inside.
     pub fn innermost(own: Option<Extension>, outer: Option<Extension>) -> Option<Extension>
         ensures { result ≡ innermost own outer }
     {

@@ -1,8 +1,8 @@
--- More that is found, behind what was found before; and the first of what is refused of sections and of vectors.
+-- More that is found, after what was found before; and the first of what is refused of sections and of vectors.
 use Rattle.std.proofs.Common.{◌≡◌, ◌≢◌, ℕ, Option, None, Some, List, [], ◌∷◌, ◌++◌, Result, Ok, Err, IfOk, refl, sym, ap, ap₂, ◌∙◌, subst, append_assoc, append-nil, IfErr}
 use Rattle.abel_vectors.proofs.Common.{map-append, Vector, Table, all_chars, chars_of, first_refusal, earlier, earlier_assoc, earlier_none, first_append, none_refused, SectionFault, section_order, IsTold, told_of, Found, fault_in, Finds, IsFound, IsReadAs, NothingFound, if_none, OutOfMemory}
 
--- where nothing is refused now, nothing was before
+-- if nothing is refused now, nothing was before
 both_none : (a : Option SectionFault) (rs : List SectionFault) → earlier section_order a (first_refusal section_order rs) ≡ None → (a ≡ None) × (rs ≡ [])
 both_none None rs e = (refl, none_refused section_order rs (sym e))
 both_none (Some f) rs e = absurd (let k = none_refused section_order (f ∷ rs) (sym e) in cc)
@@ -44,7 +44,7 @@ finds_vector t rs text v old new is fault list =
       list = λ e. ap (all_chars t) list ∙ map-append (chars_of t) old.list.items (v ∷ []) ∙ ap (λ cs. all_chars t old.list.items ++ cs ∷ []) is.1;
     }
 
--- refusals that come alone, and what comes behind none
+-- refusals that are alone, and what follows none
 pub first_alone : (xs ys : List SectionFault) (f : SectionFault) → first_refusal section_order xs ≡ Some f → first_refusal section_order (if_none xs ys) ≡ Some f
 first_alone [] ys f e = absurd cc
 first_alone (x ∷ xs) ys f e = e
@@ -79,7 +79,7 @@ all_found t rs cs old new n a =
 
 -- ---- sections and vectors
 
--- what is told of other than want of memory is the first refusal
+-- what is reported of other than lack of memory is the first refusal
 pub told_first : (rs : List SectionFault) (f : SectionFault) → f ≢ OutOfMemory → IsTold rs f → first_refusal section_order rs ≡ Some f
 told_first rs OutOfMemory o h = absurd (o refl)
 told_first rs f o h = h
@@ -88,6 +88,6 @@ pub first_told : (rs ss : List SectionFault) (f g r : SectionFault) → f ≢ Ou
 first_told rs ss f g r o p e h k =
     told_of (rs ++ ss) r (first_append section_order rs ss ∙ ap₂ (earlier section_order) (told_first rs f o h) (told_first ss g p k) ∙ e)
 
--- where nothing else is refused
+-- if nothing else is refused
 pub told_alone : (rs ss : List SectionFault) (f : SectionFault) → ss ≡ [] → IsTold rs f → IsTold (rs ++ ss) f
 told_alone rs ss f e h = subst (λ xs. IsTold xs f) (sym (ap (λ ys. rs ++ ys) e ∙ append-nil rs)) h

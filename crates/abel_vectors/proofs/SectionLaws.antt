@@ -1,4 +1,4 @@
--- A section by its header and its rows, sections one behind another, and how many vectors they have.
+-- A section by its header and its rows, sections one after another, and how many vectors they have.
 use Rattle.std.proofs.Common.{◌≡◌, ℕ, suc, ◌+◌, ◌-◌, ◌<◌, ◌≤◌, nat_lt, Bool, true, false, if◌then◌else◌, List, [], ◌∷◌, ◌++◌, length, map, Result, Ok, Err, IfOk, refl, sym, ap, ◌∙◌, subst, length-append, arith, All}
 use Rattle.abel_vectors.proofs.Common.{length-map, Place, Vector, Table, IsTestVector, all_chars, chars_of, Section, RowTree, SectionTree, SomeVectors, view, view_section, view_vector_row, Context, Term, term_of, row_chars, section_vectors, sections_vectors, SectionFault, BadVector, Found, Finds, FindsSection, view_vectors, refused_behind, IsAnswer, header_refused, if_none, one_too_many, row_refused, rows_refused, vectors_refused}
 use Rattle.set_expr.proofs.SummedUp.{left_empty, right_empty}
@@ -11,7 +11,7 @@ use Rattle.abel_vectors.proofs.TestChars.{all_test, are_test_texts}
 
 -- ---- sections
 
--- the room behind a section of vectors
+-- the room after a section of vectors
 pub section_found : (d : Context) (n room left long : ℕ) (v : Vectors) (old new : Found) → room ≡ 9999 - n → left ≡ room - long → long ≡ length v.rows
     → Finds d.device (vectors_refused d n (view_vectors v)) (section_vectors d (view_vectors v)) old new → FindsSection d n (view_vectors v) left old new
 section_found d n room left long v old new r l k finds =

@@ -51,7 +51,7 @@ design = context_of sample names
 abbrev row : ℕ → (inputs outputs : Tree) → RowTree
 row l inputs outputs = record { place = at l; inputs = inputs; clocked = false; outputs = outputs }
 
--- a header on line 2 and its rows, behind so many vectors
+-- a header on line 2 and its rows, after so many vectors
 abbrev refused_behind : (before : ℕ) → (inputs outputs : Tree) → List RowTree → List SectionFault
 refused_behind before inputs outputs rows = vectors_refused design before (SomeVectors None (at 2) inputs outputs rows)
 
@@ -82,7 +82,7 @@ extended_header = refl
 number_header : refused (name "a") (number 1) [] ≡ BadVector (at 2) ∷ []
 number_header = refl
 
--- .C. stands in rows alone
+-- .C. is in rows alone
 pulse_header : refused (name "k") (name "e") [] ≡ MisplacedSpecial (at 1) ∷ []
 pulse_header = refl
 
@@ -106,7 +106,7 @@ signal : refused (two "a" "b") (name "e") (row 3 (name "e") (number 1) ∷ row 4
     ≡ BadVector (at 3) ∷ BadVector (at 4) ∷ BadVector (at 4) ∷ []
 signal = refl
 
--- behind 9,998 vectors there is room for one
+-- after 9,998 vectors there is room for one
 ten_thousandth : refused_behind 9998 (name "a") (name "e") (row 3 (number 0) (number 0) ∷ row 4 (number 0) (number 0) ∷ [])
     ≡ BadVector (at 4) ∷ []
 ten_thousandth = refl

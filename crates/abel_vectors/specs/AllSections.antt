@@ -1,5 +1,5 @@
--- What all sections of a source say, and when which answer comes (ABEL-HDL Reference Manual, sections of a module; the
--- first refusal by place is this project's rule).
+-- What all sections of a source say, and when which answer occurs (ABEL-HDL Reference Manual, sections of a module;
+-- the first refusal by place is this project's rule).
 use Rattle.std.specs.Prelude.{List, ◌++◌, Result, Ok, Err}
 use Rattle.abel_vectors.specs.Prelude.{Design, SectionFault, AreContributed, IsTold, sections_refused}
 use Rattle.abel_vectors.specs.declared.joining.SourceSections.{SourceSections}

@@ -9,12 +9,12 @@ pub record NothingFound (found : Found) : Type 0 where
   pub fault : found.fault ≡ None
   pub list : found.list.items ≡ []
 
--- the first of these refusals, and where there is none vectors of these characters
+-- the first of these refusals, and if there isn't one vectors of these characters
 pub record IsFound (t : Table) (rs : List SectionFault) (chars : List (List ℕ)) (found : Found) : Type 0 where
   pub fault : found.fault ≡ first_refusal section_order rs
   pub list : found.fault ≡ None → all_chars t found.list.items ≡ chars
 
--- these refusals more, and where there is none vectors of these characters
+-- these refusals more, and if there isn't one vectors of these characters
 pub record Finds (t : Table) (rs : List SectionFault) (chars : List (List ℕ)) (old new : Found) : Type 0 where
   pub fault : new.fault ≡ earlier section_order old.fault (first_refusal section_order rs)
   pub list : new.fault ≡ None → all_chars t new.list.items ≡ all_chars t old.list.items ++ chars
@@ -33,7 +33,7 @@ IsReadAs rs so (Err f) = first_refusal section_order rs ≡ Some f
 
 -- ---- sections
 
--- a section more, behind so many vectors; the room that is left
+-- a section more, after so many vectors; the room that is left
 pub record FindsSection (d : Context) (before : ℕ) (s : SectionTree) (left : ℕ) (old new : Found) : Type 0 where
   pub room : left ≡ 9999 - (before + length (section_vectors d s))
   pub finds : Finds d.device (vectors_refused d before s) (section_vectors d s) old new

@@ -16,7 +16,7 @@ use Rattle.abel_vectors.specs.VectorRefusals.{disagree, row_refused, rows_refuse
 abbrev pub header_term : Context → Expr → Term
 header_term d e = term_of d.known (view e)
 
--- nothing is refused of its sides, and it names what stands at their positions
+-- nothing is refused of its sides, and it names what is at their positions
 pub record NamesPins (d : Context) (h : Header) : Type 0 where
   pub inputs : first_refusal section_order (expression_found d.names (view h.section.now.inputs)).refusals ≡ None
   pub outputs : first_refusal section_order (expression_found d.names (view h.section.now.outputs)).refusals ≡ None

@@ -5,7 +5,7 @@ use Rattle.abel_vectors.specs.Prelude.{Vec, Vector, SectionTree, Context, Design
 use Rattle.abel_vectors.specs.VectorRefusals.{vectors_refused}
 use Rattle.abel_vectors.specs.VectorAnswers.{AreAccepted, IsAnswer}
 
--- what is refused of the vectors of sections, behind so many vectors
+-- what is refused of the vectors of sections, after so many vectors
 abbrev pub refused_behind : Context → (before : ℕ) → List SectionTree → List SectionFault
 refused_behind d n [] = []
 refused_behind d n (s ∷ ss) = vectors_refused d n s ++ refused_behind d (n + length (section_vectors d s)) ss

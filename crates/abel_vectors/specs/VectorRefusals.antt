@@ -9,7 +9,7 @@ use Rattle.truth_tables.specs.TableUnits.{if_none}
 
 -- ---- headers
 
--- the pin of a name, and whether the name is its complement; none where it is no pin's
+-- the pin of a name, and whether the name is its complement; none if it is no pin's
 abbrev pub pin_of : Kind → Option (ℕ × Bool)
 pin_of (APin pin negated) = Some (pin, negated)
 pin_of (ANode number) = None
@@ -28,7 +28,7 @@ is_pin_or_unknown es s = is_none s || is_some (pin_at es s)
 abbrev pub names_pins : Context → Term → Bool
 names_pins d t = names_positions t && list_all (is_pin_or_unknown d.names) (targets_of t)
 
--- a side of the header that stands at this place
+-- a side of the header that is at this place
 abbrev pub side_refused : Context → Place → Tree → List SectionFault
 side_refused d p t =
     unless_met (expression_found d.names t).refusals (BadVector p) (names_pins d (term_of d.known t))
@@ -96,7 +96,7 @@ row_refused d inputs outputs row =
 abbrev pub one_too_many : (before : ℕ) → Place → List SectionFault
 one_too_many before p = if nat_lt before 9999 then [] else BadVector p ∷ []
 
--- rows behind so many vectors
+-- rows after so many vectors
 abbrev pub rows_refused : Context → (before : ℕ) → (inputs outputs : Term) → List RowTree → List SectionFault
 rows_refused d before inputs outputs [] = []
 rows_refused d before inputs outputs (row ∷ rows) =
@@ -104,7 +104,7 @@ rows_refused d before inputs outputs (row ∷ rows) =
 
 -- ---- sections
 
--- what is refused of a section behind so many vectors; rows meet no header that is refused
+-- what is refused of a section after so many vectors; rows meet no header that is refused
 abbrev pub vectors_refused : Context → (before : ℕ) → SectionTree → List SectionFault
 vectors_refused d before (SomeVectors _ place inputs outputs rows) =
     if_none (header_refused d place inputs outputs)

@@ -15,7 +15,8 @@ pub(crate) enum Role {
     Tested,
 }
 
-/// The character of a level of a name at its pin, which has the other level where the name is its complement.
+/// The character of a level of a name at its pin, which has the other level at which the name is its
+/// complement.
 fn level_char(negated: bool, on: bool, low: u8, high: u8) -> u8
     ensures { result ≡ meant.char_by (complement_if negated on) low high }
 {
@@ -23,7 +24,7 @@ fn level_char(negated: bool, on: bool, low: u8, high: u8) -> u8
     if level { high } else { low }
 }
 
-/// The character that a mark gives to a pin whose name is its complement or not; None where it gives none.
+/// The character that a mark gives to a pin whose name is its complement or not; None if it gives none.
 pub(crate) fn role_char(role: Role, negated: bool, mark: Mark) -> Option<u8>
     ensures { result ≡ char_in role negated (view_mark mark) }
 {

@@ -10,7 +10,7 @@ use pld_base::{OutOfMemory, Vector};
 use set_expr::SectionFault;
 use std::alloc::Global;
 
-/// The first refusal so far, and where there is none the vectors so far.
+/// The first refusal so far, and if there isn't one the vectors so far.
 #[derive(Drop)]
 pub(crate) struct Found {
     pub fault: Option<SectionFault>,

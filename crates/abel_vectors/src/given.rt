@@ -11,7 +11,7 @@ use set_expr::Scope;
 use std::alloc::Global;
 use truth_tables::Mark;
 
-/// The character that a mark gives at a position of a header, with its pin; None where it gives none.
+/// The character that a mark gives at a position of a header, with its pin; None if it gives none.
 fn char_at(scope: &Scope<'_>, role: Role, signal: Option<u32>, mark: Mark) -> Option<(u8, u8)>
     ensures { result ≡ position_gives (entries_of scope.now) (char_in role) signal (view_mark mark) }
 {
@@ -48,7 +48,7 @@ fn is_pulsed(signal: Option<u32>, mark: Mark) -> bool
     }
 }
 
-/// Whether `.C.` stands at a position of a side that is a pin.
+/// Whether `.C.` is at a position of a side that is a pin.
 pub(crate) fn tests_pulse(signals: &[Option<u32>], marks: &[Mark]) -> bool
     ensures { result ≡ pulse_read signals.now marks.now }
 {
@@ -77,7 +77,7 @@ fn gives_another(here: (u8, u8), there: (u8, u8)) -> bool
     here.0 == there.0 && here.1 != there.1
 }
 
-/// Whether one of the characters behind is another one for the same pin.
+/// Whether one of the characters after is another one for the same pin.
 fn is_contradicted(here: (u8, u8), behind: &[(u8, u8)]) -> bool
     ensures { result ≡ list_any (gives_another here) behind.now }
 {

@@ -19,8 +19,8 @@ fn are_pins_or_unknown(scope: &Scope<'_>, signals: &[Option<u32>]) -> bool
     signals.iter().all(|signal| signal.is_none() || pin_at(scope, *signal).is_some())
 }
 
-/// The side of a header that stands at this place: its first refusal, or its pins from the left as numbers of names, None
-/// at X.
+/// The side of a header that is at this place: its first refusal, or its pins from the left as numbers of names, None at
+/// X.
 pub fn read_side(
     alloc: Global,
     scope: &Scope<'_>,

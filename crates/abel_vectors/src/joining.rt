@@ -21,7 +21,7 @@ pub struct SourceSections {
     pub vectors: Vec<Vector>,
 }
 
-/// The first refusal where the sections are refused, and perhaps the vectors too; want of memory comes before both.
+/// The first refusal if the sections are refused, and perhaps the vectors too; lack of memory precedes both.
 fn first_with(section: SectionFault, tested: &Result<Vec<Vector>, SectionFault>) -> SectionFault
     ensures { (d : Design) → IsTold (sections_refused d) section → AnswersVectors d tested.now → IsTold (all_sections_refused d) result }
 {
@@ -37,7 +37,7 @@ fn first_with(section: SectionFault, tested: &Result<Vec<Vector>, SectionFault>)
     }
 }
 
-/// What the sections of a module contribute and its test vectors, where nothing is refused of its constants, its sections
+/// What the sections of a module contribute and its test vectors, if nothing is refused of its constants, its sections
 /// and its vectors. Else the first refusal by place.
 pub fn all_sections<D: Device>(
     alloc: Global,

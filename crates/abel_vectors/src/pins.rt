@@ -12,7 +12,7 @@ use pld_base::Vector;
 use pld_device::Device;
 use set_expr::Scope;
 
-/// The pin of a name that means this, and whether the name is its complement; None where it is no pin's.
+/// The pin of a name that means this, and whether the name is its complement; None if it is no pin's.
 fn pin_of(meaning: &Meaning) -> Option<(u8, bool)>
     ensures { result ≡ refused.pin_of (view_meaning meaning.now) }
 {

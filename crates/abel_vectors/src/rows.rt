@@ -23,7 +23,7 @@ pub(crate) struct Header<'a> {
     pub tested: &'a [Option<u32>],
 }
 
-/// The vector of a row whose entries meet the header; None where their marks are no vector's.
+/// The vector of a row whose entries meet the header; None if their marks are no vector's.
 fn row_vector<D: Device>(
     alloc: Global,
     scope: &Scope<'_>,
@@ -82,7 +82,7 @@ fn read_row<D: Device>(
     }
 }
 
-/// What is refused of a row of which so many stand before it in a section that has room for so many.
+/// What is refused of a row of which so many precede it in a section that has room for so many.
 fn refuse_room(room: usize, index: usize, place: Place) -> Option<SectionFault>
     ensures { (before : ℕ) → room ≡ 9999 - before → result ≡ first_refusal section_order (one_too_many (index + before) place) }
 {
@@ -93,8 +93,8 @@ fn refuse_room(room: usize, index: usize, place: Place) -> Option<SectionFault>
     }
 }
 
-/// The rows of a section that has room for so many. All are gone over, since the first refusal by place may stand in any
-/// of them.
+/// The rows of a section that has room for so many. All are gone over, since the first refusal by place may be in any of
+/// them.
 pub(crate) fn read_rows<D: Device>(
     alloc: Global,
     scope: &Scope<'_>,

@@ -44,7 +44,7 @@ fn read_section<D: Device>(
     }
 }
 
-/// Any section, with room for so many vectors; the room behind it.
+/// Any section, with room for so many vectors; the room after it.
 fn add_section<D: Device>(
     alloc: Global,
     scope: &Scope<'_>,
@@ -65,7 +65,7 @@ fn add_section<D: Device>(
 
 /// The vectors of a section, which is one of TEST_VECTORS or has none, as the characters of the device's pins; `before`
 /// counts those of the sections before it, at most 9,999. The answer is else the first refusal by place. Takes the time
-/// of the header and the rows with the sets that constants stand for.
+/// of the header and the rows with the sets that constants represent.
 pub fn vectors<D: Device>(
     alloc: Global,
     scope: &Scope<'_>,
@@ -84,7 +84,7 @@ pub fn vectors<D: Device>(
     found.answer()
 }
 
-/// The test vectors of a module as the characters of the device's pins, in order of the source, where nothing of them is
+/// The test vectors of a module as the characters of the device's pins, in order of the source, if nothing of them is
 /// refused; else the first refusal by place. All sections are gone over, since any may have it.
 pub(crate) fn all_vectors<D: Device>(
     alloc: Global,

@@ -21,7 +21,7 @@ pub arena_count : (ns : List Node) → length (arena ns) ≡ length ns + 2
 unfolding arena
 arena_count ns = omega (arith, from_count constants ns)
 
--- an entry stays when others follow, and the last one stands at the end
+-- an entry stays when others follow, and the last one is at the end
 pub get_kept : {X : Type 0} (xs ys : List X) (i : ℕ) (x : X) → slice_get xs i ≡ Some x → slice_get (xs ++ ys) i ≡ Some x
 get_kept xs ys i x e =
     let w = slice_get_within xs i x e in

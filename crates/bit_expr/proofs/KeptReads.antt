@@ -14,7 +14,7 @@ nodes_more kept x = map-append (λ (k : Kept). k.node) kept (x ∷ [])
 pub kept_none : AreKept []
 kept_none = record { ordered = λ k n e. absurd (cc); reads = λ k x e. absurd (cc) }
 
--- the formulas before stand
+-- the formulas before are
 same_before : (ns : List Node) (n : Node) (k : ℕ) → k < length ns → get_or (arena ns) (k + 2) (Const false) ≡ get_or (arena (ns ++ n ∷ [])) (k + 2) (Const false)
 same_before ns n k h = sym (rw (arena_more ns n) (get_or_append_left (arena ns) (formula_of (arena ns) n ∷ []) (Const false) (k + 2) (omega (arith, arena_count ns))))
 
@@ -36,7 +36,7 @@ kept_more kept x known lies reads =
           ]);
     }
 
--- an id behind the constants is that of an entry
+-- an id after the constants is that of an entry
 pub entry_within : (kept : List Kept) (i : ℕ) → i < length (arena (nodes_of kept)) → 2 ≤ i → i - 2 < length kept
 entry_within kept i h low = omega (arith, arena_count (nodes_of kept), length-map kept (λ (x : Kept). x.node))
 

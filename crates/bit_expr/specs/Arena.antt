@@ -14,7 +14,7 @@ use Rattle.bit_expr.specs.Formulas.{Formula, Const, Read, Not, And, Or, Xor, for
 
 -- ---- formulas by their ids
 
--- the constants, which stand in every arena
+-- the constants, which are in every arena
 abbrev pub constants : List Formula
 constants = Const false ∷ Const true ∷ []
 
@@ -31,7 +31,7 @@ formula_of fs (node.And a b) = And (formula_at fs a) (formula_at fs b)
 formula_of fs (node.Or a b) = Or (formula_at fs a) (formula_at fs b)
 formula_of fs (node.Xor a b) = Xor (formula_at fs a) (formula_at fs b)
 
--- formulas, and behind them those of nodes that come one after another
+-- formulas, and after them those of nodes that follow one another
 abbrev pub formulas_from : List Formula → List Node → List Formula
 formulas_from fs [] = fs
 formulas_from fs (n ∷ nodes) = formulas_from (fs ++ formula_of fs n ∷ []) nodes
@@ -80,7 +80,7 @@ MOST = 262146
 abbrev pub PassesLimit : (most count nodes : ℕ) → Type 0
 PassesLimit most count nodes = (0 < nodes) × (most < count + nodes)
 
--- what was there stands under its id, and so many nodes were added
+-- what was there is under its id, and so many nodes were added
 pub record Grew (old new : List Formula) (nodes : ℕ) : Type 0 where
   pub keeps : (i : ℕ) (f : Formula) → slice_get old i ≡ Some f → slice_get new i ≡ Some f
   pub count : length new ≡ length old + nodes
@@ -91,7 +91,8 @@ pub record IsAdded (most : ℕ) (old new : List Formula) (id : ExprId) (m : Made
   pub grew : Grew old new m.nodes
   pub within : PassesLimit most (length old) m.nodes → ⊥
 
--- what adding leaves. NodeLimit comes just where the limit would be passed; a refusal leaves the arena unchanged
+-- what adding leaves. NodeLimit is answered just if the limit would be passed; a refusal leaves the arena
+-- unchanged
 abbrev pub Adds : (most : ℕ) → (old new : List Node) → Result ExprId ExprFault → Made Formula → Type 0
 Adds most old new (Ok id) m = IsAdded most (arena old) (arena new) id m
 Adds most old new (Err fault.NodeLimit) m = (new ≡ old) × PassesLimit most (length (arena old)) m.nodes

@@ -14,7 +14,7 @@ nodes_of kept = map (λ (k : Kept). k.node) kept
 abbrev pub AreOverEarlier : List Node → Type 0
 AreOverEarlier nodes = (k : ℕ) (n : Node) → slice_get nodes k ≡ Some n → LiesIn (k + 2) n
 
--- beside each node stand the leaves that its formula names
+-- beside each node are the leaves that its formula names
 abbrev pub KnowsReads : List Kept → Type 0
 KnowsReads kept =
     (k : ℕ) (x : Kept) → slice_get kept k ≡ Some x

@@ -27,8 +27,8 @@ struct Kept {
     reads: Reads,
 }
 
-/// Bit expressions, folded as they are made. The two constants stand in every arena, as ids 0 and 1. Contracts
-/// see the list of the nodes behind them.
+/// Bit expressions, folded as they are made. The two constants are in every arena, as ids 0 and 1. Contracts
+/// see the list of the nodes after them.
 #[derive(Drop)]
 pub struct Exprs {
     kept: Vec<Kept>,

@@ -4,7 +4,7 @@ use crate::arena::Exprs;
 use crate::node::ExprId;
 use pld_base::{ListOf, Place};
 
-/// Where a signal is 1, and where it may be either; of its complement, where `complement` says so.
+/// If a signal is 1, and if it may be either; of its complement, where `complement` says so.
 #[derive(Clone, Copy, PartialEq, Eq)]
 pub struct Function {
     pub one: ExprId,
@@ -19,11 +19,11 @@ pub struct Control {
     pub place: Place,
 }
 
-/// What is asked of an assigned cell. `name` is the signal's number in the order of declaration, `place` its
-/// first data target. `negated` says that the name is the complement of the pin, `buffer` that the pin equals
-/// Q, and `raw` that the function is of the register's input itself. Where a register is `free`, its pin may as well
-/// equal the complement of a Q that is stored so; its `buffer` is true. A register without a reset or preset of its own
-/// has that of the register of least `name` that has one, else 0.
+/// What is asked of an assigned cell. `name` is the signal's number in the order of declaration, `place` its first data
+/// target. `negated` says that the name is the complement of the pin, `buffer` that the pin equals Q, and `raw` that
+/// the function is of the register's input itself. If a register is `free`, its pin may as well equal the complement of
+/// a Q that is stored so; its `buffer` is true. A register without a reset or preset of its own has that of the
+/// register of least `name` that has one, else 0.
 #[derive(Clone, Copy, PartialEq, Eq)]
 pub struct CellWanted {
     pub cell: u8,
@@ -40,9 +40,9 @@ pub struct CellWanted {
     pub preset: Option<Control>,
 }
 
-/// Bit expressions with the functions of the nodes, from node 0, and of the assigned cells. `pair_of_pin` has
-/// at p the pair of columns that carries pin p or the cell on it, `pair_of_cell` at c the pair that carries
-/// cell c, and 255 where there is none.
+/// Bit expressions with the functions of the nodes, from node 0, and of the assigned cells. `pair_of_pin` has at p the
+/// pair of columns that carries pin p or the cell on it, `pair_of_cell` at c the pair that carries cell c, and 255 if
+/// there isn't one.
 #[derive(Drop)]
 pub struct Netlist {
     pub exprs: Exprs,

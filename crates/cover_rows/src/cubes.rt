@@ -5,8 +5,8 @@ ghost use Rattle.std.specs.Prelude.{◌≤◌};
 use covers::Cube;
 use test_rows::Found;
 
-/// A cube as a row of a PLA file: at the place of a variable `1` or `0` where it is asked, `-` where it isn't; and `x`
-/// where it is asked to be both.
+/// A cube as a row of a PLA file: at the place of a variable `1` or `0` if it is asked, `-` if it isn't; and `x` if it
+/// is asked to be both.
 pub(crate) fn cube_of(row: &str) -> Cube {
     let mut cube = Cube::full();
     for (place, byte) in row.as_bytes().iter().enumerate() {
@@ -22,7 +22,7 @@ pub(crate) fn cube_of(row: &str) -> Cube {
     cube
 }
 
-/// Parts what comes from what stands there, if anything does.
+/// Parts what results from what is there, if anything does.
 pub(crate) fn put_blank(found: &mut Found) {
     if !found.bytes().is_empty() {
         found.text(" ")

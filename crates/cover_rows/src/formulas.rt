@@ -71,7 +71,7 @@ fn joined(sign: u8, left: ExprId, right: ExprId) -> Node
     }
 }
 
-/// The formula of a text of letters, each perhaps behind `!`, with `&`, `#` and `$` between them from the left.
+/// The formula of a text of letters, each perhaps after `!`, with `&`, `#` and `$` between them from the left.
 #[tactic(auto, using(bit_expr::proofs::ArenaLists::arena_count))]
 pub(crate) fn formula_of(alloc: Global, text: &str) -> Option<Formula> {
     let mut exprs = Exprs::new(alloc);

@@ -1,11 +1,11 @@
-//! Functions of some inputs, told by number.
+//! Functions of some inputs, given by number.
 
 ghost use Rattle.std.specs.Prelude.{◌≤◌};
 
 /// A function of some inputs: input v is bit v of a point.
 #[derive(Drop)]
 pub(crate) enum Function {
-    /// 1 where the mask has a bit for the number of inputs that are 1.
+    /// 1 if the mask has a bit for the number of inputs that are 1.
     Count(u32),
     /// A bit of the sum of two numbers of half the inputs each; a last input that is left is carried in.
     Sum(u8),
@@ -53,7 +53,8 @@ impl Function {
     }
 }
 
-/// A function of a kind: a count's mask is told in binary, a bit in decimal, the two masks of points in hexadecimal.
+/// A function of a kind: a count's mask is reported in binary, a bit in decimal, the two masks of points in
+/// hexadecimal.
 pub(crate) fn function_of(kind: &str, told: &str) -> Option<Function> {
     match kind {
         "count" => Some(Function::Count(u32::from_str_radix(told, 2).ok()?)),

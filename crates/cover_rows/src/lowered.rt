@@ -100,7 +100,7 @@ fn shared(alloc: Global) -> Option<Formula> {
     Some(Formula { exprs, bit })
 }
 
-/// A row of 200,000 operators, each of which stands one deeper than the one before.
+/// A row of 200,000 operators, each of which is one deeper than the one before.
 fn deep(alloc: Global) -> Option<Formula> {
     let mut exprs = Exprs::new(alloc);
     let leaf = exprs.add(Node::Leaf(Leaf::Pin(1))).ok()?;

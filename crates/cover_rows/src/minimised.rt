@@ -10,7 +10,7 @@ use covers::{Cube, CubePool, Range, minimise};
 use std::alloc::Global;
 use test_rows::Found;
 
-/// Appends the cube; false where there is no room, or it asks a variable from `vars` on.
+/// Appends the cube; false if there is no room, or it asks a variable from `vars` on.
 fn push_below(pool: &mut CubePool, cube: Cube, vars: u8) -> bool
     requires { vars ≤ 22 }
     ensures kept { take (length pool.old.cubes) pool.new.cubes ≡ pool.old.cubes }
@@ -23,7 +23,7 @@ fn push_below(pool: &mut CubePool, cube: Cube, vars: u8) -> bool
     true
 }
 
-/// Appends each point with the value as a cube; false where there is no room.
+/// Appends each point with the value as a cube; false if there is no room.
 fn push_points(pool: &mut CubePool, function: &Function, vars: u8, wanted: Value) -> bool
     requires { vars ≤ 8 }
     ensures kept { take (length pool.old.cubes) pool.new.cubes ≡ pool.old.cubes }
@@ -44,7 +44,7 @@ fn push_points(pool: &mut CubePool, function: &Function, vars: u8, wanted: Value
     true
 }
 
-/// Appends a function's needed and allowed points; None where there is too little room for a call.
+/// Appends a function's needed and allowed points; None if there is too little room for a call.
 fn pushed(pool: &mut CubePool, function: &Function, vars: u8) -> Option<(Range, Range)>
     requires { vars ≤ 8 }
     ensures needed { IfSome result (λ r. LiesIn pool.new r.0) }
@@ -69,7 +69,7 @@ fn pushed(pool: &mut CubePool, function: &Function, vars: u8) -> Option<(Range, 
     Some((Range { from, to: middle }, Range { from, to }))
 }
 
-/// The rows of a minimised function; None where there is no room for the call.
+/// The rows of a minimised function; None if there is no room for the call.
 fn rows_of(alloc: Global, function: &Function, vars: u8) -> Option<usize>
     requires { vars ≤ 8 }
 {
@@ -83,8 +83,8 @@ fn rows_of(alloc: Global, function: &Function, vars: u8) -> Option<usize>
     Some(rows.to - rows.from)
 }
 
-/// How many rows the cover of a function has. A text says what it is, how many inputs it has, its kind, and what is told
-/// of it.
+/// How many rows the cover of a function has. A text says what it is, how many inputs it has, its kind, and what is
+/// reported of it.
 fn known_rows(alloc: Global, text: &str) -> Option<usize> {
     let mut parts = text.split('|').skip(1);
     let vars = parts.next()?.trim().parse::<u8>().ok()?;
@@ -102,7 +102,7 @@ pub(crate) fn put_known(alloc: Global, text: &str, found: &mut Found) -> Option<
     Some(())
 }
 
-/// The least number of rows, which stands behind the function, if its cover has so many or one more; else how many it has.
+/// The least number of rows, which follows the function, if its cover has so many or one more; else how many it has.
 pub(crate) fn put_near(alloc: Global, text: &str, found: &mut Found) -> Option<()> {
     let (function, least) = text.rsplit_once('|')?;
     let least = least.trim().parse::<usize>().ok()?;

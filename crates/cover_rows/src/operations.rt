@@ -11,7 +11,7 @@ use covers::{
 use std::alloc::Global;
 use test_rows::Found;
 
-/// Appends the rows; None where they ask a variable from `vars` on, or leave too little room for a call.
+/// Appends the rows; None if they ask a variable from `vars` on, or leave too little room for a call.
 fn pushed(pool: &mut CubePool, rows: &str, vars: u8) -> Option<Range>
     requires { vars ≤ 22 }
     ensures order { IfSome result (λ r. r.from ≤ r.to) }

@@ -34,7 +34,7 @@ fn put_made(made: Cube, wanted: Cube, found: &mut Found) {
 }
 
 /// Whether two cubes meet, the first lies in the second, and it is empty. All literals of both, and those of the first
-/// alone, are put where they are not what the row says.
+/// alone, are put if they are not what the row says.
 pub(crate) fn put_pair(text: &str, found: &mut Found) -> Option<()> {
     let mut parts = text.split('|').skip(1);
     let first = cube_of(parts.next()?)?;
@@ -71,7 +71,7 @@ fn asking(yes: u32) -> Cube {
     Cube { yes, no: 0 }
 }
 
-/// A pool of three cubes, of which the first and the last change places: the last, those before it, what is left behind
+/// A pool of three cubes, of which the first and the last change places: the last, those before it, what is left after
 /// the mark of one cube, and whether the room is as it should be on the way.
 pub(crate) fn put_pool(alloc: Global, found: &mut Found) -> Option<()> {
     let Ok(mut pool) = CubePool::with_room(alloc, 3) else {

@@ -51,7 +51,7 @@ fn fuses_of_forms(alloc: Global) -> Result<Vec<bool>, AllocError> {
     device_fuses::<Sample>(alloc, &plan(alloc)?, &FORMS)
 }
 
-/// Fuses in rows of eight columns, and behind the array of six rows without a part.
+/// Fuses in rows of eight columns, and after the array of six rows without a part.
 fn put_levels(fuses: &[bool], found: &mut Found) {
     for (place, fuse) in fuses.iter().enumerate() {
         if place > 0 && place <= 48 && place % 8 == 0 {

@@ -8,7 +8,7 @@ use Rattle.covers.proofs.Common.{bit_at, bit_not, w32, trailing_zeros, and_parts
 pub some_bit : (n : ℕ) → n < 2 ^ 32 → 0 < n → (v : ℕ) × (v < 32) × (bit_at n v ≡ 1)
 some_bit n low some = let first = bit_at-trailing_zeros w32 n some low in (trailing_zeros w32 n, first.0, first.1)
 
--- a bit of a number below 2 ^ vars stands below vars
+-- a bit of a number below 2 ^ vars is below vars
 pub bit_below : (n vars v : ℕ) → n < 2 ^ vars → bit_at n v ≡ 1 → v < vars
 bit_below n vars v low one =
     elim (cases_lt v vars) [
@@ -16,7 +16,7 @@ bit_below n vars v low one =
       | inr past ↦ absurd (let none = bit_at_above n vars v low past in omega (arith, none, one))
     ]
 
--- a bit that is taken away where the second number has it
+-- a bit that is taken away if the second number has it
 pub bit_at_without : (n m v : ℕ) → m < 2 ^ 32 → v < 32 → bit_at (bit_and n (bit_not w32 m)) v ≡ min (bit_at n v) (1 - bit_at m v)
 bit_at_without n m v low below = bit_at_and n (bit_not w32 m) v ∙ ap (λ b. min (bit_at n v) b) (bit_at_not w32 m v low below)
 

@@ -3,7 +3,7 @@ use Rattle.std.proofs.Common.{◌≡◌, ℕ, ◌+◌, ◌-◌, ◌<◌, ◌≤�
 use Rattle.covers.proofs.Common.{list_any, or_cases, or_left, or_right, get_or_from_slice_get, take-take, take-append-le, drop-append-le, length-take, drop_all, get_or-take, length-append, between_is, between_to_end, All-push, All-nil, All-get_or, between_none, between_more, length-between, get_or-between, list_any-append, list_any_at, Cube, has_point, covers, full_cube, lies_in, AsksBelow, AllAskBelow, Grows, CoversCube, CoversList, IsPrime, IsExpanded}
 use Rattle.covers.proofs.CubePoints.{has_point_grows, lies_in_points}
 
--- ---- what stands below the rows
+-- ---- what is below the rows
 
 -- a range of the old cubes is as before
 pub slice_kept : (old new : List Cube) (a b : ℕ) → take (length old) new ≡ old → b ≤ length old → slice_range new a b ≡ slice_range old a b

@@ -33,7 +33,7 @@ All-swap P rows i j li lj all =
 
 -- ---- one row tried
 
--- every needed point is in the rows before the last where the last row's are
+-- every needed point is in the rows before the last if the last row's are
 pub others_cover : (rows needed : List Cube) (m vars : ℕ) (last : Cube) → m + 1 ≡ length rows → get_or rows m full_cube ≡ last → CoversList rows needed vars → CoversCommon (take m rows) needed last vars → CoversList (take m rows) needed vars
 others_cover rows needed m vars last long is all common = λ p len has.
     let found = some_of rows p (all p len has) in

@@ -10,7 +10,7 @@ grows-refl vars c = λ v lt. (omega arith, omega arith)
 pub grows-trans : (vars : ℕ) (c d e : Cube) → Grows vars c d → Grows vars d e → Grows vars c e
 grows-trans vars c d e f g = λ v lt. (omega (arith, f v lt, g v lt), omega (arith, f v lt, g v lt))
 
--- a cube lies where a larger one does
+-- a cube lies if a larger one does
 pub inside_grows : (allowed : List Cube) (vars : ℕ) (c d : Cube) → Grows vars c d → CoversCube allowed d vars → CoversCube allowed c vars
 inside_grows allowed vars c d grows all = λ p len is. all p len (has_point_grows c d p (rw len grows) is)
 

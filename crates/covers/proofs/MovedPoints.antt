@@ -1,4 +1,4 @@
--- A point that is moved into a cube: a cover has it exactly where the cofactor by that cube has the point.
+-- A point that is moved into a cube: a cover has it exactly if the cofactor by that cube has the point.
 use Rattle.std.proofs.Common.{◌≡◌, ℕ, zero, suc, ◌+◌, ◌-◌, ◌^◌, ◌<◌, ◌≤◌, min, max, Bool, true, false, ◌==◌, if◌then◌else◌, inl, inr, List, [], ◌∷◌, length, refl, sym, ap, ◌∙◌, arith, bit_or}
 use Rattle.covers.proofs.Common.{bit_at, bit_not, w32, cases_Bool, nat_tests, or_lt, bit_at-lt, bit_at_or, bits, is_on, length-bits, is_on-bits, same_levels, Cube, fits, has_point, covers, meets, without, AsksBelow, cofactor_of, moved_number}
 use Rattle.covers.proofs.CubeBits.{bit_at_without, meets_each, without_lt}
@@ -82,7 +82,7 @@ same_bool true b f g = sym (f refl)
 same_bool false true f g = g refl
 same_bool false false f g = refl
 
--- a cube of the cofactor has the moved point where it has the point
+-- a cube of the cofactor has the moved point at which it has the point
 off_point : (by d : Cube) (p : List Bool) → length p ≤ 32 → by.yes < 2 ^ 32 → by.no < 2 ^ 32 → meets by d ≡ true → has_point (without by d) (moved by p) ≡ has_point (without by d) p
 off_point by d p few low-yes low-no meet = same_bool (has_point (without by d) (moved by p)) (has_point (without by d) p)
     (λ is. has_point_each (without by d) p (λ v lt.
@@ -112,7 +112,7 @@ covers-cofactor by (d ∷ cubes) p few below inside =
       | inr never ↦ rw (here, never, rest) refl
     ]
 
--- a cover has the moved point exactly where the cofactor has the point
+-- a cover has the moved point exactly if the cofactor has the point
 pub covers_moved : (by : Cube) (cubes : List Cube) (p : List Bool) → length p ≤ 32 → AsksBelow (length p) by → IsSingle by → covers cubes (moved by p) ≡ covers (cofactor_of by cubes) p
 covers_moved by cubes p few below single =
     let len = length-moved by p in

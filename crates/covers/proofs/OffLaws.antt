@@ -1,4 +1,4 @@
--- Off cubes: a cube with a point of one is not allowed, and where they are complete, one without is.
+-- Off cubes: a cube with a point of one is not allowed, and if they are complete, one without is.
 use Rattle.std.proofs.Common.{◌≡◌, ℕ, ◌≤◌, Bool, true, false, not, inl, inr, List, [], ◌∷◌, ◌++◌, length, sym, ◌∙◌, arith, All}
 use Rattle.covers.proofs.Common.{list_any, and_from, and_parts, not-true, not-false, or_cases, or_parts, All-head, All-tail, list_any-append, bits, length-bits, Cube, has_point, covers, is_empty, meets, union, AsksBelow, AllAskBelow, CoversAll, CoversCube, IsApart}
 use Rattle.covers.proofs.CubeBits.{single_each}

@@ -18,7 +18,7 @@ take-whole xs n is = rw is (sym (take_all (length xs) xs (omega arith)))
 pub take-grown : (old new : List Cube) (low : ℕ) → low ≤ length old → take (length old) new ≡ old → take low new ≡ take low old
 take-grown old new low le kept = sym (take-take low (length old) new le) ∙ ap (λ (xs : List Cube). take low xs) kept
 
--- what moved down stands past the place, and what stands below is as before
+-- what moved down is past the place, and what is below is as before
 pub moved_parts : (old new : List Cube) (place from : ℕ) → place ≤ length old → new ≡ take place old ++ drop from old
     → (take place new ≡ take place old) × (drop place new ≡ drop from old) × (place ≤ length new)
 moved_parts old new place from le is =

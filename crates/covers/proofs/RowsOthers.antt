@@ -44,7 +44,7 @@ other_covers rows k p lt other =
 
 -- ---- two rows each in the other's place
 
--- where the row of a place stood before the exchange
+-- the place that the row of a place had before the exchange
 abbrev pub exchanged : ℕ → ℕ → ℕ → ℕ
 exchanged i j k = if k == i then j else (if k == j then i else k)
 

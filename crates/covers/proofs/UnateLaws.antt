@@ -148,14 +148,14 @@ splits_less vars v by cubes few below lt binate asks-it =
 
 -- ---- room for the recursion
 
--- for one more level, where the cover can be split less often
+-- for one more level, if the cover can be split less often
 pub split_room : (n m len part spare left : ℕ) → m < n → part ≤ len → n * len ≤ spare → left + part ≡ spare → m * part ≤ left
 split_room n m len part spare left less few room rest =
     let a : suc m * part ≤ n * len = mul-le (suc m) part n len (omega arith) few in
     let b = suc-mul m part in
     omega (arith, a, b)
 
--- for one cofactor, where the cover can be split at all
+-- for one cofactor, if the cover can be split at all
 pub part_room : (vars v from to spare : ℕ) (cubes : List Cube) → v < vars → bit_at (binate_of (asked_of cubes)) v ≡ 1 → splits vars cubes * (to - from) ≤ spare → to ≤ from + spare
 part_room vars v from to spare cubes lt binate room =
     let some : ones vars 0 < splits vars cubes = ones_less vars 0 (binate_of (asked_of cubes)) v (λ w below. let none = bit_at-zero w in omega (arith, none)) lt (bit_at-zero v) binate in

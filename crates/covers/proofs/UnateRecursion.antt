@@ -1,5 +1,5 @@
--- The unate recursion: a cover has every point where both branches have, and a point that a branch misses is moved to
--- one that the cover misses.
+-- The unate recursion: a cover has every point at which both branches have, and a point that a branch misses is moved to one
+-- that the cover misses.
 use Rattle.std.proofs.Common.{◌≡◌, ◌≢◌, ℕ, zero, suc, ◌-◌, ◌^◌, ◌<◌, ◌≤◌, min, Bool, true, false, not, ◌==◌, eqb, if◌then◌else◌, ◌⊎◌, inl, inr, List, [], ◌∷◌, ◌++◌, length, slice_range, Option, None, Some, refl, sym, ap, ◌∙◌, arith, bit_and, All, IsTrue, ◌↔◌, IfSome}
 use Rattle.covers.proofs.Common.{bit_at, list_any, cases_eq, and_parts, and_cases, or_cases, or_parts, or_left, or_right, eqb-true, eqb-false, false≢true, false_from_ne_true, All-head, All-tail, pow_pos, bit_at-lt, bit_at-zero, bit_at_or, bit_at_and, bits, is_on, length-bits, Cube, fits, has_point, covers, full_cube, is_empty, is_full, literal_cube, meets, AsksBelow, AllAskBelow, CoversAll, CoversCube, cofactor_of, Misses, FindsMissed, FindsOutside, IsOutside, moved_number, asked_of, binate_of, opposite_of, branch_of, splits}
 use Rattle.std.specs.Option.{is_some}
@@ -138,7 +138,7 @@ back_covers asked (c ∷ cubes) v p few low-yes low-no small binate within is =
       | inr later ↦ or_right (has_point c p) (covers cubes p) (back_covers asked cubes v p few low-yes low-no small binate (All-tail (AsksWithin asked) c cubes within) later)
     ]
 
--- every point is in the cover where both branches have every point
+-- every point is in the cover if both branches have every point
 pub both_branches : (cubes : List Cube) (vars v : ℕ) → vars ≤ 32 → AllAskBelow vars cubes → v < vars → bit_at (binate_of (asked_of cubes)) v ≡ 1
     → ((level : Bool) → CoversAll (cofactor_of (branch_of (asked_of cubes) v level) cubes) vars) → CoversAll cubes vars
 both_branches cubes vars v few below lt binate each = λ p len.
@@ -162,7 +162,7 @@ missed_moved by cubes vars m few below single misses =
       missed = rw (bits-moved by vars m few (lt_32 by.no vars below.1 few) single) (covers_moved by cubes (bits vars m) (omega (arith, len, few)) (rw len below) single ∙ misses.missed);
     }
 
--- where no variable is binate, a cube that asks something has no point at which each variable is at the level that is not asked
+-- if no variable is binate, a cube that asks something has no point at which each variable is at the level that is not asked
 apart_opposite : (asked c : Cube) → asked.yes < 2 ^ 32 → asked.no < 2 ^ 32 → c.yes < 2 ^ 32 → c.no < 2 ^ 32 → binate_of asked ≡ 0 → AsksWithin asked c → is_full c ≡ false → meets (opposite_of asked) c ≡ false
 apart_opposite asked c low-yes low-no c-yes c-no unate within some = false_from_ne_true (meets (opposite_of asked) c) (λ meet.
     elim (and_cases (eqb c.yes 0) (eqb c.no 0) some) [
@@ -244,7 +244,7 @@ pub unate_answer : (vars found : ℕ) (asked by : Cube) (cubes : List Cube) (ful
 unate_answer vars found asked by cubes full few below full-is none is unate by-is found-is =
     rw (found-is, by-is, is) (unate_missed cubes vars (omega arith) below (sym full-is ∙ none) (rw is at unate))
 
--- where the first branch has every point, the second decides
+-- if the first branch has every point, the second decides
 pub second_answer : (vars v : ℕ) (asked : Cube) (cubes : List Cube) (answer : Option ℕ)
     → vars ≤ 22 → v < vars → AllAskBelow vars cubes → asked ≡ asked_of cubes → bit_at (binate_of asked) v ≡ 1
     → CoversAll (cofactor_of (branch_of asked v false) cubes) vars
@@ -275,7 +275,7 @@ cube_answer cubes cube vars (Some m) false found e = (λ is. absurd cc, λ all. 
 pub empty_answer : (cubes : List Cube) (cube : Cube) (vars : ℕ) → vars ≤ 22 → AsksBelow vars cube → is_empty cube ≡ true → CoversCube cubes cube vars
 empty_answer cubes cube vars few below empty = λ p len is. absurd (empty_has_none cube p (omega (arith, len, few)) (rw len below) empty is)
 
--- the cofactor by a cube has every point where the cover has those of the cube
+-- the cofactor by a cube has every point at which the cover has those of the cube
 pub cofactor_all : (vars from to : ℕ) (cube : Cube) (old new cubes : List Cube) → vars ≤ 22 → AsksBelow vars cube
     → new ≡ old ++ cofactor_of cube cubes → from ≡ length old → to ≡ length new
     → CoversAll (slice_range new from to) vars → CoversCube cubes cube vars

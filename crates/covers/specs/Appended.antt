@@ -3,7 +3,7 @@ use Rattle.std.specs.Prelude.{◌≡◌, ◌+◌, length, take}
 use Rattle.covers.specs.declared.pool.Range.{Range}
 use Rattle.covers.specs.Pool.{Pool}
 
--- the range is what stands past the old cubes, and they are as before; it was taken from spare
+-- the range is what is past the old cubes, and they are as before; it was taken from spare
 pub record Appends (old new : Pool) (range : Range) : Type 0 where
   pub from : range.from ≡ length old.cubes
   pub to : range.to ≡ length new.cubes

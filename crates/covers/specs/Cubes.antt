@@ -1,4 +1,4 @@
--- Cubes: products of literals as sets of points (sum-of-products form; which numbers stand for a cube is this
+-- Cubes: products of literals as sets of points (sum-of-products form; which numbers represent a cube is this
 -- project's rule). A point is a list of levels, variable 0 first.
 use Rattle.std.specs.Prelude.{ℕ, suc, ◌==◌, ◌<◌, ◌≤◌, ◌^◌, Bool, true, false, not, ◌&&◌, List, [], ◌∷◌, bit_and, bit_or, All}
 use Rattle.std.specs.Int.{bit_at, bit_not, w32}

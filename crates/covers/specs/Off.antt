@@ -23,7 +23,7 @@ pub record IsOff (allowed : List Cube) (vars : ℕ) (off : OffCubes) : Type 0 wh
   pub below : AllAskBelow vars (off_list off)
   pub complete : off.complete ≡ true → CoversAll (allowed ++ off_list off) vars
 
--- the off cubes that were found stand in the pool behind the allowed ones, and there is room for all that may come
+-- the off cubes that were found are in the pool after the allowed ones, and there is room for all that may occur
 pub record HasFound (vars : ℕ) (allowed : Range) (off : OffCubes) (pool : Pool) : Type 0 where
   pub within : LiesIn pool allowed
   pub behind : slice_range pool.cubes allowed.from (length pool.cubes) ≡ cubes_in pool allowed ++ off_list off

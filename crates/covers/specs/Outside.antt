@@ -17,12 +17,12 @@ pub record IsOutside (cubes : List Cube) (cube : Cube) (vars : ℕ) (point : ℕ
   pub inside : has_point cube (bits vars point) ≡ true
   pub missed : covers cubes (bits vars point) ≡ false
 
--- a point that the cover misses, or None where it has every point
+-- a point that the cover misses, or None if it has every point
 abbrev pub FindsMissed : List Cube → ℕ → Option ℕ → Type 0
 FindsMissed cubes vars None = CoversAll cubes vars
 FindsMissed cubes vars (Some point) = Misses cubes vars point
 
--- a point of the cube that the cover misses, or None where it has every point of the cube
+-- a point of the cube that the cover misses, or None if it has every point of the cube
 abbrev pub FindsOutside : List Cube → Cube → ℕ → Option ℕ → Type 0
 FindsOutside cubes cube vars None = CoversCube cubes cube vars
 FindsOutside cubes cube vars (Some point) = IsOutside cubes cube vars point

@@ -8,7 +8,7 @@ use Rattle.covers.specs.Prime.{IsPrimeIrredundant}
 use Rattle.covers.specs.declared.allowed.Allowed.{Allowed}
 use Rattle.covers.specs.Off.{IsOff}
 
--- the lists stand in the pool before a place, and from there on prime and irredundant rows between them
+-- the lists are in the pool before a place, and from there on prime and irredundant rows between them
 pub record HasRows (needed : Range) (allowed : Allowed) (vars from : ℕ) (pool : Pool) : Type 0 where
   pub within : from ≤ length pool.cubes
   pub needed_order : needed.from ≤ needed.to

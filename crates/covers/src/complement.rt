@@ -1,6 +1,6 @@
 //! The complement of a cube, as a cover.
 //!
-//! The idea is De Morgan's law: a point is outside the cube where it has the opposite of some literal. So each literal
+//! The idea is De Morgan's law: a point is outside the cube if it has the opposite of some literal. So each literal
 //! gives one cube, of its opposite alone, in the order of variables.
 
 ghost use Rattle.std.specs.Prelude.{◌≡◌, ◌+◌, ◌-◌, ◌*◌, ◌<◌, ◌≤◌, Bool, List, false, not, ◌++◌, length};

@@ -1,7 +1,7 @@
 //! Whether a cover has every point of a cube, and if not, one that it misses.
 //!
 //! The idea: at the points of the cube the cover says what its cofactor by the cube says, and that asks none of the
-//! cube's variables. So the cover has every point of the cube where the cofactor has every point, and a point that the
+//! cube's variables. So the cover has every point of the cube if the cofactor has every point, and a point that the
 //! cofactor misses, moved into the cube, is one that the cover misses.
 
 ghost use Rattle.std.specs.Prelude.{◌≡◌, ◌+◌, ◌-◌, ◌*◌, ◌≤◌, ◌↔◌, IsTrue, length};
@@ -15,7 +15,7 @@ use crate::cube::Cube;
 use crate::pool::{CubePool, Range};
 use crate::tautology::{missed_point, moved_into};
 
-/// A point of the cube that no cube of the cover has, or None where the cover has every point of the cube. Bit v of the
+/// A point of the cube that no cube of the cover has, or None if the cover has every point of the cube. Bit v of the
 /// point is the level of variable v. Takes no memory.
 pub fn point_outside(pool: &mut CubePool, cover: Range, cube: Cube, vars: u8) -> Option<u32>
     requires vars { vars ≤ 22 }

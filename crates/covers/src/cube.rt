@@ -91,7 +91,7 @@ impl Cube {
         }
     }
 
-    /// The literals here that are none of `other`'s. Takes no memory.
+    /// The literals here that aren't among `other`'s. Takes no memory.
     pub fn without(self, other: Cube) -> Cube
         ensures { result ≡ without other self }
     {

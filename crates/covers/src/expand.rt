@@ -1,6 +1,6 @@
 //! Expansion: each needed cube is made as large as the allowed cover lets it be.
 //!
-//! The idea is that of espresso's expand. A literal can be left out of a cube where the allowed cover has all of the
+//! The idea is that of espresso's expand. A literal can be left out of a cube if the allowed cover has all of the
 //! larger cube; what is left once each literal was tried is prime, since a literal that a cube needs a larger one needs
 //! too. A needed cube that already lies in a row gets none of its own.
 //!
@@ -23,7 +23,7 @@ use crate::pool::{CubePool, Range};
 use crate::rows::has_row;
 use crate::votes::{Marks, mark_covered, most_voted, votes};
 
-/// The cube without the literal, where the allowed cover has all of that.
+/// The cube without the literal, if the allowed cover has all of that.
 fn expanded_at(pool: &mut CubePool, allowed: &Allowed, cube: Cube, tried: Literal, vars: u8) -> Cube
     requires variable { tried.variable < vars }
     requires vars { vars ≤ 22 }
@@ -93,7 +93,7 @@ fn expanded(pool: &mut CubePool, allowed: &Allowed, votes: &[u32; 32], cube: Cub
     found
 }
 
-/// Appends each needed cube, expanded, but for those that lie in a row.
+/// Appends each needed cube, expanded, except for those that lie in a row.
 pub(crate) fn push_expanded(pool: &mut CubePool, needed: Range, allowed: &Allowed, vars: u8)
     requires vars { vars ≤ 22 }
     requires needed { LiesIn pool.old needed }

@@ -1,10 +1,10 @@
 //! Irredundance: rows that the others make up for are left out.
 //!
-//! The idea: a row can be left out where the other rows have each needed point of it, since all rows together have every
-//! needed point. So the question is asked only of the needed cubes that meet the row, and of each for what it has in
-//! common with it: mostly one other row has all of that, as the row that the needed cube became. The rows stand at the end of the pool. Each is put last in its turn, so that the others are one
-//! range before it and no second list is made; where it can go, the pool is cut before it. A row that had to stay has to
-//! stay in a shorter list too, so one pass is enough.
+//! The idea: a row can be left out if the other rows have each needed point of it, since all rows together have every needed
+//! point. So the question is asked only of the needed cubes that meet the row, and of each for what it has in common with
+//! it: mostly one other row has all of that, as the row that the needed cube became. The rows are at the end of the pool.
+//! Each is put last in its turn, so that the others are one range before it and no second list is made; if it can go, the
+//! pool is cut before it. A row that had to stay has to stay in a shorter list too, so one pass is enough.
 //!
 //! Names: `from` is the place of the first row, `last` the row that is tried.
 

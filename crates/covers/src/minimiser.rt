@@ -1,8 +1,8 @@
 //! A prime and irredundant cover between a needed and an allowed one.
 //!
 //! The idea is espresso's: expand each needed cube to a prime one, then leave out the rows that the others make up for; and
-//! where the rows are few, reduce and expand them again and again, which may leave fewer. The contract is its checker's: the rows have every needed point, and only
-//! allowed ones.
+//! if the rows are few, reduce and expand them again and again, which may leave fewer. The contract is its checker's: the
+//! rows have every needed point, and only allowed ones.
 
 ghost use Rattle.std.specs.Prelude.{◌≡◌, ◌+◌, ◌-◌, ◌*◌, ◌≤◌, length, max};
 ghost use Rattle.covers.specs.Cubes.{AllAskBelow};

@@ -4,7 +4,7 @@ ghost use Rattle.std.specs.Prelude.{◌≡◌, ◌+◌, ◌-◌, ◌≤◌, ◌+
 
 use crate::pool::{CubePool, Mark};
 
-/// Moves what stands from `from` on to the place, and lets go what stood between: at least as many cubes.
+/// Moves what is from `from` on to the place, and lets go what was between: at least as many cubes.
 pub(crate) fn move_down(pool: &mut CubePool, place: usize, from: usize)
     requires order { place ≤ from }
     requires from { from ≤ length pool.old.cubes }
@@ -21,7 +21,7 @@ pub(crate) fn move_down(pool: &mut CubePool, place: usize, from: usize)
     });
 }
 
-/// Copies what stands from `from` on to the end.
+/// Copies what is from `from` on to the end.
 pub(crate) fn copy_rows(pool: &mut CubePool, from: usize)
     requires from { from ≤ length pool.old.cubes }
     requires spare { length pool.old.cubes - from ≤ pool.old.spare }

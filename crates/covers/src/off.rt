@@ -1,9 +1,9 @@
 //! Cubes that have no allowed point.
 //!
-//! The idea is espresso's: a cube with a point of an off cube is not allowed, and where the off cubes have every point that
-//! is not allowed, one without is. Both are seen from the bits alone, where the allowed cover has to be split. So as many
-//! as there is place for are found before any literal is tried: a point that is neither allowed nor in an off cube, made as
-//! large a cube as meets no allowed one. Where there is none left, the off cubes are complete.
+//! The idea is espresso's: a cube with a point of an off cube is not allowed, and if the off cubes have every point that is
+//! not allowed, one without is. Both are seen from the bits alone, if the allowed cover has to be split. So as many as
+//! there is place for are found before any literal is tried: a point that is neither allowed nor in an off cube, made as
+//! large a cube as meets no allowed one. If there isn't one left, the off cubes are complete.
 
 ghost use Rattle.std.specs.Prelude.{◌≡◌, ◌+◌, ◌-◌, ◌*◌, ◌<◌, ◌≤◌, ◌∷◌, [], ◌++◌, false, length, not, take, true};
 ghost use Rattle.std.specs.List.{list_any};
@@ -125,7 +125,7 @@ fn find_off(pool: &mut CubePool, allowed: Range, off: &mut OffCubes, vars: u8)
     }
 }
 
-/// Whether there is room to find off cubes: the allowed ones stand last, and there are enough spare.
+/// Whether there is room to find off cubes: the allowed ones are last, and there are enough spare.
 fn has_room(pool: &CubePool, allowed: Range) -> bool
     requires { LiesIn pool.now allowed }
     ensures last { result ≡ true → allowed.to ≡ length pool.now.cubes }

@@ -2,7 +2,7 @@
 //!
 //! The idea is espresso's: rows that are reduced and expanded anew become other prime rows, of which the others may make up
 //! for more. Each pass begins with the rows of the last one, and none makes them more. The passes are made with a copy, and
-//! the first rows stay where it is no shorter than they are. Only few rows are worth it: a device has room for sixteen.
+//! the first rows stay if it is no shorter than they are. Only few rows are worth it: a device has room for sixteen.
 
 ghost use Rattle.std.specs.Prelude.{◌≡◌, ◌+◌, ◌-◌, ◌*◌, ◌≤◌, true, length, take, drop};
 ghost use Rattle.covers.specs.Passes.{HasRows, KeepsFewer};
@@ -51,7 +51,7 @@ fn can_pass(pool: &CubePool, from: usize, allowed: &Allowed) -> bool
     1 < rows && rows <= FEW && count < shares && 72 <= shares - count
 }
 
-/// Puts the rows from `second` on in the place of those from `first` on, where they are fewer.
+/// Puts the rows from `second` on in the place of those from `first` on, if they are fewer.
 fn keep_fewer(pool: &mut CubePool, first: usize, second: usize)
     requires order { first ≤ second }
     requires second { second ≤ length pool.old.cubes }

@@ -79,7 +79,7 @@ impl CubePool {
         self.cubes.push_reserved(cube);
     }
 
-    /// Appends the cubes, and answers where they stand.
+    /// Appends the cubes, and answers their places.
     pub fn push_all(&mut self, cubes: &[Cube]) -> Range
         requires { length cubes.now ≤ self.old.spare }
         ensures from { result.from ≡ length self.old.cubes }

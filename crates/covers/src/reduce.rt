@@ -1,8 +1,8 @@
 //! Reduction: a row asks all that the other rows let it ask.
 //!
-//! The idea is espresso's reduce. A row can be cut in half by a variable where the other rows have each needed point of
+//! The idea is espresso's reduce. A row can be cut in half by a variable if the other rows have each needed point of
 //! one half, and what is left of it is the other. A row so made small can become another prime one, which may take the
-//! place of two. The rows stand at the end of the pool, and each is put last in its turn, as where rows are left out.
+//! place of two. The rows are at the end of the pool, and each is put last in its turn, as where rows are left out.
 //!
 //! Names: `others` is the range of the other rows, `last` the place of the row that is reduced.
 
@@ -23,7 +23,7 @@ struct Against {
     needed: Range,
 }
 
-/// The half of the cube at one level of the variable, where the others have what is needed of the other half.
+/// The half of the cube at one level of the variable, if the others have what is needed of the other half.
 fn reduced_at(pool: &mut CubePool, against: Against, cube: Cube, variable: u8, vars: u8) -> Cube
     requires vars { vars ≤ 22 }
     requires variable { variable < vars }

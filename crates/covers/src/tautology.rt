@@ -1,12 +1,12 @@
 //! Whether a cover has every point.
 //!
-//! The idea is the unate recursion. A cube that asks nothing has every point. Else a unate variable is set to the
-//! level that no cube asks: the cubes that ask it are then of no use, so they go. Where no variable is binate no cube
-//! is left, and the levels chosen are a point that the cover misses. Where one is, the variable that the cubes of most
-//! weight ask splits the rest in two covers, one for each of its levels, and the cover has every point where both have.
-//! So at most as many covers are open at once as there are variables, each no longer than the first. A large cube weighs
-//! more than a small one, since without one literal more it soon asks nothing: over random covers of hundreds of cubes
-//! that halves the number of covers, against the variable that most cubes ask.
+//! The idea is the unate recursion. A cube that asks nothing has every point. Else a unate variable is set to the level
+//! that no cube asks: the cubes that ask it are then of no use, so they go. If no variable is binate no cube is left,
+//! and the levels chosen are a point that the cover misses. If one is, the variable that the cubes of most weight ask
+//! splits the rest in two covers, one for each of its levels, and the cover has every point at which both have. So at
+//! most as many covers are open at once as there are variables, each no longer than the first. A large cube weighs more
+//! than a small one, since without one literal more it soon asks nothing: over random covers of hundreds of cubes that
+//! halves the number of covers, against the variable that most cubes ask.
 //!
 //! Names: `asked` has all literals of the cover, `opposite` each unate variable at the level that is not asked, and
 //! `branch` is that with one level of the variable that splits.
@@ -82,7 +82,7 @@ fn missed_in_branch(
     }
 }
 
-/// A point that the cover misses, or None where it has every point.
+/// A point that the cover misses, or None if it has every point.
 #[cycle(splitting)]
 pub(crate) fn missed_point(pool: &mut CubePool, cover: Range, vars: u8) -> Option<u32>
     requires vars { vars ≤ 22 }

@@ -1,6 +1,6 @@
 //! What a cover asks, variable by variable.
 //!
-//! A variable is binate where some cube asks it at 1 and some cube at 0, and unate where all that ask it ask one level.
+//! A variable is binate if some cube asks it at 1 and some cube at 0, and unate if all that ask it ask one level.
 
 ghost use Rattle.std.specs.Prelude.{◌≡◌, ◌<◌, ◌≤◌, length};
 ghost use Rattle.std.specs.Int.{bit_at};

@@ -3,7 +3,7 @@
 //! Each needed cube that has no row yet votes for the variables at which it is opposite to the cube, since only without
 //! those literals the cube can reach it, and one that is opposite at one variable alone counts before all others. So a
 //! cube grows over the neighbours that still need a row, and away from those that have one. Of the orders that were tried
-//! on random functions this one came nearest to the exact minimum (README.md has the figures).
+//! on random functions this one was nearest to the exact minimum (README.md has the figures).
 //!
 //! Which needed cubes have a row is marked when a row is found, so that no vote looks at the rows again. Nothing rests on
 //! the marks but the order.

@@ -1,4 +1,4 @@
--- No two names have one number; where each pin has a number, names are sound, and no two are one pin.
+-- No two names have one number; if each pin has a number, names are sound, and no two are one pin.
 use Rattle.std.proofs.Common.{◌≡◌, ℕ, ◌<◌, ◌==◌, true, false, not, List, length, get_or, sym, ap, ◌∙◌, inl, inr, eqb-true, take, arith, []}
 use Rattle.declared_names.proofs.Common.{true≢false, cases_Bool, list_any_at, get_or_from_slice_get, slice_get_within, Names, Kind, APin, Entry, entries_of, SoundNames, are_numbered, is_unnumbered, no_name, AreDeclaredFor, NumbersAreApart, PinsAreApart, cases_lt, eqb-true, get_or-take, get_or_past, length-take, slice_get-get_or, is_on_pin, is_taken, IsNewPin, AreSound, sound_at}
 use Rattle.pld_base.specs.declared.device_name.DeviceName.{DeviceName}
@@ -39,7 +39,7 @@ module _ (pins : ℕ) (es : List Entry) (sound : AreSound pins [] es) where
             ]
       ]
 
--- ---- where each pin has a number
+-- ---- if each pin has a number
 
 -- a name of the list has a number, if it is a pin
 numbered_at : (es : List Entry) (k : ℕ) → k < length es → are_numbered es ≡ true → is_unnumbered (get_or es k no_name).kind ≡ false

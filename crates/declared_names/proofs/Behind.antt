@@ -1,4 +1,4 @@
--- Where nothing is refused, a register follows Q, or may, only where the device complements behind it.
+-- If nothing is refused, a register follows Q, or may, only if the device complements after it.
 use Rattle.std.proofs.Common.{◌≡◌, ◌≢◌, ℕ, ◌==◌, Bool, true, false, not, ◌&&◌, ◌||◌, if◌then◌else◌, Option, Some, None, List, [], ◌∷◌, ◌++◌, get_or, option_map, refl, sym, ap, ap₂, subst, ◌∙◌, arith, zero-add, slice_get, unwrap_or}
 use Rattle.declared_names.proofs.Common.{All, list_all, and_parts, true≢false, nat_tests, get_or_from_slice_get, slice_get_within, unwrap_or-slice_get, Flip, Table, Assigned, named_of, sections_assign, is_assigned, is_clocked_target, Entry, find, is_signal, is_stored, follows_q, SectionTree, ModuleTree, GivenName, declared_names, no_name, Holds, holds_of, is_held, is_buffer_by_default, is_registered, words_with_kind, with_kind, with_kinds, names_of, none_left, none_right, Targets, is_marked, all_marks, all_declarations, always_inverts, all_buffered, is_register_at, buffers_refused, module_buffers_refused, names_once, read_refusals, name_refusals, BuffersAreAllowed, module_accepted, AreSound}
 use Rattle.std.proofs.lemmas.List.Elements.{All-get_or}
@@ -24,7 +24,7 @@ none_registered found es (x ∷ xs) h = by (is_register_at found es (find es x.n
     by true g more = absurd cc
     by false g more = more g
 
--- a settled name, or what stands past the end
+-- a settled name, or what is past the end
 pub name_at_or : (flip : Flip) (held : Holds) (found : List Assigned) (es : List Entry) (s : ℕ) (o : Option Entry) → slice_get es s ≡ o
     → get_or (with_kinds flip held found 0 es) s no_name ≡ unwrap_or (option_map (with_kind flip held found s) o) no_name
 name_at_or flip held found es s o is =

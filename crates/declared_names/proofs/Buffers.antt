@@ -49,11 +49,11 @@ declared_at found es n = by (slice_get es n) refl
 
 -- ---- all names
 
--- what a read behind a list's end gives
+-- what a read after a list's end gives
 abbrev pub no_name : Buffered
 no_name = record { place = record { line = 0; column = 0 }; number = 0 }
 
--- one name more, behind other refusals
+-- one name more, after other refusals
 pub one_more : (es : List Entry) (fs : List NameFault) (bs : List Buffered) (k : ℕ) (d : Buffered) → k < length bs → fs ++ registers_refused es (take (k + 1) bs) ≡ (fs ++ registers_refused es (take k bs)) ++ register_refused es (get_or bs k d)
 one_more es fs bs k d h =
     let b = get_or bs k d in

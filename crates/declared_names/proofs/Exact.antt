@@ -1,4 +1,4 @@
--- What is answered where nothing is refused.
+-- What is answered if nothing is refused.
 use Rattle.std.proofs.Common.{◌≡◌, Bool, true, false, ◌&&◌, if◌then◌else◌, Option, List, [], ◌∷◌, ◌++◌, map, refl, sym, ap, ap₂, subst, ◌∙◌}
 use Rattle.declared_names.proofs.Common.{list_any, append-nil, or_parts, Flip, Table, Names, named_of, sections_assign, Entry, entries_of, first_refusal, IsNamed, are_named, module_uses, Declaration, SomePins, SomeNodes, SomeAttributes, ModuleTree, GivenName, all_said, declared_names, holds_of, names_of, with_assigned, NameFault, Buffered, all_declarations, name_order, always_inverts, all_buffered, buffered, buffers_refused, first_name_refusal, name_refusals, module_buffers_refused, names_once, read_refusals, names_behind, buffered_names, kept, none_left, AreDeclaredFor, NumbersAreApart, BuffersAreAllowed, refused_for, Accepted, module_accepted, AreSound, sound_alike, sound_at, says_buffer, registers_wait}
 use Rattle.declared_names.proofs.Buffers.{refused_same}
@@ -14,7 +14,7 @@ first_same t m flip read settled bs f r l n s b e k =
     k (read_refusals t m) e
     ∙ ap (λ fs. first_refusal name_order (read_refusals t m ++ fs)) (ap₂ (refused_for t) names b ∙ refused_same t m)
 
--- ---- a refusal of what is read is the answer where no register waits
+-- ---- a refusal of what is read is the answer if no register waits
 
 quiet_if : {A : Type 0} (b : Bool) (xs : List A) → b ≡ false → (if b then xs else []) ≡ []
 quiet_if true xs e = absurd cc
@@ -26,7 +26,7 @@ quiet_declaration es (SomeNodes names numbers attributes) h = quiet_if (all_said
 quiet_declaration es (SomeAttributes names attributes) h = quiet_if (all_said attributes).buffer _ h
 quiet_declaration es _ h = refl
 
--- where no string says `buffer`, there is no name that such a string is for
+-- if no string says `buffer`, there is no name that such a string is for
 quiet_declarations : (before ds : List Declaration) → list_any says_buffer ds ≡ false → all_buffered before ds ≡ []
 quiet_declarations before [] h = refl
 quiet_declarations before (d ∷ ds) h =

@@ -66,7 +66,7 @@ module _ {A : Type 0} (of : List ℕ → Bool → List A) where
 
 -- ---- what holds all registers
 
--- one item where a test holds
+-- one item if a test holds
 abbrev if_so : Bool → List Bool
 if_so b = if b then true ∷ [] else []
 
@@ -125,7 +125,7 @@ module _ (es : List Entry) (xs : List SectionTree) (s : ℕ) (x : Entry) (g : sl
   of_kind ks k c ADeviceName = refl
   of_kind ks k c _ = at_pin k c
 
-  -- the signal is marked strongly in the end where its Q is read, or its raw input is set
+  -- the signal is marked strongly in the end if its Q is read, or its raw input is set
   pub is_read : is_signal x.kind ≡ true → (at (all_marks Reads es xs) s).strong ≡ among s (holds_of es xs).signals
   is_read sig =
       strong_alone (is_signal x.kind) (at (all_marks Reads es xs) s) sig

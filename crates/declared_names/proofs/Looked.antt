@@ -1,4 +1,4 @@
--- Names that stand for what those before them do: marks find what they stand for.
+-- Names that represent what those before them do: marks find what they represent.
 use Rattle.std.proofs.Common.{◌≡◌, ℕ, zero, suc, ◌+◌, ◌==◌, ◌<◌, ◌≤◌, Bool, true, false, ◌||◌, ◌&&◌, if◌then◌else◌, Option, Some, None, List, [], ◌∷◌, ◌++◌, take, length, get_or, refl, sym, ap, ap₂, subst, ◌∙◌, arith, cond, add-zero, suc-add, add-suc, zero-add, slice_get, bytes_eq}
 use Rattle.declared_names.proofs.Common.{first_that, list_any, eq-eqb, eqb-true, length-take, slice_get-get_or, slice_get_within, and-false, or-false, Assigned, Entry, find, is_signal, SectionTree, no_name, Follow, below, earlier_number, value_at, value_of, all_marks, given_by, number_given, numbers_read, sections_give, uses_read, value_uses, find-append}
 use Rattle.std.specs.Option.{option_or}
@@ -51,7 +51,7 @@ module _ {K A : Type 0} (d : Standing K A) where
   all_push : (l : List Entry) (e : Entry) (k : ℕ) → length l ≡ k → all_of (l ++ e ∷ []) ≡ all_of l ++ d.make (all_of l) k e ∷ []
   all_push l e k n = after_push [] 0 l e ∙ ap (λ j. all_of l ++ d.make (all_of l) j e ∷ []) (zero-add (length l) ∙ n)
 
-  -- ---- that stand for a signal
+  -- ---- that represent a signal
 
   module _ (way : Follow) (es : List Entry) (s : ℕ) (x : Entry) (here : slice_get es s ≡ Some x) (any : Bool) (p : A → Bool) where
     -- how a name counts that is the signal
@@ -133,7 +133,7 @@ module _ {K A : Type 0} (d : Standing K A) where
       all_same zero h = λ name. subst (λ ks. Same 0 (first ks name) (below 0 (find es name))) (sym (d.after_none [] 0)) (subst (Same 0 None) (sym (beyond name es 0 (omega arith))) tt)
       all_same (suc k) h = next k (omega (arith, h)) (all_same k (omega (arith, h)))
 
-      -- the signal is marked in the end where what the sections name stands for it
+      -- the signal is marked in the end where what the sections name represents it
       pub marked_in_the_end : (xs : List SectionTree) → weighs counts (at (all_marks way es xs) s) ≡ list_any p (sections_give way (d.look (d.after [] 0 es)) xs)
       marked_in_the_end xs =
           let n = length es in

@@ -1,5 +1,5 @@
 -- Marks that names pass on, from the last one to the first: in the end a name is marked as it counts where something counted
--- that was marked at the beginning, or that names gave to which that comes.
+-- that was marked at the beginning, or that names gave to which that occurs.
 use Rattle.std.proofs.Common.{◌≡◌, ◌≢◌, ℕ, zero, suc, ◌==◌, ◌<◌, ◌≤◌, Bool, true, false, ◌||◌, ◌&&◌, List, [], ◌∷◌, ◌++◌, length, get_or, refl, sym, ap, ap₂, ◌∙◌, arith, replicate}
 use Rattle.declared_names.proofs.Common.{list_any, list_any-append, eq-eqb, eqb-true, true≢false, nat_tests, fold-append, length-replicate, length-set, and-false, and-true, or-true, or-false, or_assoc, or_self, Assigned, Mark, all_marked, clear, hit, marked, passed, raised, get_or-replicate, get_or-set_other}
 use Rattle.std.proofs.lemmas.Grind.{get_or-set_at}
@@ -7,7 +7,7 @@ use Rattle.std.proofs.lemmas.Grind.{get_or-set_at}
 abbrev pub at : List Mark → ℕ → Mark
 at ms k = get_or ms k clear
 
--- what counts where it is named plainly, or strongly
+-- what counts if it is named plainly, or strongly
 abbrev pub weighs : (Bool → Bool) → Mark → Bool
 weighs w m = (m.plain && w false) || (m.strong && w true)
 

@@ -15,7 +15,7 @@ folded_next step f g push v old now new es k e h i before more =
     ∙ (ap (λ s. fold step s (g (v e))) before
     ∙ (sym (fold-append step old (f (map v (take k es))) (g (v e))) ∙ ap (fold step old) (sym (ap f (mapped_more v es k e h i) ∙ push (map v (take k es)) (v e)))))
 
--- where each item gives a list
+-- if each item gives a list
 pub flat_next : {S X A B : Type 0} (step : S → X → S) (g : B → List X) (v : A → B) (old now new : S) (es : List A) (k : ℕ) (e : A) → k < length es → e ≡ get_or es k e → now ≡ fold step old (flat_map g (map v (take k es)))
     → new ≡ fold step now (g (v e)) → new ≡ fold step old (flat_map g (map v (take (k + 1) es)))
 flat_next step g = folded_next step (flat_map g) g (λ xs x. flat_map-append g xs (x ∷ []) ∙ ap (λ ys. flat_map g xs ++ ys) (append-nil (g x)))

@@ -24,13 +24,13 @@ abbrev pub PinsAreApart : List Entry → Type 0
 PinsAreApart es =
     (pin i j : ℕ) → is_on_pin pin (get_or es i no_name).kind ≡ true → is_on_pin pin (get_or es j no_name).kind ≡ true → i ≡ j
 
--- on a device that has registers, none follows Q, or may, where the device can't complement behind it
+-- on a device that has registers, none follows Q, or may, if the device can't complement after it
 abbrev pub BuffersAreAllowed : Table → List Entry → Type 0
 BuffersAreAllowed t es =
     (s : ℕ) → is_stored (get_or es s no_name) ≡ true → follows_q (get_or es s no_name) ≡ true → t.clock ≢ 0
     → t.flip ≡ AfterRegister
 
--- ---- where each pin has a number
+-- ---- if each pin has a number
 
 abbrev pub NumberedNamesAreSound : Type 0
 NumberedNamesAreSound =

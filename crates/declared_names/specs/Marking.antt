@@ -21,7 +21,7 @@ raised false m = record { plain = true; strong = m.strong }
 abbrev pub hit : (strong : Bool) → List Mark → ℕ → List Mark
 hit strong ms k = set ms k (raised strong (get_or ms k clear))
 
--- what is assigned or read is marked: strongly what is told as on the clock
+-- what is assigned or read is marked: strongly what is reported as on the clock
 abbrev pub marked : List Mark → Assigned → List Mark
 marked ms a = hit a.clocked ms a.signal
 

@@ -1,5 +1,5 @@
--- What sections and constants name, as it is marked: what is read with `.Q` behind it is told as what is assigned on the clock
--- is, and so marks strongly (ABEL-HDL Reference Manual, equations and dot extensions).
+-- What sections and constants name, as it is marked: what is read with `.Q` after it is reported as what is assigned on the
+-- clock is, and so marks strongly (ABEL-HDL Reference Manual, equations and dot extensions).
 use Rattle.std.specs.Prelude.{◌≡◌, ℕ, Bool, true, false, ◌||◌, Option, None, Some, List, [], ◌∷◌, ◌++◌, if◌then◌else◌, map, length, replicate, slice_get}
 use Rattle.declared_names.specs.Prelude.{flat_map, list_any, is_shared, asks_q, read_names, Assigned, is_clocked, target_extension, without_extension, Entry, find, SectionTree, Tree, PartedSection, with_parts}
 use Rattle.name_uses.specs.Parts.{PartRole, PartTree}

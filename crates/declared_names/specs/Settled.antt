@@ -52,6 +52,6 @@ register_refused es b = if is_register (slice_get es b.number) then fault.BadAtt
 abbrev pub registers_refused : List Entry → List Buffered → List NameFault
 registers_refused es bs = flat_map (register_refused es) bs
 
--- where the device always inverts
+-- if the device always inverts
 abbrev pub refused_for : Table → List Entry → List Buffered → List NameFault
 refused_for t es bs = if always_inverts t then registers_refused es bs else []

@@ -9,7 +9,7 @@ use abel_tree::Attributes;
 use bitflags::Flags;
 use pld_device::Flip;
 
-/// The attributes of a signal: its kind, its polarity and DC; neither polarity where it is free, which is a register that
+/// The attributes of a signal: its kind, its polarity and DC; neither polarity if it is free, which is a register that
 /// nothing holds, of which neither is said, on a device that leaves it to the fitter.
 pub(crate) fn settled_attributes(flip: Flip, said: Attributes, mark: Mark, held: bool) -> Attributes
     ensures { view_attributes result ≡ words_by flip held (view_attributes said) (is_registered (view_attributes said) mark.strong) }

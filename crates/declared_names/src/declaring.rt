@@ -24,7 +24,7 @@ pub fn declare<D: Device>(alloc: Global, source: &ModuleParts<'_>) -> Result<Nam
     ensures buffers { IfOk result (λ n. BuffersAreAllowed D.table (entries_of n)) }
     ensures named { IfOk result (λ n. IsNamed n (view_module source.now)) }
 
-    // Only want of memory comes before a refusal.
+    // Only lack of memory precedes a refusal.
     ensures refused { IfErr result (λ f. (f ≡ OutOfMemory)
         ⊎ (first_name_refusal D.table (view_module source.now) ≡ Some f)) }
 {

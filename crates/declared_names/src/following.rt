@@ -28,7 +28,7 @@ fn uses_in(alloc: Global, expr: &Expr, follow: Follow) -> Result<Vec<NameUse<'_>
     }
 }
 
-/// The names in the value of the name of this number that are marked; none where it is no constant.
+/// The names in the value of the name of this number that are marked; none if it is no constant.
 fn value_uses<'a>(
     alloc: Global,
     names: &'a [Declared],
@@ -91,7 +91,7 @@ fn uses_if<'a, 'b>(asked: bool, uses: &'b [NameUse<'a>]) -> &'b [NameUse<'a>]
 }
 
 impl FirstNames<'_> {
-    /// Marks what is in the name behind them by its mark, if it is a constant.
+    /// Marks what is in the name after them by its mark, if it is a constant.
     fn pass_last(
         &self,
         alloc: Global,

@@ -16,7 +16,7 @@ use pld_device::Flip;
 use std::alloc::Global;
 
 /// The names with their kinds, by what the sections assign. A signal's attributes become COM or REG, BUFFER or
-/// INVERT, and DC; what was said of it before decides where it said something.
+/// INVERT, and DC; what was said of it before decides if it said something.
 pub fn settle(
     alloc: Global,
     flip: Flip,

@@ -1,4 +1,4 @@
-//! The names that a source declares, and what each stands for.
+//! The names that a source declares, and what each represents.
 #![tactic(auto)]
 
 mod attributes;

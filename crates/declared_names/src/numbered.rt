@@ -25,7 +25,7 @@ pub fn are_numbered(names: &Names) -> bool
     true
 }
 
-/// Where each pin has a number, names are sound, and no two are one pin. Does nothing.
+/// If each pin has a number, names are sound, and no two are one pin. Does nothing.
 pub fn numbered_names()
     ensures sound { NumberedNamesAreSound }
     ensures apart { NumberedPinsAreApart }

@@ -11,7 +11,7 @@ use name_uses::{NameUse, range_list};
 use pld_base::OutOfMemory;
 use std::alloc::Global;
 
-/// Whether what has this extension is read with `.Q` behind it; without one it is where that around it is.
+/// Whether what has this extension is read with `.Q` after it; without one it is if that around it is.
 fn asks_q(as_q: bool, extension: Option<Extension>) -> bool
     ensures { result ≡ asks_q as_q extension }
 {

@@ -1,4 +1,4 @@
--- Where nothing is refused of a module, its names are sound, and each name that is used is known.
+-- If nothing is refused of a module, its names are sound, and each name that is used is known.
 use Rattle.std.proofs.Common.{◌≡◌, true, List, [], ◌∷◌, ◌++◌, map, zip, length, refl, sym, ap, ap₂, subst, ◌∙◌, append_assoc}
 use Rattle.decls.proofs.Common.{All, All-nil, append-nil, Table, ADeviceName, Entry, numbers_of, are_named, declaration_uses, declarations_uses, sections_uses, module_uses, Declaration, ADevice, SomePins, SomeNodes, SomeAttributes, SomeConstants, SomeOptions, DontCareFor, SectionTree, Declarations, Equations, ATable, ADiagram, SomeVectors, DontCareSection, ModuleTree, Use, all_uses, section_uses, given_names, entry, no_words, all_said, pin_entries, node_entries, constant_entries, node_count, with_words, declared, section_declarations, all_declarations, all_buffered, buffered, sections_refused, read_refusals, names_behind, parts_refused, declaration_refused, declarations_refused, uses_refused}
 use Rattle.decls.proofs.DeclarationsGo.{behind_push, buffered_push}
@@ -48,7 +48,7 @@ refused_append t before (d ∷ ds) es =
     ap (λ l. here ++ l) (refused_append t (before ++ d ∷ []) ds es ∙ ap (λ l. rest ++ declarations_refused t l es) (append_assoc before (d ∷ []) ds))
     ∙ sym (append_assoc here rest (declarations_refused t (before ++ d ∷ ds) es))
 
--- these declarations are accepted, and these uses behind them
+-- these declarations are accepted, and these uses after them
 pub record Accepted (t : Table) (ds : List Declaration) (us : List Use) : Type 0 where
   pub sure : Sure t (names_behind ds)
   pub told : All (IsTold (all_buffered [] ds)) (names_behind ds)

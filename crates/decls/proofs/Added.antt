@@ -1,4 +1,4 @@
--- What stands behind the first refusal adds refusals behind it alone.
+-- What follows the first refusal adds refusals after it alone.
 use Rattle.std.proofs.Common.{◌≡◌, ℕ, suc, ◌==◌, nat_le, Bool, true, false, List, [], ◌∷◌, ◌++◌, Option, Some, None, map, fold, refl, sym, ap, ◌∙◌, append_assoc, is_some}
 use Rattle.decls.proofs.Common.{list_any, append-nil, Place, Table, Item, Word, Kind, APin, ANode, AConstant, ADeviceName, Words, kind_of, item_names, Tree, GivenName, entry, given_names, no_words, all_said, NameFault, strings_refused, place_of, words_of_names, is_behind, items_behind, words_behind, AreBehind, Adds, items_told, ranges_refused, counts_refused, items_refused, is_signal_pin, Progress, refuse, refuse_all, refuse_if, entered_if, entered, pin_taken, on_pin, node_counted, constant_entered, device_counted, device_entered, with_numbers, pin_step, node_step, new_checked, waits_if, say_step, all_told}
 use Rattle.decls.specs.declared.fault.NameFault.TheVariants as fault

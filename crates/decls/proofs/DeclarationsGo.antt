@@ -8,7 +8,7 @@ use Rattle.decls.proofs.Goes.{Reached, Goes, followed, stays, refuses, plain_goe
 use Rattle.decls.proofs.ManyGo.{pins_go, nodes_go, constants_go}
 use Rattle.decls.proofs.Telling.{AreOnce, once_first, kind_told, told_progress, first_told, count_told, taken_told}
 
--- behind these declarations all is as their definitions say
+-- after these declarations all is as their definitions say
 pub record Behind (t : Table) (ds : List Declaration) (s : Progress) : Type 0 where
   pub reached : Reached t (names_behind ds) s
   pub device : s.device ≡ list_any is_device ds

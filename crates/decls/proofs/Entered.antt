@@ -10,7 +10,7 @@ refused_first fs f before next e g = g ∙ (ap (λ o. earlier name_order o (Some
 pub again : (t : Table) (d : NameTable) (s : Progress) (p : Place) (name : List ℕ) (k : Kind) (w : Words) (text : List ℕ) → is_some (kind_of s.entries name) ≡ true → text ≡ name → Shows t d (refuse (Redeclared p text) s) → Shows t d (entered name p k w s)
 again t d s p name k w text e f sh = rw (e, sym f) sh
 
--- a row behind the others
+-- a row after the others
 one_more : (t : Table) (es : List Entry) (rows : List (Vec ℕ × Known)) (name : List ℕ) (key : Vec ℕ) (k : Kind) (x : Known) → key.items ≡ name → view_meaning x.meaning ≡ kept_kind t k → map view_known rows ≡ map (kept t) es
     → map view_known (rows ++ (key, x) ∷ []) ≡ map (kept t) (es ++ entry name x.place k (view_said x.said) ∷ [])
 one_more t es rows name key k x e f g =

@@ -1,4 +1,4 @@
--- The first refusal stays where others stand behind it.
+-- The first refusal stays where others follow it.
 use Rattle.std.proofs.Common.{◌≡◌, ℕ, Bool, true, false, not, ◌&&◌, List, [], ◌∷◌, ◌++◌, Option, Some, None, if◌then◌else◌, refl, sym, ap, ◌∙◌, append_assoc, arith}
 use Rattle.decls.proofs.Common.{nat_tests, append-nil, Place, Item, Word, Kind, Words, Entry, is_signal, is_value, names_any, sooner, is_before, earlier, first_refusal, is_bad, item_names, names_between, first_push, said_by_either, said_words, words_of, NameFault, is_refused_string, string_refused, strings_refused, place_of, rank_of, name_order, stands_before, is_behind, items_behind, words_behind, AreBehind, AreAt, Adds, refused_if, first_undeclared, ranges_refused, first_name, counts_refused, item_refused, items_refused, Progress, refuse_all, refuse_if, undeclared, range_used}
 use Rattle.decls.specs.declared.fault.NameFault.TheVariants as fault

@@ -139,7 +139,7 @@ ranged room first last = by (nat_le first last.value)
     by true = up first (min room (last.value - first + 1))
     by false = refl
 
--- what a read behind a list's end gives
+-- what a read after a list's end gives
 abbrev pub no_span : Span
 no_span = record { first = record { value = 0; place = record { line = 0; column = 0 } }; last = None }
 

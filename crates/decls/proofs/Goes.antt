@@ -1,4 +1,4 @@
--- Steps by the names that stand before them: what each step adds, and what it refuses.
+-- Steps by the names that precede them: what each step adds, and what it refuses.
 use Rattle.std.proofs.Common.{◌≡◌, ℕ, suc, ◌+◌, ◌==◌, nat_le, Bool, true, false, not, ◌||◌, List, [], ◌∷◌, ◌++◌, fold, length, if◌then◌else◌, refl, sym, ap, subst, ◌∙◌, append_assoc, arith, is_some}
 use Rattle.decls.proofs.Common.{list_any, nat_tests, append-nil, length-append, filter-append, Place, Table, Kind, APin, ANode, AConstant, ADeviceName, Words, Entry, kind_of, is_value, names_any, ends_agree, names_between, Tree, Use, OneName, Range, GivenName, entry, node_count, NameFault, first_entries, is_on_pin, is_taken, refused_if, is_signal_pin, name_refused, first_undeclared, use_refused, uses_refused, Progress, refuse_if, refuse_all, entered_if, entered, pin_taken, on_pin, pin_entered, node_counted, node_entered, used, range_used}
 use Rattle.decls.specs.declared.fault.NameFault.TheVariants as fault

@@ -28,7 +28,7 @@ leaves w d n s m behind e g k l a may f = record {
   found = λ h. absurd (let bad : true ≡ false = sym k ∙ h in cc);
 }
 
--- progress with the same refusals, behind names that were left out
+-- progress with the same refusals, after names that were left out
 pub left_waits : (w : Way) (d : Pass) (s m : Progress) → d.skipped ≡ true → m.faults ≡ s.faults → Follows w d s → Follows w d m
 left_waits w d s m h e f = record {
   skips = f.skips;
@@ -39,7 +39,7 @@ left_waits w d s m h e f = record {
   found = f.found;
 }
 
--- refusals behind the first, in the table
+-- refusals after the first, in the table
 pub shows_behind : (t : Table) (d : NameTable) (s : Progress) (fs : List NameFault) → AreBehind d.fault fs → Shows t d s → Shows t d (refuse_all fs s)
 shows_behind t d s fs b sh = record {
   pins = sh.pins;
@@ -56,7 +56,7 @@ pub behind_some : (o : Option NameFault) (p : Place) → is_behind o p ≡ true 
 behind_some None p h = absurd cc
 behind_some (Some f) p h = refl
 
--- whether names were left out or not, a use behind the first refusal adds nothing
+-- whether names were left out or not, a use after the first refusal adds nothing
 pub passes_by : (w : Way) (d : Pass) (s : Progress) (fs : List NameFault) → AreBehind d.table.fault fs → Follows w d s → Follows w d (refuse_all fs s)
 passes_by w d s fs b f = record {
   skips = f.skips;

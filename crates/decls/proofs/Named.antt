@@ -1,4 +1,4 @@
--- Where no use is refused, each name that is used is known.
+-- If no use is refused, each name that is used is known.
 use Rattle.std.proofs.Common.{◌≡◌, ℕ, Bool, true, false, ◌&&◌, if◌then◌else◌, List, [], ◌∷◌, ◌++◌, refl, ap₂, ◌∙◌}
 use Rattle.decls.proofs.Common.{list_all, list_all-append, Place, Kind, Entry, is_value, names_any, ends_agree, names_between, is_named, are_named, Use, OneName, Range, first_undeclared, use_refused, uses_refused}
 use Rattle.decls.specs.declared.fault.NameFault.TheVariants as fault

@@ -1,4 +1,4 @@
--- Names that stand for the same, and lists with more names.
+-- Names that represent the same, and lists with more names.
 use Rattle.std.proofs.Common.{◌≡◌, ℕ, suc, Bool, true, ◌&&◌, if◌then◌else◌, Option, Some, None, List, [], ◌∷◌, ◌++◌, map, refl, sym, ap, ap₂, ◌∙◌}
 use Rattle.decls.proofs.Common.{list_all, bytes_eq, and_parts, Flip, Kind, Words, Entry, kind_of, passes, is_value, names_any, used_names, is_named, are_named, Use, GivenName, with_words, with_kinds}
 use Rattle.abel_tree.specs.Assigned.{Assigned}

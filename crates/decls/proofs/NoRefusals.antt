@@ -1,4 +1,4 @@
--- Where nothing is refused of a name, the table keeps it as it is.
+-- If nothing is refused of a name, the table keeps it as it is.
 use Rattle.std.proofs.Common.{◌≡◌, ℕ, zero, suc, nat_le, nat_lt, Bool, true, false, List, [], ◌∷◌, ◌++◌, length, if◌then◌else◌, refl, sym, ap, subst, ◌∙◌, arith, eqb-true}
 use Rattle.decls.proofs.Common.{nat_tests, Table, Kind, APin, ANode, AConstant, ADeviceName, Words, Entry, GivenName, is_unnumbered, pin_entries, NameFault, is_taken, refused_if, is_signal_pin, number_refused, kept_kind}
 use Rattle.decls.specs.declared.fault.NameFault.TheVariants as fault

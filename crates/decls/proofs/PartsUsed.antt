@@ -53,7 +53,7 @@ parts_folded s (p ∷ ps) =
     parts_folded (part_step s p) ps
     ∙ (ap (λ x. fold used x (all_part_uses ps)) (names_folded s p.uses) ∙ sym (fold-append used s (part_uses p) (all_part_uses ps)))
 
--- the uses of two lists of parts, one behind the other
+-- the uses of two lists of parts, one after the other
 both : (ps qs : List PartTree) (us vs : List Use) → all_part_uses ps ≡ us → all_part_uses qs ≡ vs → all_part_uses (ps ++ qs) ≡ us ++ vs
 both ps qs us vs e f = flat_map-append part_uses ps qs ∙ ap₂ (λ a b. a ++ b) e f
 

@@ -1,4 +1,4 @@
--- A name that is sound is found where it stands.
+-- A name that is sound is found at its place.
 use Rattle.std.proofs.Common.{◌≡◌, ℕ, zero, suc, ◌+◌, Bool, true, false, Some, List, [], ◌∷◌, take, cond, refl, sym, ap, ◌∙◌, arith, zero-add, is_some, slice_get}
 use Rattle.decls.proofs.Common.{position_from, bytes_eq, true≢false, position_from-zero, bytes_eq-Decides, Entry, find, kind_of}
 use Rattle.decls.proofs.SoundEntries.{AreSound, sound_at}

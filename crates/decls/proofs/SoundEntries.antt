@@ -12,13 +12,13 @@ IsNewPin earlier (ANode number) = Unit {0}
 IsNewPin earlier (AConstant value) = Unit {0}
 IsNewPin earlier ADeviceName = Unit {0}
 
--- a name is sound behind these: what it is declared as, its pin, where it has a number, and that none of them is the same
+-- a name is sound after these: what it is declared as, its pin, if it has a number, and that none of them is the same
 pub record IsSoundEntry (pins : ℕ) (earlier : List Entry) (e : Entry) : Type 0 where
   pub kind : is_unnumbered e.kind ≡ false → IsSoundKind pins earlier e.kind
   pub pin : IsNewPin earlier e.kind
   pub name : is_some (kind_of earlier e.name) ≡ false
 
--- each name is sound behind these and those before it
+-- each name is sound after these and those before it
 abbrev pub AreSound : (pins : ℕ) → (earlier : List Entry) → List Entry → Type 0
 AreSound pins earlier [] = Unit {0}
 AreSound pins earlier (e ∷ es) = IsSoundEntry pins earlier e × AreSound pins (earlier ++ e ∷ []) es

@@ -1,4 +1,4 @@
--- Where nothing is refused, each name is declared once, the table keeps it as it is, and it is sound.
+-- If nothing is refused, each name is declared once, the table keeps it as it is, and it is sound.
 use Rattle.std.proofs.Common.{◌≡◌, ℕ, zero, suc, Bool, true, false, List, [], ◌∷◌, ◌++◌, map, zip, length, if◌then◌else◌, refl, sym, ap, ap₂, subst, ◌∙◌, append_assoc, is_some}
 use Rattle.decls.proofs.Common.{true≢false, append-nil, map-append, Table, ADeviceName, Words, Entry, kind_of, numbers_of, IsSoundKind, Declaration, ADevice, SomePins, SomeNodes, SomeAttributes, SomeConstants, SomeOptions, DontCareFor, all_uses, GivenName, given_names, entry, no_words, all_said, is_unnumbered, pin_entries, node_entries, constant_entries, node_count, with_words, declared, first_entries, added, number_refused, name_refused, names_refused, given_count, parts_refused, kept, kept_kind}
 use Rattle.decls.specs.declared.fault.NameFault.TheVariants as fault
@@ -30,7 +30,7 @@ sure_name t es given e s k kind pin h =
       sound = sound_append t.pins [] es (e ∷ []) s.sound (record { kind = kind; pin = pin; name = free }, tt);
     }
 
--- so many of which have numbers, the first ones, behind names that were known before
+-- so many of which have numbers, the first ones, after names that were known before
 sure_names : (t : Table) (given : ℕ) (base es new : List Entry) → Extends base es → AreNamedKinds base new → RestIsUnnumbered given new → Sure t es → names_refused t es given new ≡ [] → Sure t (es ++ new)
 sure_names t given base es [] f named rest s h = subst (Sure t) (sym (append-nil es)) s
 sure_names t zero base es (e ∷ new) f named rest s h =
@@ -50,7 +50,7 @@ sure_rest : (t : Table) (es : List Entry) (d : Declaration) (given : ℕ) (new :
 sure_rest t es d given new c e named rest s h =
     subst (Sure t) (sym e) (sure_names t given es es new (extends_same es) named rest s (sym (ap₂ (names_refused t es) c (added_is es d new e)) ∙ h))
 
--- where all have numbers
+-- if all have numbers
 sure_all : (t : Table) (es : List Entry) (d : Declaration) (new : List Entry) → given_count es d ≡ length (added es d) → declared es d ≡ es ++ new → AreNamedKinds es new → Sure t es → names_refused t es (given_count es d) (added es d) ≡ [] → Sure t (declared es d)
 sure_all t es d new c e named s h = sure_rest t es d (length new) new (c ∙ ap length (added_is es d new e)) e named (no_rest new) s h
 

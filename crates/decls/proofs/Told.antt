@@ -18,7 +18,7 @@ same x y e = cc
 some_same : (x y : ℕ) → ◌≡◌ {A = Option ℕ} (Some x) (Some y) → x ≡ y
 some_same x y e = cc
 
--- the first that is found has a place; the others stand behind
+-- the first that is found has a place; the others follow
 abbrev told_at : Words → ℕ → List Entry → List Entry
 told_at w k [] = []
 told_at w zero (e ∷ es) = (record e { words = said_by_either e.words w }) ∷ es

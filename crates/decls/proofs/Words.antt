@@ -85,7 +85,7 @@ pieces_are_words text inner e =
     ap (λ x. lower_words (slice_split parts_words x)) e
     ∙ sym (ap (filter (λ w. not (length w == 0))) (split_lower (drop 1 (take (length text - 1) text))) ∙ filter_lower (slice_split parts_words (drop 1 (take (length text - 1) text))))
 
--- ---- what is told
+-- ---- what is reported
 
 pub tells_more : (w n : StringWords) (ws : List (List ℕ)) (x : List ℕ) → view_said n.said ≡ said_by_either (view_said w.said) (said_words (x ∷ [])) → n.unknown ≡ (w.unknown || not (has_word known_words x)) → Tells w ws → Tells n (ws ++ x ∷ [])
 tells_more w n ws x e f h = record {

@@ -9,7 +9,7 @@ use Rattle.abel_tree.specs.declared.words.Sign.TheVariants as sign
 use Rattle.abel_tree.specs.declared.words.Unary.TheVariants as unary
 use Rattle.abel_tree.specs.declared.words.Binary.{Binary}
 
--- ---- devices, of which only what names ask is told
+-- ---- devices, of which only what names ask is reported
 
 abbrev pub device : DeviceName → (pins ground_pin clock : ℕ) → Flip → Table
 device name pins ground_pin clock flip =
@@ -203,6 +203,6 @@ abbrev pub unless_refused : Option NameFault → List ℕ → List ℕ
 unless_refused None ns = ns
 unless_refused (Some f) ns = []
 
--- of all names, where nothing is refused
+-- of all names, if nothing is refused
 abbrev pub name_codes : Table → ModuleTree → List ℕ
 name_codes t m = unless_refused (first_name_refusal t m) (map name_code (names_of t m))

@@ -1,4 +1,4 @@
--- Where a device that the project doesn't know is refused (ABEL-HDL Reference Manual, DEVICE; the place is this
+-- If a device that the project doesn't know is refused (ABEL-HDL Reference Manual, DEVICE; the place is this
 -- project's rule).
 use Rattle.std.specs.Prelude.{Option, None, Some, List, [], ◌∷◌}
 use Rattle.decls.specs.Prelude.{Place, Word, Declaration, ADevice, ModuleTree}

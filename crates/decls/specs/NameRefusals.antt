@@ -13,7 +13,7 @@ use Rattle.decls.specs.Refused.{uses_refused, declarations_refused}
 
 -- ---- sections
 
--- sections one after the other, behind these declarations
+-- sections one after the other, after these declarations
 abbrev pub sections_refused : Table → List Declaration → List SectionTree → List NameFault
 sections_refused t before [] = []
 sections_refused t before (Declarations ds ∷ xs) =
@@ -28,7 +28,7 @@ sections_refused t before (x ∷ xs) =
 abbrev pub always_inverts : Table → Bool
 always_inverts t = not (t.clock == 0) && pin_complements t.flip true false
 
--- the names of a declaration whose strings say `buffer`, of those that stand behind these names
+-- the names of a declaration whose strings say `buffer`, of those that follow these names
 abbrev pub buffered : List Entry → Declaration → List GivenName
 buffered es (SomePins names numbers attributes) = if (all_said attributes).buffer then given_names names else []
 buffered es (SomeNodes names numbers attributes) = if (all_said attributes).buffer then given_names names else []
@@ -62,14 +62,14 @@ buffers_refused found es (x ∷ xs) =
 abbrev pub names_once : ModuleTree → List Entry
 names_once m = first_entries (names_behind (all_declarations m))
 
--- registers that are declared `buffer` where the device always inverts
+-- registers that are declared `buffer` if the device always inverts
 abbrev pub module_buffers_refused : Table → ModuleTree → List NameFault
 module_buffers_refused t m =
     if always_inverts t
     then buffers_refused (sections_assign (named_of (names_once m)) m.sections) (names_once m) (all_buffered [] (all_declarations m))
     else []
 
--- what is refused where it is read
+-- what is refused if it is read
 abbrev pub read_refusals : Table → ModuleTree → List NameFault
 read_refusals t m = declarations_refused t [] m.decls ++ sections_refused t m.decls m.sections
 

@@ -1,8 +1,8 @@
--- The names that stand before a declaration or a use (ABEL-HDL Reference Manual, declarations).
+-- The names that precede a declaration or a use (ABEL-HDL Reference Manual, declarations).
 use Rattle.std.specs.Prelude.{ℕ, List, [], ◌∷◌, ◌++◌, is_some, fold, drop, length, bytes_eq, if◌then◌else◌}
 use Rattle.decls.specs.Prelude.{Words, Entry, kind_of, Declaration, GivenName, declared}
 
--- the names behind these declarations; a name that is declared twice stands twice
+-- the names after these declarations; a name that is declared twice is twice
 abbrev pub names_behind : List Declaration → List Entry
 names_behind ds = fold declared [] ds
 

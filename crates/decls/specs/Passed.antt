@@ -1,5 +1,5 @@
--- What a pass over a module knows: once something is refused, names that stand behind it may be left out, since no
--- refusal of theirs can be the first.
+-- What a pass over a module knows: once something is refused, names that follow it may be left out, since no refusal
+-- of theirs can be the first.
 use Rattle.std.specs.Prelude.{◌≡◌, ◌≤◌, ℕ, Bool, true, false, not, ◌||◌, Option, None, Some, is_some, List, [], ◌∷◌, ◌++◌, take}
 use Rattle.decls.specs.Prelude.{list_all, Place, Table, Item, Word, sooner, first_refusal, given_names, all_said, no_words}
 use Rattle.decls.specs.declared.fault.NameFault.{NameFault}
@@ -11,7 +11,7 @@ use Rattle.decls.specs.Shown.{Shows}
 use Rattle.decls.specs.Steps.{Progress, refuse_all}
 use Rattle.decls.specs.Walked.{all_told}
 
--- one place stands before another
+-- one place precedes another
 abbrev pub stands_before : Place → Place → Bool
 stands_before p q = sooner p.line p.column 0 q.line q.column 0
 
@@ -35,7 +35,7 @@ abbrev pub AreAt : Place → List NameFault → Type 0
 AreAt p [] = Unit {0}
 AreAt p (f ∷ fs) = (place_of f ≡ p) × AreAt p fs
 
--- what is refused on the way from one progress to another stands behind what was refused first
+-- what is refused on the way from one progress to another follows what was refused first
 pub record Adds (o : Option NameFault) (s n : Progress) : Type 0 where
   pub more : List NameFault
   pub faults : n.faults ≡ s.faults ++ more
@@ -54,7 +54,7 @@ pub record Way : Type 0 where
 abbrev pub way : Table → Bool → Way
 way t skips = record { table = t; skips = skips }
 
--- the table shows all as long as no name is left out; the first refusal it has also behind that, unless it is lost
+-- the table shows all as long as no name is left out; the first refusal it has also after that, unless it is lost
 pub record Follows (w : Way) (d : Pass) (s : Progress) : Type 0 where
   pub skips : d.skips ≡ w.skips
   pub shown : d.skipped ≡ false → Shows w.table d.table s
@@ -63,7 +63,7 @@ pub record Follows (w : Way) (d : Pass) (s : Progress) : Type 0 where
   pub refused : d.skipped ≡ true → d.lost ≡ false → is_some d.table.fault ≡ true
   pub found : d.skipped ≡ false → d.lost ≡ false
 
--- the names of a module are wanted where nothing is refused, and where registers wait that may be refused before that
+-- the names of a module are wanted if nothing is refused, and where registers wait that may be refused before that
 abbrev pub wants_names : (wait : Bool) → Option NameFault → Bool
 wants_names wait fault = not (is_some fault) || wait
 

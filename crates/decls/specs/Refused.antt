@@ -50,7 +50,7 @@ number_refused t es e (APin n negated) =
 number_refused t es e (ANode n) = refused_if (nat_le node_limit n) (fault.TooManyNodes e.place e.name)
 number_refused t es e _ = []
 
--- one name, with its number where one is given
+-- one name, with its number if one is given
 abbrev pub name_refused : Table → List Entry → (given : Bool) → Entry → List NameFault
 name_refused t es given e =
     (if given then number_refused t es e e.kind else [])
@@ -82,7 +82,7 @@ abbrev pub has_numbers : List Span → Bool
 has_numbers [] = false
 has_numbers (n ∷ ns) = true
 
--- where there are numbers, there are as many names, unless a range is bad
+-- if there are numbers, there are as many names, unless a range is bad
 abbrev pub counts_differ : List Item → List Span → Bool
 counts_differ names numbers =
     has_numbers numbers && not (list_any is_bad names) && not (length (given_names names) == count_numbers numbers)
@@ -121,7 +121,7 @@ abbrev pub given_count : List Entry → Declaration → ℕ
 given_count es (SomePins names numbers attributes) = length (numbers_of (length (given_names names)) numbers)
 given_count es d = length (added es d)
 
--- a declaration, behind these
+-- a declaration, after these
 abbrev pub declaration_refused : Table → List Declaration → Declaration → List NameFault
 declaration_refused t before d =
     parts_refused before (names_behind before) d

@@ -1,4 +1,4 @@
-//! What stands behind the first refusal: no refusal there can come before it.
+//! What follows the first refusal: no refusal there can precede it.
 
 ghost use Rattle.std.specs.Prelude.{◌≡◌, ◌&&◌};
 ghost use Rattle.decls.specs.Passed.{is_behind, items_behind, words_behind};

@@ -35,7 +35,7 @@ impl NameTable {
         Ok(())
     }
 
-    /// A DEVICE declaration is refused where one came before.
+    /// A DEVICE declaration is refused if one was earlier.
     fn count_device(&mut self, alloc: Global, name: &Word) -> Result<(), OutOfMemory>
         ensures { OnOk result ((t : Table) (s : Progress) → Shows t self.old s → Shows t self.new (device_counted name.now s)) }
     {

@@ -28,7 +28,7 @@ struct PinNumbers {
     room: u128,
 }
 
-/// What is left of numbers behind the first ones.
+/// What is left of numbers after the first ones.
 fn numbers_after(numbers: &[u32], count: usize) -> &[u32]
     ensures { result.now ≡ drop count numbers.now }
 {
@@ -115,7 +115,7 @@ impl Pass {
         Ok(())
     }
 
-    /// Gives up where there are fewer numbers than names.
+    /// Gives up if there are fewer numbers than names.
     fn is_short(&mut self, left: u128, count: usize) -> bool
         ensures lost { result ≡ true → (w : Way) (s n : Progress) → Follows w self.old s → Follows w self.new n }
         ensures goes { result ≡ false → self.new ≡ self.old }

@@ -49,7 +49,7 @@ impl Ranked for NameFault {
 
     ghost ranks = { name_order };
 
-    /// Want of memory stands at line 0.
+    /// Lack of memory has line 0.
     fn place(&self) -> Place {
         match self {
             NameFault::Redeclared(place, _) => *place,
@@ -80,15 +80,15 @@ impl Ranked for NameFault {
     }
 }
 
-/// Whether one place stands before another.
+/// Whether one place precedes another.
 pub(crate) fn stands_before(one: Place, other: Place) -> bool
     ensures { result ≡ stands_before one other }
 {
     one.line < other.line || (one.line == other.line && one.column < other.column)
 }
 
-/// The first of two refusals by place, at one place by kind; `before` is None where there is none
-/// yet. Takes no memory.
+/// The first of two refusals by place, at one place by kind; `before` is None if there isn't one yet.
+/// Takes no memory.
 pub fn first_of(before: Option<NameFault>, fault: NameFault) -> Option<NameFault>
     ensures { result ≡ refusal.earlier name_order before (Some fault) }
 {

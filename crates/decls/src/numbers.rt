@@ -26,7 +26,7 @@ impl NameTable {
         number != 0 && number != u32::from(self.ground) && number < u32::from(self.pins)
     }
 
-    /// The pin as it is kept: 0 where no name may have it.
+    /// The pin as it is kept: 0 if no name may have it.
     fn kept_pin(&self, number: u32) -> u8
         ensures { (t : Table) (s : Progress) → Shows t self.now s → result ≡ (if is_signal_pin t number then number else 0) }
     {
@@ -88,7 +88,7 @@ impl NameTable {
         }
     }
 
-    /// The number of the next node as it is kept: 0 where there are too many.
+    /// The number of the next node as it is kept: 0 if there are too many.
     fn kept_node(&self) -> u8
         ensures { (t : Table) (s : Progress) → Shows t self.now s → result ≡ kept_node s.nodes }
     {

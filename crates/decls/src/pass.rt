@@ -25,7 +25,7 @@ pub(crate) struct Pass {
 }
 
 impl Pass {
-    /// Leaves something out; `behind` where all its places are behind the first refusal.
+    /// Leaves something out; `behind` if all its places are after the first refusal.
     pub(crate) fn leave(&mut self, behind: bool)
         ensures skipped { self.new.skipped ≡ true }
         ensures left { (w : Way) (s n : Progress) → w.skips ≡ true → (behind ≡ true → self.old.lost ≡ false → MayLeave self.old.table.fault s n) → Follows w self.old s → Follows w self.new n }
@@ -80,7 +80,7 @@ impl Pass {
         }
     }
 
-    /// Whether a use is passed over: it is behind the first refusal, or names were left out before.
+    /// Whether a use is passed over: it is after the first refusal, or names were left out before.
     fn passes(&mut self, place: Place) -> bool
         ensures passed { result ≡ true → (w : Way) (s : Progress) (fs : List NameFault) → AreAt place fs → Follows w self.old s → Follows w self.new (refuse_all fs s) }
         ensures looked { result ≡ false → self.new ≡ self.old × (self.old.skipped ≡ false) }

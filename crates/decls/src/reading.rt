@@ -24,7 +24,7 @@ use pld_base::{NameText, OutOfMemory, Place};
 use pld_device::Device;
 use std::alloc::Global;
 
-/// What the declarations and the uses of a module come to.
+/// What the declarations and the uses of a module amount to.
 #[derive(Drop)]
 pub struct NamesRead {
     /// The names, each as it is declared first. Their attributes are the words of their strings,
@@ -32,7 +32,7 @@ pub struct NamesRead {
     pub list: Vec<Declared>,
     /// The names that a string with `buffer` is for, in the order of the source.
     pub buffered: Vec<Buffered>,
-    /// The first of what is refused where it is read.
+    /// The first of what is refused if it is read.
     pub fault: Option<NameFault>,
     /// Whether registers wait for what is assigned, which may be refused then: the device always
     /// inverts, and some string says `buffer`.
@@ -78,7 +78,7 @@ fn add_number(
     Ok(())
 }
 
-/// The attribute where it is said, else none.
+/// The attribute if it is said, else none.
 fn attribute_if(attribute: Attributes, said: bool) -> Attributes
     ensures { result.0 ≡ (if said then attribute.0 else 0) }
 {
@@ -132,7 +132,7 @@ fn list_of(alloc: Global, names: IndexMap<Vec<u8>, Known>) -> Result<Vec<Declare
 
 /// The names that a module declares, each as it is declared first, and the first refusal of what is
 /// declared and used. A pin or node that is refused has the number 0. Whether a register may be
-/// `buffer` isn't looked at. Once something is refused, names behind it may be missing, unless
+/// `buffer` isn't looked at. Once something is refused, names after it may be missing, unless
 /// registers wait, of which one may be refused before it.
 pub fn read_names<D: Device>(
     alloc: Global,

@@ -24,7 +24,7 @@ pub(crate) fn all_in(strings: &[Word]) -> Said
     said
 }
 
-/// Whether what is said now brings the second of two words that contradict each other, where these were
+/// Whether what is said now brings the second of two words that contradict each other, if these were
 /// said before.
 fn is_clash(now: Said, before: Said) -> bool
     ensures { result ≡ brings_clash (view_said now) (view_said before) }

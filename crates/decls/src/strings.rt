@@ -18,7 +18,7 @@ pub(crate) fn without_quotes(text: &[u8]) -> &[u8]
     &text[1..text.len() - 1]
 }
 
-/// Whether the byte stands between words: a comma or a blank.
+/// Whether the byte is between words: a comma or a blank.
 fn is_separator(c: u8) -> bool
     ensures { result ≡ parts_words c }
 {
@@ -33,7 +33,7 @@ fn is_word(word: &[u8], known: &[u8]) -> bool
     word.eq_ignore_ascii_case(known)
 }
 
-/// Whether the word may stand in a string and has no effect.
+/// Whether the word may be in a string and has no effect.
 fn is_idle(word: &[u8]) -> bool
     ensures { result ≡ has_word idle_words (str_to_ascii_lowercase word.now) }
 {

@@ -69,7 +69,7 @@ impl NameTable {
         self.names.get_index_of(name)
     }
 
-    /// Whether the name is known, as a signal where one is wanted.
+    /// Whether the name is known, as a signal if one is wanted.
     pub(crate) fn is_known(&self, name: &[u8], signal: bool) -> bool
         ensures { (t : Table) (s : Progress) → Shows t self.now s → result ≡ names_any (wanted signal) s.entries name.now }
     {
@@ -97,7 +97,7 @@ impl NameTable {
     }
 }
 
-/// Whether a name of this meaning may stand where a signal, or else a signal or constant is wanted.
+/// Whether a name of this meaning may be if a signal, or else a signal or constant is wanted.
 fn is_wanted(meaning: &Meaning, signal: bool) -> bool
     ensures { result ≡ wanted signal (view_meaning meaning.now) }
 {

@@ -143,7 +143,7 @@ fn pass_over<D: Device>(
 }
 
 /// The names of a module as far as they are wanted, each as it is declared first, and the first refusal of
-/// declarations and uses. The names that a string with `buffer` is for wait. They are wanted behind a
+/// declarations and uses. The names that a string with `buffer` is for wait. They are wanted after a
 /// refusal too where registers wait.
 pub(crate) fn names_read<D: Device>(
     alloc: Global,

@@ -1,4 +1,4 @@
--- What the lines of a decompiled source assign: the data of the cells that have lines, on the clock where they store.
+-- What the lines of a decompiled source assign: the data of the cells that have lines, on the clock if they store.
 use Rattle.std.proofs.Common.{◌≡◌, ℕ, ◌<◌, inl, inr, Bool, true, false, Option, Some, None, List, [], ◌∷◌, ◌++◌, length, filter, flat_map, refl, sym, ap, ◌∙◌, append-nil, ◌==◌, ◌&&◌, ◌||◌, if◌then◌else◌}
 use Rattle.decompiled.proofs.Common.{AllByRecursion, list_any, cases_Bool, eqb-true, true≢false, list_any-append, Place, IsDevice, stores, Table, cell_at, own_pins, Extension, Assigned, Named, assigned_by, is_assigned, is_clocked_target, list_assigns, named_of, sections_assign, signals_of_name, statement_assigns, Tree, AName, Statement, AnAssign, SectionTree, ModuleTree, is_data, is_raw, declared_names, Term, extended_if, SumLine, name_text, word, IsLine, AreLines, IsSourceTree, is_data_line, data_line, has_lines, lines_of, source_of, IsOwnSignal, signal_of}
 use Rattle.abel_tree.specs.declared.words.Extension.TheVariants as extension

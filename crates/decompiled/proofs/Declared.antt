@@ -2,7 +2,7 @@
 use Rattle.std.proofs.Common.{◌≡◌, Bool, true, false, Option, None, Some, List, [], ◌∷◌, ◌++◌, refl, sym, ap, ◌∙◌, append_assoc, append-nil, codes, fold}
 use Rattle.decompiled.proofs.Common.{Place, APin, ADeviceName, Entry, Words, Declaration, all_said, declared, declared_names, entry, no_words, PinLine, name_text, attributes_in, IsPinLine, ArePins, said, ArePinEntries, PinsAreDeclared}
 
--- where a string stands says nothing
+-- the place of a string says nothing
 said_anywhere : (follows : Option Bool) (p : Place) → all_said (attributes_in follows p) ≡ said follows
 said_anywhere None p = refl
 said_anywhere (Some true) p = refl

@@ -4,9 +4,9 @@ use Rattle.decompiled.proofs.Common.{list_all, str_eq_ignore_ascii_case, cases_B
 use Rattle.decompiled.proofs.Tokens.{is_token}
 use Rattle.decompiled.proofs.Turns.{before_is, blank_turn, gap_behind, no_gap, piece_turn, word_read, no_word_read}
 
--- ---- no word MACRO behind a piece
+-- ---- no word MACRO after a piece
 
--- behind blanks alone stands none
+-- after blanks alone isn't one
 gap_all : (end : List ℕ) → list_all is_blank end ≡ true → gap end ≡ []
 gap_all end blank = ap gap (sym (append-nil end)) ∙ gap_behind end [] blank
 

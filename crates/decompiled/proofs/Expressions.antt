@@ -8,7 +8,7 @@ use Rattle.abel_tree.specs.declared.words.Binary.TheVariants as binary
 use Rattle.abel_grammar.specs.declared.terminal.Terminal.{Terminal}
 use Rattle.abel_grammar.specs.Expressions.{name_tree, number_tree, operand, negated, expr, expr_over, joined, level, products, sums, relations, binary_of}
 
--- a form spells the tokens up to those of the pieces behind, as a tree of which this holds
+-- a form spells the tokens up to those of the pieces after it, as a tree of which this holds
 abbrev pub Spelled : Form Token Tree → (Tree → Type 0) → Place → (pieces more : List Piece) → Type 0
 Spelled form Is at pieces more =
     (tree : Tree) × (behind : Place) × Is tree × form.spells (tokens_from at pieces) tree (tokens_from behind more)
@@ -69,7 +69,7 @@ number_operand (suc n) Is at pieces more s = (s.0, s.1, s.2, inr (inr (inr (inr 
 
 -- ---- literals
 
--- an operand behind `!`
+-- an operand after `!`
 complemented : (n : ℕ) (gap : List ℕ) (Is : Tree → Type 0) (at : Place) (pieces more : List Piece)
     → Spelled (operand n) Is (place_behind at (sign gap (codes "!"))) pieces more
     → Spelled (operand (suc n)) (λ tree. (p : Place) × (inner : Tree) × Is inner × (tree ≡ AUnary unary.Not p inner)) at (sign gap (codes "!") ∷ pieces) more
@@ -185,7 +185,7 @@ sum_level n [] at more = single (level products (operand (suc n))) sums (IsNumbe
 sum_level n (p ∷ ps) at more =
     chained (level products (operand (suc n))) sums binary.Or or_piece or_among or_is (List PinLiteral) IsProduct product_pieces (product_spelled n) p ps at more
 
--- a whole sum, where any expression may stand
+-- a whole sum, in whose place any expression is allowed
 pub sum_spelled : (n : ℕ) (ps : List (List PinLiteral)) (at : Place) (more : List Piece) → Spelled (expr (suc n)) (IsSum ps) at (sum_pieces ps more) more
 unfolding expr_over
 sum_spelled n ps at more = single (level sums (level products (operand (suc n)))) relations (IsSum ps) at (sum_pieces ps more) more (sum_level n ps at more)

@@ -1,4 +1,4 @@
--- The name of a pin stands for its signal.
+-- The name of a pin represents its signal.
 use Rattle.std.proofs.Common.{◌≡◌, ℕ, zero, suc, ◌+◌, ◌<◌, inl, inr, Bool, true, false, Option, None, Some, List, [], ◌∷◌, ◌++◌, slice_get, refl, sym, ap, ◌∙◌, arith, append_assoc, if◌then◌else◌, bytes_eq}
 use Rattle.decompiled.proofs.Common.{cases_Bool, APin, Entry, entry, Term, Known, Read, known_after, term_meant, term_named, PinLine, name_text, said, ArePinsApart, PinsAreKnown}
 use Rattle.std.proofs.lemmas.Fmt.{decimal_injective}
@@ -17,7 +17,7 @@ same_pin a b la lb e =
 abbrev known_pin : ℕ → ℕ → Known
 known_pin pin s = record { name = name_text pin; term = Read s None }
 
--- what a name stands for at the front stays
+-- what a name represents at the front stays
 stays : (es : List Entry) (known : List Known) (s : ℕ) (name : List ℕ) (t : Term) → ((more : List Known) → term_named (known ++ more) name ≡ t) → term_named (known_after known s es) name ≡ t
 stays [] known s name t front = ap (λ (ks : List Known). term_named ks name) (sym (append_none known)) ∙ front []
   where

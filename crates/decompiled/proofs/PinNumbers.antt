@@ -7,7 +7,7 @@ abbrev pub is_number_word : List ℕ → Bool
 is_number_word [] = false
 is_number_word (b ∷ bs) = is_ascii_digit b && list_all is_ascii_alphanumeric bs
 
--- a number can stand in a name, and as itself
+-- a number can be in a name, and as itself
 abbrev is_pin_word : ℕ → Bool
 is_pin_word n =
     (list_all is_name_later (decimal n) && (not (is_keyword (name_text n)) && not (nat_lt 31 (length (name_text n)))))

@@ -83,7 +83,7 @@ module _ (test : ℕ → Bool) where
       by_test true is i there later = at_first i is (rw is at there) later
       by_test false is i there later = later_taken (later i (rw is at there))
 
-  -- each pin stands once
+  -- each pin is once
   pub taken_once : (a n i j pin : ℕ) → slice_get (filter test (range_with_len a n)) i ≡ Some pin → slice_get (filter test (range_with_len a n)) j ≡ Some pin → i ≡ j
   taken_once a zero i j pin there again = absurd (none_some pin there)
   taken_once a (suc n) i j pin there again = by_test (test a) refl i j there again (λ k l here other. taken_once (a + 1) n k l pin here other)

@@ -8,7 +8,7 @@ use Rattle.decompiled.proofs.AssignedPins.{cell_assigned, cell_clocked, free_una
 -- ---- what is found in a range
 
 module _ (passes : ℕ → Bool) where
-  -- what is found passes, and nothing passes where none is found
+  -- what is found passes, and nothing passes if none is found
   pub found_passes : (a n c : ℕ) → find passes (range_with_len a n) ≡ Some c → (passes c ≡ true) × (c < a + n)
   found_passes a zero c is = absurd cc
   found_passes a (suc n) c is = by_test (passes a) refl (λ later. found_passes (a + 1) n c later)
@@ -36,7 +36,7 @@ module _ (passes : ℕ → Bool) where
 
 -- ---- words
 
--- what a name says of its pin: a register where a word says so and it is assigned, with its polarity, and never free
+-- what a name says of its pin: a register if a word says so and it is assigned, with its polarity, and never free
 pub record AreWords (follows : Option Bool) (assigned : Bool) (x : Entry) : Type 0 where
   pub stored : is_stored x ≡ (is_some follows && assigned)
   pub buffer : (b : Bool) → follows ≡ Some b → follows_q x ≡ b

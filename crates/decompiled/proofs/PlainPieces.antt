@@ -106,7 +106,7 @@ sum_plain (p ∷ ps) more rest good stops plain =
 abbrev pub GoodLine : SumLine → Type 0
 GoodLine l = IsPinNumber l.pin × AllByRecursion GoodProduct l.products
 
--- a line feed stands behind them
+-- a line feed follows them
 abbrev Feeds : List Piece → List ℕ → Type 0
 Feeds more rest = (text : List ℕ) × (text_of more rest ≡ 10 ∷ text)
 

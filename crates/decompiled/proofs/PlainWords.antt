@@ -1,4 +1,4 @@
--- The words and signs of such a source are plain, and apart from what stands behind them.
+-- The words and signs of such a source are plain, and apart from what follows them.
 use Rattle.std.proofs.Common.{◌≡◌, ℕ, inl, inr, Bool, true, Some, List, [], ◌∷◌, ◌++◌, length, refl, sym, subst, eqb-true, ◌==◌, ◌||◌, codes}
 use Rattle.decompiled.proofs.Common.{list_all, or_cases, true≢false, device_text, is_blank, starts, is_keyword, is_left_out, longest_at, longest_word, Extension, IsPlainPiece, extension_text, none, space, feed, sign, keyword, identifier, number, string, extension}
 use Rattle.pld_base.specs.declared.device_name.DeviceName.{DeviceName}

@@ -60,7 +60,7 @@ module _ (x : ℕ → Bool) (none : (c : ℕ) → x c ≡ false) where
     same_values : (values : NodeValues) → SameValues m values (exchanged_values x values)
     same_values values at is n low node = sym (ap (λ a. values a n) (same_at at))
 
--- ---- what allows the same has a don't-care where the other has
+-- ---- what allows the same has a don't-care if the other has
 
 same_tests : (f g : Bool → Bool) → ((v : Bool) → f v ≡ true → g v ≡ true) → ((v : Bool) → g v ≡ true → f v ≡ true) → AllowsOne f → AllowsOne g
 same_tests f g to from one e = one (both_ways (f true) (g true) (to true) (from true) ∙ e ∙ sym (both_ways (f false) (g false) (to false) (from false)))

@@ -6,7 +6,7 @@ use Rattle.decompiled.proofs.Tokens.{some_bytes, is_token, is_longest}
 abbrev left : Place → List ℕ → Remainder
 left at text = record { place = at; radix = 10; text = text }
 
--- the place behind the pieces and the blanks at the end
+-- the place after the pieces and the blanks at the end
 abbrev end_from : Place → List Piece → List ℕ → Place
 end_from at [] end = place_past at end
 end_from at (p ∷ ps) end = end_from (place_behind at p) ps end

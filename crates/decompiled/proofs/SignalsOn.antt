@@ -1,4 +1,4 @@
--- The signal that is assigned on a cell: that of its pin, where the cell has lines.
+-- The signal that is assigned on a cell: that of its pin, if the cell has lines.
 use Rattle.std.proofs.Common.{◌≡◌, ℕ, zero, suc, ◌+◌, ◌<◌, ◌≤◌, ◌⊎◌, inl, inr, Bool, true, false, Option, Some, None, List, ◌++◌, length, slice_get, get_or, flat_map, refl, sym, ap, subst, ◌∙◌, arith, ◌&&◌, ◌||◌, position, IsSome}
 use Rattle.decompiled.proofs.Common.{list_any, range_with_len, and_parts, cases_Bool, cases_lt, eq-eqb, eqb-true, or_right, true≢false, list_any-append, get_or_from_slice_get, slice_get_within, IsDevice, Table, cell_at, Kind, APin, Entry, is_stored, ModuleTree, cell_on, is_on_pin, signal_on, design_of, name_at, no_name, names_of, cell_by, cell_of, SumLine, IsSourceTree, cell_lines, first_register, has_lines, lines_of, names_pin, pins_of, shared_lines, source_of, place_of, signal_of}
 use Rattle.std.proofs.lemmas.List.Quantifiers.{position-Some}
@@ -30,7 +30,7 @@ any_given test give a (suc n) c low high some =
         let same : a ≡ c = omega (arith, past, low) in
         or_left (list_any test (give a)) (list_any test (flat_map give (range_with_len (a + 1) n))) (ap (λ (k : ℕ). list_any test (give k)) same ∙ some)
 
--- where none passes, none is first
+-- if none passes, none is first
 pub none_first : {X : Type 0} (test : X → Bool) (xs : List X) (d : X) → ((j : ℕ) → test (get_or xs j d) ≡ false) → position test xs ≡ None
 none_first test xs d none = by_found (position test xs) refl
   where

@@ -7,7 +7,7 @@ use Rattle.decompiled.proofs.KnownPins.{knows}
 use Rattle.decompiled.proofs.PinPlaces.{same_some}
 use Rattle.decompiled.proofs.SourcePins.{IsDeclared, declared_at, line_there, pins_low, pins_apart}
 
--- kinds change neither names nor what they stand for
+-- kinds change neither names nor what they represent
 known_kinded : (flip : Flip) (held : Holds) (found : List Assigned) (k s : ℕ) (known : List Known) (xs : List Entry)
     → known_after known s (with_kinds flip held found k xs) ≡ known_after known s xs
 known_kinded flip held found k s known [] = refl
@@ -77,7 +77,7 @@ module _ (t : Table) (fuses : List Bool) (laws : IsDevice t) (m : ModuleTree) (i
   names_are : declared_names m ≡ device_entry ∷ entries
   names_are = (declares (source_of t fuses) m is).3
 
-  -- ---- what names stand for
+  -- ---- what names represent
 
   pub known_is : (pin : ℕ) → IsDeclared t fuses laws pin → term_named (design_of t m).context.known (name_text pin) ≡ Read (signal_of t fuses pin) None
   known_is pin dec =

@@ -1,4 +1,4 @@
--- The pins that a decompiled source declares: each pin of a line is one of them, and each stands once.
+-- The pins that a decompiled source declares: each pin of a line is one of them, and each is once.
 use Rattle.std.proofs.Common.{◌≡◌, ℕ, Option, None, ◌<◌, Bool, true, Some, List, [], ◌∷◌, length, slice_get, refl, sym, ap, subst, ◌∙◌, arith, eq-eqb, ◌==◌}
 use Rattle.decompiled.proofs.Common.{AllByRecursion, list_any, or_right, slice_get-map, slice_get_within, option_map, Carry, IsSignalPin, IsPair, IsDevice, Table, cell_at, no_cell, PinLiteral, PinLine, SumLine, lines_of, named_by, names_pin, pin_line, pins_of, product_names, source_of, ArePinsApart, place_of, signal_of}
 use Rattle.pld_device.specs.declared.carry.Carry.TheVariants as carry
@@ -40,7 +40,7 @@ module _ (t : Table) (fuses : List Bool) (laws : IsDevice t) where
     pub pin : IsDeclared l.pin
     pub literals : AllByRecursion (AllByRecursion IsDeclaredLiteral) l.products
 
-  -- what each test says of some line where it says so of this one
+  -- what each test says of some line if it says so of this one
   abbrev IsAmong : {A : Type 0} → List A → A → Type 0
   IsAmong {A} xs x = (test : A → Bool) → test x ≡ true → list_any test xs ≡ true
 

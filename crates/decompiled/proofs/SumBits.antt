@@ -81,7 +81,7 @@ module _ (d : Context) (leaf_of : PinLiteral → Leaf) where
 
 -- ---- two operands
 
--- where they meet in one bit
+-- if they meet in one bit
 and_bits : (d : Context) (t u : Term) (f g : Formula) → meeting (constant_of d t).shape (constant_of d u).shape ≡ Single → met_word 1 (constant_of d t) (bits_of d t).what ≡ f ∷ []
     → met_word 1 (constant_of d u) (bits_of d u).what ≡ g ∷ [] → IsBit d (BinaryOf binary.And t u) (make_and f g).what
 and_bits d t u f g m a b =

@@ -1,4 +1,4 @@
--- The token at the front of a text is told by the longest length there.
+-- The token at the front of a text is given by the longest length there.
 use Rattle.std.proofs.Common.{◌≡◌, ℕ, ◌≤◌, ◌<◌, true, false, inl, inr, List, [], ◌∷◌, ◌++◌, length, take, drop, refl, sym, ap, subst, arith, take-append-drop}
 use Rattle.decompiled.proofs.Common.{take_at, length-take-le, cases_Bool, true≢false, TokenKind, is_name_first, is_name_later, starts, is_keyword, IsToken, IsWord, word_head, longest_at, quoted_len, shaped_len, IsLongest, Munches, shaped_munches, is_word_kind, is_text_kind}
 use Rattle.abel_lexer.specs.declared.token.TokenKind.TheVariants as kind
@@ -74,6 +74,6 @@ text_of_kind kind.Extension w e h = absurd (true≢false (sym e))
 text_of_kind kind.Sign w e h = absurd (true≢false (sym e))
 text_of_kind kind.Directive w e h = absurd (true≢false (sym e))
 
--- the word at the front is empty where no name begins
+-- the word at the front is empty if no name begins
 pub no_word : (b : ℕ) (bs : List ℕ) → is_name_first b ≡ false → shaped_len word_head is_name_later (b ∷ bs) ≡ 0
 no_word b bs e = rw e refl

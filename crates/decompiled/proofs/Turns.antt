@@ -150,7 +150,7 @@ module _ (k : TokenKind) (b : ℕ) (bs behind : List ℕ) (unmarked : is_marked 
   token_length : token_len ts ≡ length w
   token_length = ap (λ (a : TokenKind × ℕ). larger 1 a.1) apart ∙ larger_one (length w) some
 
-  -- what a turn makes of it, by what stands at the front
+  -- what a turn makes of it, by what is at the front
   abbrev by_word : Option (List ℕ) → Move
   by_word o = elim o [ Some end ↦ named nothing_defined ts end | None ↦ Done nothing_defined (take (token_len ts) ts) (drop (token_len ts) ts) ]
 

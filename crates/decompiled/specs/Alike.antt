@@ -9,7 +9,7 @@ use Rattle.decompiled.specs.SumFormulas.{sum_formula}
 use Rattle.decompiled.specs.Sources.{control_products, data_line, has_lines, live_rows, product_of}
 use Rattle.decompiled.specs.RowSums.{HasRowSizes, ReadsPairs}
 
--- the formula of an enable row; none where a pin enables
+-- the formula of an enable row; none if a pin enables
 abbrev pub enable_formula : Table → List Bool → (PinLiteral → Leaf) → Enable → Option Formula
 enable_formula t fuses leaf_of (Row row) = Some (sum_formula leaf_of (control_products t fuses row))
 enable_formula t fuses leaf_of (PinLow pin) = None

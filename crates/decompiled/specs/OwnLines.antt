@@ -10,7 +10,7 @@ abbrev pub IsOwnSignal : Table → (ℕ → ℕ) → (cell : ℕ) → Type 0
 IsOwnSignal t signal_of c =
     (d : ℕ) → d < length t.cells → signal_of (cell_at t d).pin ≡ signal_of (cell_at t c).pin → d ≡ c
 
--- its data is its data line, and its enable its enable line; there is neither where the cell has no lines
+-- its data is its data line, and its enable its enable line; there is neither if the cell has no lines
 pub record HasOwnLines (t : Table) (fuses : List Bool) (signal_of : ℕ → ℕ) (c : ℕ) : Type 0 where
   pub data_is : filter (is_data_line signal_of (signal_of (cell_at t c).pin)) (lines_of t fuses)
       ≡ (if has_lines t fuses c then data_line t fuses c ∷ [] else [])

@@ -1,4 +1,4 @@
--- The names that a source of pins and sums of products declares, and what they stand for (this project's rule).
+-- The names that a source of pins and sums of products declares, and what they represent (this project's rule).
 use Rattle.std.specs.Prelude.{◌≡◌, ℕ, ◌+◌, ◌<◌, false, None, Some, Option, Bool, List, [], ◌∷◌, ◌++◌, slice_get, codes}
 use Rattle.decompiled.specs.Prelude.{Place, ModuleTree, Known, Read, known_after, term_named}
 use Rattle.abel_tree.specs.Entries.{APin, ADeviceName, Entry, Words}
@@ -27,12 +27,12 @@ PinsAreDeclared =
     (s : PinSource) (m : ModuleTree) → IsSourceTree s m
     → (p : Place) × (es : List Entry) × ArePinEntries s.pins es × (declared_names m ≡ entry (codes "d") p ADeviceName no_words ∷ es)
 
--- no pin stands twice
+-- no pin is twice
 abbrev pub ArePinsApart : List PinLine → Type 0
 ArePinsApart ls =
     (i j : ℕ) (a b : PinLine) → slice_get ls i ≡ Some a → slice_get ls j ≡ Some b → a.pin ≡ b.pin → i ≡ j
 
--- behind names that aren't this one, the name of the pin with number k stands for the signal with number s + k
+-- after names that aren't this one, the name of the pin with number k represents the signal with number s + k
 abbrev pub PinsAreKnown : Type 0
 PinsAreKnown =
     (ls : List PinLine) (es : List Entry) (known : List Known) (s k : ℕ) (l : PinLine) → ArePinEntries ls es → ArePinsApart ls

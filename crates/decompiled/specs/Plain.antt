@@ -1,5 +1,5 @@
--- Plain texts: of names, keywords, numbers, strings, signs and extensions, with blanks between them, where no token could
--- be longer, and with no comment, directive or macro (this project's rule).
+-- Plain texts: of names, keywords, numbers, strings, signs and extensions, with blanks between them, if no token could be
+-- longer, and with no comment, directive or macro (this project's rule).
 use Rattle.std.specs.Prelude.{◌≡◌, ℕ, ◌==◌, ◌||◌, Bool, true, false, List, [], ◌∷◌, ◌++◌, length, None, codes}
 use Rattle.decompiled.specs.Prelude.{list_all, Place, TokenKind, fault_of, IsTokensOf, first_place}
 use Rattle.std.specs.Str.{str_eq_ignore_ascii_case}
@@ -33,11 +33,11 @@ pub record IsPlainPiece (p : Piece) : Type 0 where
   pub no_macro : str_eq_ignore_ascii_case (codes "MACRO") p.word ≡ false
   pub blank : list_all is_blank p.gap ≡ true
 
--- the token is the longest before what stands behind it
+-- the token is the longest before what follows it
 abbrev pub IsApart : Piece → (behind : List ℕ) → Type 0
 IsApart p behind = longest_at (p.word ++ behind) ≡ (p.kind, length p.word)
 
--- each piece is plain and apart from what stands behind it, at last this text
+-- each piece is plain and apart from what follows it, at last this text
 abbrev pub ArePlain : List Piece → (rest : List ℕ) → Type 0
 ArePlain [] rest = Unit {0}
 ArePlain (p ∷ ps) rest = IsPlainPiece p × IsApart p (text_of ps rest) × ArePlain ps rest

@@ -12,7 +12,7 @@ pub record ColumnLiteral : Type 0 where
 abbrev pub literal : Bool → Carry → ColumnLiteral
 literal higher x = record { higher = higher; pair = x }
 
--- one literal, where the fuse is intact
+-- one literal, if the fuse is intact
 abbrev pub if_intact : (fuse : Bool) → ColumnLiteral → List ColumnLiteral
 if_intact true l = []
 if_intact false l = l ∷ []

@@ -15,7 +15,7 @@ pub record SaysWhatItDoes (t : Table) (m : ModuleTree) (fuses : List Bool) : Typ
   pub one_value : HasNoDontCare (source_logic t m)
   pub does : DoesWhatItSays t m fuses
 
--- so it is of the module that the source of fuses is read as, where they have no loop and no reset path
+-- so it is of the module that the source of fuses is read as, if they have no loop and no reset path
 abbrev pub SourcesSayWhatFusesDo : Type 0
 SourcesSayWhatFusesDo =
     (t : Table) (fuses : List Bool) (m : ModuleTree) → IsDevice t → length fuses ≡ t.fuses → IsSourceTree (source_of t fuses) m

@@ -6,12 +6,12 @@ use Rattle.pld_device.specs.Pins.{cell_on}
 use Rattle.decompiled.specs.declared.literal.PinLiteral.{PinLiteral}
 use Rattle.decompiled.specs.Sources.{pins_of}
 
--- the place of a pin in a list of pins; past it where it isn't there
+-- the place of a pin in a list of pins; past it if it isn't there
 abbrev pub place_of : List ℕ → (pin : ℕ) → ℕ
 place_of [] pin = 0
 place_of (p ∷ ps) pin = if p == pin then 0 else suc (place_of ps pin)
 
--- the number of a pin's name: the pins are declared behind the device's name
+-- the number of a pin's name: the pins are declared after the device's name
 abbrev pub signal_of : Table → List Bool → (pin : ℕ) → ℕ
 signal_of t fuses pin = suc (place_of (pins_of t fuses) pin)
 

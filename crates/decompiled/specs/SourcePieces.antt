@@ -1,4 +1,4 @@
--- A pin source, token by token (this project's rule). Each part is written before the pieces that stand behind it.
+-- A pin source, token by token (this project's rule). Each part is written before the pieces that follow it.
 use Rattle.std.specs.Prelude.{ℕ, Bool, true, false, Option, None, Some, List, [], ◌∷◌, ◌++◌, if◌then◌else◌, codes}
 use Rattle.decompiled.specs.Prelude.{decimal, device_text, Extension}
 use Rattle.abel_lexer.specs.declared.token.TokenKind.TheVariants as kind
@@ -23,7 +23,7 @@ space = codes " "
 abbrev pub feed : List ℕ
 feed = codes "\n"
 
--- a sign behind a gap
+-- a sign after a gap
 abbrev pub sign : (gap w : List ℕ) → Piece
 sign gap w = record { gap = gap; kind = kind.Sign; word = w }
 
@@ -43,13 +43,13 @@ number gap w = record { gap = gap; kind = kind.Number; word = w }
 abbrev pub string : (gap w : List ℕ) → Piece
 string gap w = record { gap = gap; kind = kind.Text; word = w }
 
--- an extension, right behind its name
+-- an extension, right after its name
 abbrev pub extension : (w : List ℕ) → Piece
 extension w = record { gap = none; kind = kind.Extension; word = w }
 
 -- ---- sums of products
 
--- a pin's name, behind `!` or not
+-- a pin's name, after `!` or not
 abbrev pub name_pieces : (gap : List ℕ) → (negated : Bool) → (pin : ℕ) → (more : List Piece) → List Piece
 name_pieces gap false pin more = identifier gap (name_text pin) ∷ more
 name_pieces gap true pin more = sign gap (codes "!") ∷ identifier none (name_text pin) ∷ more

@@ -1,4 +1,4 @@
--- The tree of a pin source, wherever its tokens stand (ABEL-HDL Reference Manual, source file structure).
+-- The tree of a pin source, wherever its tokens are (ABEL-HDL Reference Manual, source file structure).
 use Rattle.std.specs.Prelude.{◌≡◌, ℕ, Bool, true, false, Option, None, Some, List, [], ◌∷◌, ◌++◌, if◌then◌else◌, codes}
 use Rattle.decompiled.specs.Prelude.{Place, device_text, Extension, Tree, ANumber, AName, AUnary, ABinary, Statement, AnAssign, Declaration, ADevice, SomePins, Equations, ModuleTree}
 use Rattle.abel_tree.specs.declared.words.Word.{Word}

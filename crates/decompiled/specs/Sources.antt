@@ -1,4 +1,4 @@
--- The source of a device's fuses (the devices' datasheets, macrocell diagrams; what stands in which line is this project's
+-- The source of a device's fuses (the devices' datasheets, macrocell diagrams; what is in which line is this project's
 -- rule).
 use Rattle.std.specs.Prelude.{ℕ, ◌==◌, Bool, true, false, not, ◌&&◌, ◌||◌, if◌then◌else◌, Option, None, Some, List, [], ◌∷◌, ◌++◌, length, filter, find, flat_map, map}
 use Rattle.decompiled.specs.Prelude.{list_any, range_with_len, Carry, Enable, Row, PinLow, complement_if, data_complements, data_rows, pin_complements, is_never_true, is_inverted, stores, Table, cell_at, Extension}
@@ -67,7 +67,7 @@ enable_lines t fuses c (PinLow pin) = []
 abbrev pub cell_lines : Table → List Bool → (cell : ℕ) → List SumLine
 cell_lines t fuses c = if has_lines t fuses c then data_line t fuses c ∷ enable_lines t fuses c (cell_at t c).enable else []
 
--- the row of all registers, at the first of them, where it may be true
+-- the row of all registers, at the first of them, if it may be true
 abbrev pub shared_lines : Table → List Bool → Extension → Option ℕ → Option ℕ → List SumLine
 shared_lines t fuses e (Some c) (Some row) = if is_never_true t fuses row then [] else control_line t fuses c e row ∷ []
 shared_lines t fuses e _ _ = []

@@ -7,7 +7,7 @@ use abel_tree::Extension;
 use pld_base::{OutOfMemory, put_decimal};
 use std::alloc::Global;
 
-/// The level of a pin, or with `of_q` the Q of the register there; its complement where it is negated.
+/// The level of a pin, or with `of_q` the Q of the register there; its complement if it is negated.
 #[derive(Clone, Copy, PartialEq, Eq)]
 pub struct PinLiteral {
     pub negated: bool,
@@ -33,7 +33,7 @@ pub fn put_name(alloc: Global, out: &mut Vec<u8>, pin: u8) -> Result<(), OutOfMe
     put_decimal(alloc, out, usize::from(pin))
 }
 
-/// Appends an extension behind a name, where there is one.
+/// Appends an extension after a name, if there is one.
 pub fn put_extension(out: &mut Vec<u8>, extension: Option<Extension>) -> Result<(), OutOfMemory>
     ensures { OnOk result (out.new.items ≡ out.old.items ++ extension_text extension) }
 {
@@ -52,7 +52,7 @@ pub fn put_extension(out: &mut Vec<u8>, extension: Option<Extension>) -> Result<
     Ok(())
 }
 
-/// The extension of a name that stands for a register's Q, or none.
+/// The extension of a name that represents a register's Q, or none.
 fn q_if(of_q: bool) -> Option<Extension>
     ensures { result ≡ q_if of_q }
 {

@@ -15,7 +15,7 @@ pub fn sums()
     ensures { SumsHaveFormulas }
 {}
 
-/// Each line gives its sum to the signal of its pin; where a signal has one line, that sum is its function. Does nothing.
+/// Each line gives its sum to the signal of its pin; if a signal has one line, that sum is its function. Does nothing.
 pub fn lines()
     ensures give { LinesGive }
     ensures functions { OneLineIsAFunction }

@@ -8,8 +8,8 @@ use abel_tree::Extension;
 use pld_base::{ListOf, OutOfMemory};
 use std::alloc::Global;
 
-/// A sum of products that is assigned to a pin's name, or to one of its extensions; `negated` where a `!` stands before
-/// the name. A product of no literal is 1, a sum of no product 0.
+/// A sum of products that is assigned to a pin's name, or to one of its extensions; `negated` if a `!` precedes the
+/// name. A product of no literal is 1, a sum of no product 0.
 #[derive(Drop)]
 pub struct SumLine {
     pub negated: bool,
@@ -18,7 +18,7 @@ pub struct SumLine {
     pub products: ListOf<ListOf<PinLiteral>>,
 }
 
-/// Appends a literal behind another one.
+/// Appends a literal after another one.
 fn put_further_literal(
     alloc: Global,
     out: &mut Vec<u8>,
@@ -45,7 +45,7 @@ fn put_product(alloc: Global, out: &mut Vec<u8>, literals: &[PinLiteral]) -> Res
     Ok(())
 }
 
-/// Appends a product behind another one.
+/// Appends a product after another one.
 fn put_further_product(
     alloc: Global,
     out: &mut Vec<u8>,

@@ -135,7 +135,7 @@ module _ (fs : List Formula) where
       pub ids : List ExprId
       pub rest : Hold ids xs
 
-    -- the cell of these ids, and that it stands for the plain one
+    -- the cell of these ids, and that it represents the plain one
     module _ (w : Wanted) (one any enable reset preset : ExprId) where
       abbrev controlled : Extension → Option Formula → ExprId → Option Control
       controlled e o i = control_at w.name e o i

@@ -123,7 +123,7 @@ module _ (t : Table) (fuses : List Bool) (laws : IsDevice t) (long : length fuse
         ]
         )
 
-  -- a signal that comes to rest reads one on a cell, as the cells do
+  -- a signal that settles reads one on a cell, as the cells do
   record AreReads (s r : ℕ) : Type 0 where
     pub from : IsSettled t fuses laws m is s
     pub to : IsOn t fuses laws m is r

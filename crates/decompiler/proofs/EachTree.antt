@@ -1,4 +1,4 @@
--- What holds of the tree of each sum, where it holds of numbers and names, and of what is made of them.
+-- What holds of the tree of each sum, if it holds of numbers and names, and of what is made of them.
 use Rattle.std.proofs.Common.{ℕ, ◌<◌, Bool, true, false, List, [], ◌∷◌, sym, subst, arith}
 use Rattle.decompiler.proofs.Common.{AllByRecursion, Place, Tree, ANumber, AName, AUnary, ABinary, PinLiteral, q_if, name_text, word, IsLiteral, IsNumber, IsProduct, IsSigned, IsSum, IsJoined}
 use Rattle.abel_tree.specs.declared.words.Unary.TheVariants as unary

@@ -1,4 +1,4 @@
--- Each formula is written behind the others, node by node.
+-- Each formula is written after the others, node by node.
 use Rattle.std.proofs.Common.{◌≡◌, ℕ, zero, suc, ◌+◌, ◌-◌, ◌<◌, ◌≤◌, true, false, List, [], ◌∷◌, ◌++◌, length, map, get_or, refl, sym, ap, subst, ◌∙◌, arith, length-append}
 use Rattle.decompiler.proofs.Common.{AllByRecursion, ExprId, arena, constants, formula_at, formula_of, formulas_from, Formula, Const, Read, Not, And, Or, Xor, nodes_of, all_nodes_of, ArenasAreThere}
 use Rattle.bit_expr.specs.declared.node.Leaf.TheVariants as leaf
@@ -30,7 +30,7 @@ pub record Put (f : Formula) (fs : List Formula) : Type 0 where
   pub size : length (formulas_from fs nodes) ≡ length fs + nodes_of f
   pub keeps : (i : ℕ) → i < length fs → get_or (formulas_from fs nodes) i (Const false) ≡ get_or fs i (Const false)
 
--- the constants stand there
+-- the constants are there
 pub record HasConstants (fs : List Formula) : Type 0 where
   pub low : get_or fs 0 (Const false) ≡ Const false
   pub high : get_or fs 1 (Const false) ≡ Const true
@@ -44,7 +44,7 @@ still f fs p c =
       two = omega (arith, c.two, p.size);
     }
 
--- one more node behind others
+-- one more node after others
 module _ (fs : List Formula) (nodes : List Node) (n : Node) where
   abbrev before : List Formula
   before = formulas_from fs nodes
@@ -65,7 +65,7 @@ module _ (fs : List Formula) (nodes : List Node) (n : Node) where
         keeps = λ i lt. ap (λ (gs : List Formula). get_or gs i (Const false)) one_more ∙ at_front before (formula_of before n ∷ []) i (omega (arith, lt, size)) ∙ keeps i lt;
       }
 
--- two formulas, one behind the other
+-- two formulas, one after the other
 pub record PutTwo (f g : Formula) (fs : List Formula) : Type 0 where
   pub nodes : List Node
   pub first : ExprId

@@ -1,4 +1,4 @@
--- Where a device always inverts, no register of a decompiled source is declared `buffer`.
+-- If a device always inverts, no register of a decompiled source is declared `buffer`.
 use Rattle.std.proofs.Common.{◌≡◌, ℕ, suc, Bool, true, false, not, Option, None, Some, List, [], ◌∷◌, ◌++◌, slice_get, refl, sym, ap, ◌∙◌, ◌==◌}
 use Rattle.decompiler.proofs.Common.{and_parts, Flip, Always, AfterRegister, BeforeRegister, pin_complements, is_inverted, Table, Place, Entry, Declaration, GivenName, all_said, all_buffered, always_inverts, buffered, names_behind, PinLine, attributes_in, IsPinLine, ArePins, follows_by, pin_line, register_on}
 

@@ -65,7 +65,7 @@ module _ (t : Table) (fuses : List Bool) (laws : IsDevice t) (m : ModuleTree) (i
         ap (statement_manners d.context) written_is
         ∙ ap (λ (found : TargetFound). assigned_manners l.extension l.negated sign.Equal (assigned_aims found)) aim_is
 
-    -- its signal stands at one place
+    -- its signal is at one place
     pub record IsPlacedAt (ps : List Place) : Type 0 where
       pub place : Place
       pub equals : ps ≡ place ∷ []
@@ -76,7 +76,7 @@ module _ (t : Table) (fuses : List Bool) (laws : IsDevice t) (m : ModuleTree) (i
       equals = ap (statement_places d.context) written_is ∙ ap (λ (found : TargetFound). map (λ (a : Aim). a.place) (assigned_aims found)) aim_is;
     }
 
-    -- nothing is refused, behind lines
+    -- nothing is refused, after lines
     line_passes : (before : List Manner) → AllByRecursion (IsLineManner t fuses laws m is) before
         → assign_refused d.context before l.extension l.negated sign.Equal line.sign_place one_aim (expression_found d.context.names line.value) ≡ []
     line_passes before all =
@@ -98,7 +98,7 @@ module _ (t : Table) (fuses : List Bool) (laws : IsDevice t) (m : ModuleTree) (i
       pub equals : us ≡ unit ∷ []
       pub refusals : unit.refusals ≡ []
       pub nodes : unit.nodes ≤ 2832
-      -- those of its value, as nothing stands round it
+      -- those of its value, as nothing surrounds it
       pub counted : unit.nodes ≡ (bits_of d.context (term_of d.context.known line.value)).nodes
 
     pub unit_is : (before : List Manner) → AllByRecursion (IsLineManner t fuses laws m is) before → IsLineUnit before (units_of_statement d.context (Const true) before s)

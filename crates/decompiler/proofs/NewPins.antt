@@ -18,7 +18,7 @@ pin_entry l p = entry (name_text l.pin) p (APin l.pin false) (said l.follows)
 
 -- ---- words
 
--- where a string stands says nothing
+-- the place of a string says nothing
 said_anywhere : (follows : Option Bool) (p : Place) → all_said (attributes_in follows p) ≡ said follows
 said_anywhere None p = refl
 said_anywhere (Some true) p = refl
@@ -61,7 +61,7 @@ module _ (l : PinLine) (d : Declaration) (is : IsPinLine l d) where
   parts_pass : (before : List Declaration) (es : List Entry) → parts_refused before es d ≡ []
   parts_pass before es = ap (parts_refused before es) is.is ∙ strings_pass l.follows is.attributes
 
--- ---- pins that are new behind names
+-- ---- pins that are new after names
 
 pub record IsNew (es : List Entry) (l : PinLine) : Type 0 where
   pub free : is_taken es l.pin ≡ false
@@ -136,7 +136,7 @@ module _ (t : Table) where
           subst (λ (es : List Entry). IsNew es a) (sym (behind_one before l are.0 are.2))
           (new_behind (names_behind before) a l are.2.name (good (suc i) a there).low (good 0 l refl).low (other i a there) (new (suc i) a there))
 
--- the names behind the declarations are those of the pins
+-- the names after the declarations are those of the pins
 pub behind_pins : (ls : List PinLine) (ds : List Declaration) (es : List Entry) → ArePins ls ds → (more : List Entry) × ArePinEntries ls more × (fold declared es ds ≡ es ++ more)
 behind_pins [] ds es are = ([], refl, ap (fold declared es) are ∙ sym (append-nil es))
 behind_pins (l ∷ ls) ds es are =

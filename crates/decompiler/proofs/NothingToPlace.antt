@@ -14,7 +14,7 @@ module _ (t : Table) (holds : Holds) (assigned : List Assigned) where
   device_stays : (k : ℕ) (p : Place) → needs_pin t (with_kind t.flip holds assigned k (entry (codes "d") p ADeviceName no_words)) ≡ false
   device_stays k p = and_right (is_buffer_by_default t.flip) false refl
 
-  -- a pin with a number stays where it is
+  -- a pin with a number stays if it is
   pin_stays : (k : ℕ) (l : PinLine) (e : Entry) → IsPinEntry l e → 1 ≤ l.pin → needs_pin t (with_kind t.flip holds assigned k e) ≡ false
   pin_stays k l e is low =
       let x : Entry = with_kind t.flip holds assigned k (entry (name_text l.pin) is.0 (APin l.pin false) (said l.follows)) in

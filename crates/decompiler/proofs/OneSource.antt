@@ -1,4 +1,4 @@
--- Two devices that do what one source says run alike, where the source has no nodes and no don't-care.
+-- Two devices that do what one source says run alike, if the source has no nodes and no don't-care.
 use Rattle.std.proofs.Common.{◌≡◌, ◌≢◌, ◌<◌, Bool, List, [], ◌∷◌, sym, subst, ◌∙◌}
 use Rattle.decompiler.proofs.Common.{Logic, Levels, DoesTheSame, HasNoDontCare, HasNoNodes, IsShownAs, NodeValues}
 use Rattle.pld_machine.specs.Steps.{Run}

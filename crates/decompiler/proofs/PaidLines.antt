@@ -1,4 +1,5 @@
--- The formulas of a source's lines have no more nodes than its units were counted for; and where its lines stand.
+-- The formulas of a source's lines have no more nodes than its units were counted for; and the place of its
+-- lines.
 use Rattle.std.proofs.Common.{◌≡◌, ◌+◌, ◌≤◌, Bool, true, List, [], ◌∷◌, ◌++◌, length, map, refl, ap, ◌∙◌, arith}
 use Rattle.decompiler.proofs.Common.{AllByRecursion, Place, IsDevice, Table, Formula, Const, all_nodes_of, nodes_of, Statement, ModuleTree, statements_of, Design, design_of, bits_of, term_of, Manner, CountedUnit, units_nodes, statement_manners, statements_places, units_of_statements, SumLine, AreLines, IsLine, IsSourceTree, sum_formula, source_of, each_append, each_weaker, leaf_of, IsDeclaredLiteral, literals_read}
 use Rattle.decompiled.proofs.SumBits.{sums}
@@ -52,7 +53,7 @@ module _ (t : Table) (fuses : List Bool) (laws : IsDevice t) (m : ModuleTree) (i
       let nodes : units_nodes (units_of_statements d.context (Const true) before (statements_of ss)) ≡ unit.unit.nodes + units_nodes later = ap units_nodes whole in
       omega (arith, one, rest, nodes, unit.counted)
 
-  -- ---- where they stand
+  -- ---- their places
 
   -- a place for each line
   pub record HavePlaces (ls : List SumLine) (ss : List Statement) : Type 0 where

@@ -3,7 +3,7 @@ use Rattle.std.proofs.Common.{◌≡◌, ℕ, zero, suc, ◌+◌, ◌*◌, ◌<�
 use Rattle.decompiler.proofs.Common.{map-append, slice_get-get_or, is_on, Carry, ColumnLiteral, if_intact, literal, literals_of, literals_at}
 use Rattle.pld_device.specs.declared.carry.Carry.TheVariants as carry
 
--- the literals from a pair on are its own, and those of the pairs behind it
+-- the literals from a pair on are its own, and those of the pairs after it
 walk : (fs : List Bool) (xs : List Carry) (p k : ℕ) (x : Carry) → k ≡ 2 * p → length fs ≡ 2 * length xs → slice_get xs p ≡ Some x
     → literals_of (drop k fs) (drop p xs) ≡ if_intact (is_on fs k) (literal false x) ++ (if_intact (is_on fs (suc k)) (literal true x) ++ literals_of (drop (suc (suc k)) fs) (drop (suc p) xs))
 walk fs [] p k x twice long found = absurd (none_some found)
@@ -21,7 +21,7 @@ walk (a ∷ b ∷ fs) (y ∷ xs) (suc p) zero x twice long found = absurd (omega
 walk (a ∷ b ∷ fs) (y ∷ xs) (suc p) (suc zero) x twice long found = absurd (omega arith)
 walk (a ∷ b ∷ fs) (y ∷ xs) (suc p) (suc (suc k)) x twice long found = walk fs xs p k x (omega arith) (omega arith) found
 
--- past the last pair there are none
+-- past the last pair there aren't any
 walk_end : (fs : List Bool) (xs : List Carry) (p : ℕ) → length xs ≤ p → literals_of fs (drop p xs) ≡ []
 walk_end fs [] zero past = no_pair fs
   where
@@ -38,7 +38,7 @@ walk_end fs [] (suc p) past = no_pair fs
 walk_end fs (x ∷ xs) zero past = absurd (omega arith)
 walk_end fs (x ∷ xs) (suc p) past = walk_end fs xs p (omega arith)
 
--- from a pair on, they are its own and those of the pairs behind it
+-- from a pair on, they are its own and those of the pairs after it
 module _ (fs : List Bool) (xs : List Carry) (long : length fs ≡ 2 * length xs) where
   pub pair_more : (p : ℕ) → p < length xs → literals_of (drop (2 * p) fs) (drop p xs) ≡ literals_at fs p (slice_get xs p) ++ literals_of (drop (2 * (p + 1)) fs) (drop (p + 1) xs)
   pair_more p within =

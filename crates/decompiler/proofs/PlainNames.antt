@@ -85,7 +85,7 @@ kind_signal s k name (ANode number) plain read = absurd plain
 kind_signal s k name (AConstant value) plain read = absurd plain
 kind_signal s k name ADeviceName plain read = absurd (number_read 0 k read)
 
--- a name that stands for a signal is found as one
+-- a name that represents a signal is found as one
 signal_named : (s k : ℕ) (es : List Entry) (name : List ℕ) → ArePlain es → term_named (knowns s es) name ≡ Read k None → IsSignalFound (name_found (map alone es) name)
 signal_named s k [] name plain read = absurd (number_read 0 k read)
 signal_named s k (e ∷ es) name plain read = by_test (bytes_eq name e.name) refl (λ later. signal_named (suc s) k es name plain.1 later)

@@ -9,7 +9,7 @@ range_more a n =
     sym (map-id (range_with_len a (n + 1)))
     ∙ (map-range_with_len_more (λ k. k) a n (a + n) refl ∙ ap (λ ks. ks ++ (a + n) ∷ []) (map-id (range_with_len a n)))
 
--- what a range gives, and what the number behind it gives
+-- what a range gives, and what the number after it gives
 module _ {A : Type 0} (give : ℕ → List A) where
   pub range_gives : (a n : ℕ) → flat_map give (range_with_len a n) ++ give (a + n) ≡ flat_map give (range_with_len a (n + 1))
   range_gives a n =

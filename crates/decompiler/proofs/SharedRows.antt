@@ -11,7 +11,7 @@ use Rattle.decompiler.proofs.CellRooms.{IsOneOrNone, asked, bit_product, control
 
 -- ---- the first cell that has such an equation
 
--- there is none, or it is this one
+-- there isn't one, or it is this one
 pub record IsFirst (fs : List Formula) (which : SharedControl) (ws : List CellWanted) : Type 0 where
   pub cell : CellWanted
   pub control : Control
@@ -86,7 +86,7 @@ module _ (t : Table) (fuses : List Bool) (leaf_of : PinLiteral → Leaf) (net : 
       by_row None = record { products = []; few = omega arith; is = refl }
       by_row (Some row) = control_few t fuses leaf_of row
 
-  -- all own equations are the shared function, where each is this formula
+  -- all own equations are the shared function, if each is this formula
   are_shared : ((c : ℕ) (w : CellWanted) (f : Formula) → cell_wanted net c ≡ Some w → own (plain_wanted fs w) ≡ Some f → f ≡ shared_function own (plain_netlist net))
       → AreShared t (plain_netlist net) own
   are_shared each c w f at e point valued = by_cell (cell_wanted net c) refl

@@ -1,10 +1,10 @@
--- The cells of the signals of a decompiled source that are read, or come to rest.
+-- The cells of the signals of a decompiled source that are read, or settle.
 use Rattle.std.proofs.Common.{◌≡◌, ℕ, suc, ◌<◌, ◌⊎◌, inl, inr, Bool, true, false, not, if◌then◌else◌, Option, Some, None, List, length, unwrap_or, refl, sym, ap, subst, ◌∙◌, ◌&&◌}
 use Rattle.decompiler.proofs.Common.{option_map, and_parts, true≢false, IsDevice, stores, Table, cell_at, Leaf, Kind, APin, ANode, AConstant, ADeviceName, is_stored, ModuleTree, cell_on, Design, design_of, name_at, is_one_of, leaf_by, settles, settles_by, IsSourceTree, has_lines, pins_of, source_of, place_of, signal_of, taken_once, HasNoCell, cell_name, free_plain, free_unassigned_name, kind_is, on_cell, IsNameAt, names_at, IsDeclared, declared_there, is_named, cell_here}
 use Rattle.bit_expr.specs.declared.node.Leaf.TheVariants as leaf
 use Rattle.abel_meaning.specs.SignalReads.{leaf_of}
 
--- the pin of a name, 0 where it has none
+-- the pin of a name, 0 if it has none
 abbrev pub pin_of : Kind → ℕ
 pin_of (APin pin negated) = pin
 pin_of (ANode number) = 0
@@ -52,7 +52,7 @@ module _ (t : Table) (fuses : List Bool) (laws : IsDevice t) (m : ModuleTree) (i
 
   -- ---- by what is asked of the name
 
-  -- a name on no cell is no register, does not come to rest, and has no leaf
+  -- a name on no cell is no register, does not settle, and has no leaf
   pub record IsNoSignal (s : ℕ) : Type 0 where
     pub plain : is_stored (name_at d.context s) ≡ false
     pub unsettled : settles (name_at d.context s) ≡ false

@@ -3,7 +3,7 @@ use Rattle.std.proofs.Common.{◌≡◌, ℕ, inl, inr, Bool, true, Some, List, 
 use Rattle.decompiler.proofs.Common.{AllByRecursion, list_any, or_cases, true≢false, Carry, IsSignalPin, IsPair, IsDevice, Table, PinLiteral, PinLine, SumLine, lines_of, named_by, names_pin, product_names, source_of, IsPairLiteral, IsCellLine, lines_on, IsTaken, was_taken, cell_pin, declared_at, is_named}
 use Rattle.pld_device.specs.declared.carry.Carry.TheVariants as carry
 
--- what follows from each element that passes, where some does
+-- what follows from each element that passes, if some does
 some_gives : {A : Type 0} (P : A → Type 0) (test : A → Bool) (G : Type 0) → ((x : A) → P x → test x ≡ true → G) → (xs : List A) → AllByRecursion P xs → list_any test xs ≡ true → G
 some_gives P test G gives [] all some = absurd (true≢false (sym some))
 some_gives P test G gives (x ∷ xs) all some = elim (or_cases (test x) (list_any test xs) some) [

@@ -56,7 +56,7 @@ module _ (t : Table) (fuses : List Bool) (laws : IsDevice t) (m : ModuleTree) (i
       by_name (inl device) = absurd (no_node (name_at d.context s).kind n (ap is_no_node device.0) kind)
       by_name (inr of) = absurd (no_node (name_at d.context s).kind n (ap is_no_node of.4) kind)
 
-  -- a register whose pin equals Q is one of a device that complements behind it
+  -- a register whose pin equals Q is one of a device that complements after it
   behind : (flip : Flip) (inverted : Bool) → not (pin_complements flip true inverted) ≡ true → flip ≡ AfterRegister
   behind Always inverted e = absurd (true≢false (sym e))
   behind AfterRegister inverted e = refl

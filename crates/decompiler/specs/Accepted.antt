@@ -2,7 +2,7 @@
 use Rattle.std.specs.Prelude.{◌≡◌, Bool, List, length}
 use Rattle.decompiler.specs.Prelude.{HasNoLoop, IsDevice, Table, cell_reads, HasNoResetPath, ModuleTree, IsSourceTree, source_of, FitsAsWritten, IsAcceptedFor}
 
--- nothing at all is refused of a module that is the fuses' source, where these have no loop and no reset path
+-- nothing at all is refused of a module that is the fuses' source, if these have no loop and no reset path
 abbrev pub SourcesAreAccepted : Type 0
 SourcesAreAccepted =
     (t : Table) (fuses : List Bool) (m : ModuleTree) → IsDevice t → length fuses ≡ t.fuses → IsSourceTree (source_of t fuses) m

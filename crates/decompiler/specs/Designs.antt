@@ -3,7 +3,7 @@ use Rattle.std.specs.Prelude.{◌≡◌, Bool, List, length}
 use Rattle.decompiler.specs.Prelude.{HasNoLoop, IsDevice, Table, arena, cell_reads, HasNoResetPath, ModuleTree, design_of, IsTakeable, Contributions, AreContributed, IsSourceTree, source_of}
 use Rattle.design.specs.Answers.{HasNoRefusal}
 
--- nothing is refused of the design of a module that is the fuses' source, where these have no loop and no reset path
+-- nothing is refused of the design of a module that is the fuses' source, if these have no loop and no reset path
 abbrev pub DesignsAreUnrefused : Type 0
 DesignsAreUnrefused =
     (t : Table) (fuses : List Bool) (m : ModuleTree) → IsDevice t → length fuses ≡ t.fuses → IsSourceTree (source_of t fuses) m

@@ -13,7 +13,7 @@ pub record IsRightSource (t : Table) (fuses : List Bool) (m : ModuleTree) : Type
   pub fits : FitsAsWritten t m
   pub says : SaysWhatItDoes t m fuses
 
--- so is a module that is the source of fuses, where these have no loop and no reset path
+-- so is a module that is the source of fuses, if these have no loop and no reset path
 abbrev pub SourcesAreRight : Type 0
 SourcesAreRight =
     (t : Table) (fuses : List Bool) (m : ModuleTree) → IsDevice t → length fuses ≡ t.fuses → IsSourceTree (source_of t fuses) m

@@ -65,7 +65,7 @@ impl<D: Device> DeviceFuses<D> {
         })
     }
 
-    /// Appends a cell's enable line, where a row enables it.
+    /// Appends a cell's enable line, if a row enables it.
     fn push_enable(
         &self,
         alloc: Global,
@@ -88,7 +88,7 @@ impl<D: Device> DeviceFuses<D> {
         Ok(())
     }
 
-    /// Appends a cell's lines, where it has some.
+    /// Appends a cell's lines, if it has some.
     fn push_cell(
         &self,
         alloc: Global,
@@ -105,7 +105,7 @@ impl<D: Device> DeviceFuses<D> {
         Ok(())
     }
 
-    /// Appends the line of a row of all registers, where there is one that can be true, and a register.
+    /// Appends the line of a row of all registers, if there is one that can be true, and a register.
     fn push_shared(
         &self,
         alloc: Global,

@@ -65,7 +65,7 @@ impl<D: Device> DeviceFuses<D> {
         Ok(ListOf::from_vec(literals))
     }
 
-    /// Appends a row as a product, where it can be true.
+    /// Appends a row as a product, if it can be true.
     fn push_if_live(
         &self,
         alloc: Global,

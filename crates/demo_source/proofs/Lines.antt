@@ -6,7 +6,7 @@ use Rattle.pld_machine.specs.Steps.{Steps, Run}
 use Rattle.demo_source.specs.Pulses.{Come, IsPulsed, AreLines}
 
 module _ (m : Logic) where
-  -- after a point, what comes is its steps
+  -- after a point, what follows is its steps
   come_steps : (at : Levels) (outsides : List (List Bool)) (points : List Levels) → Come m (Some at) outsides points → Steps m at outsides points
   come_steps at [] [] come = come
   come_steps at (o ∷ outsides) (p ∷ points) come = (come.0, come_steps p outsides points come.1)

@@ -1,5 +1,5 @@
 -- What is drawn for a demo source, from a seed (the linear congruential generator of the C standard's example of
--- `rand`; how many numbers are drawn, and what they stand for, is this project's rule).
+-- `rand`; how many numbers are drawn, and what they represent, is this project's rule).
 use Rattle.std.specs.Prelude.{ℕ, zero, suc, ◌+◌, ◌*◌, ◌/◌, ◌%◌, ◌^◌, ◌==◌, Bool, List, [], ◌∷◌}
 use Rattle.demo_source.specs.declared.literals.Literal.{Literal}
 use Rattle.demo_source.specs.declared.equations.Product.{Product}

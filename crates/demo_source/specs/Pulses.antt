@@ -1,4 +1,4 @@
--- How the vectors' points and lines come one after another. These are private helpers: no public clause cites them.
+-- How the vectors' points and lines follow one another. These are private helpers: no public clause cites them.
 use Rattle.std.specs.Prelude.{◌≡◌, ℕ, Bool, true, false, Option, None, Some, List, [], ◌∷◌, flat_map}
 use Rattle.pld_base.specs.Points.{Levels}
 use Rattle.pld_base.specs.Logic.{Logic}
@@ -12,7 +12,7 @@ abbrev pub Comes : Logic → Option Levels → List Bool → Levels → Type 0
 Comes m None levels at = AtRest m levels power_up at
 Comes m (Some before) levels at = Step m before levels at
 
--- points that come one after another
+-- points that follow one another
 abbrev pub Come : Logic → Option Levels → List (List Bool) → List Levels → Type 0
 Come m before [] [] = Unit {0}
 Come m before (levels ∷ rest) (at ∷ points) = Comes m before levels at × Come m (Some at) rest points

@@ -28,7 +28,7 @@ pub struct Equation {
     pub products: ListOf<Product>,
 }
 
-/// Appends a literal behind another one.
+/// Appends a literal after another one.
 fn put_further_literal(
     alloc: Global,
     out: &mut Vec<u8>,
@@ -40,7 +40,7 @@ fn put_further_literal(
     literal.put(alloc, out)
 }
 
-/// Appends a product behind another one.
+/// Appends a product after another one.
 fn put_further_product(
     alloc: Global,
     out: &mut Vec<u8>,

@@ -68,7 +68,7 @@ fn put_equations(
 /// and a thousand test vectors that expect what a run of the source shows. All of it is drawn from `seed`.
 ///
 /// # Errors
-/// Only want of memory.
+/// Only lack of memory.
 pub fn demo_text(alloc: Global, seed: u16) -> Result<Vec<u8>, OutOfMemory>
     ensures { IfOk result (λ text. IsDemoSource seed text.items) }
 {

@@ -43,7 +43,7 @@ fn outside_of(clock: bool, inputs: &[bool]) -> u32
     levels
 }
 
-/// The next point: after a step, or at rest from power-up where there is none before.
+/// The next point: after a step, or at rest from power-up if there isn't one before.
 fn point_after(of: &Machine, before: Option<Point>, outside: u32) -> Point
     ensures { Comes (logic_of (machine of.now.equations.now)) (option_map levels_of before)
         (bits 32 outside) (levels_of result) }
@@ -74,7 +74,7 @@ fn put_level(out: &mut Vec<u8>, level: bool) -> Result<(), OutOfMemory>
     Ok(())
 }
 
-/// Appends a level behind a comma.
+/// Appends a level after a comma.
 fn put_further_level(out: &mut Vec<u8>, level: bool) -> Result<(), OutOfMemory>
     ensures { OnOk result (out.new.items ≡ out.old.items ++ further_text level) }
 {

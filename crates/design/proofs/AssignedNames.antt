@@ -7,7 +7,7 @@ use Rattle.design.proofs.NamedTerms.{IsWithin, same_signals, bare_among, both_am
 
 -- ---- assignments
 
--- kinds change neither names nor what they stand for
+-- kinds change neither names nor what they represent
 named_kept : (flip : Flip) (held : Holds) (found : List Assigned) (ks : List Named) (s k : ℕ) (es : List Entry) → named_after ks s (with_kinds flip held found k es) ≡ named_after ks s es
 named_kept flip held found ks s k [] = refl
 named_kept flip held found ks s k (e ∷ es) = named_kept flip held found (ks ++ record { name = e.name; signals = meant ks s e.kind } ∷ []) (suc s) (suc k) es

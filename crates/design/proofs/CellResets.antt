@@ -16,7 +16,7 @@ use Rattle.design.specs.{Before}
 
 -- ---- the first path
 
--- no place stands before itself
+-- no place precedes itself
 not_itself : (p : Place) → is_sooner p p ≡ false
 unfolding is_before
 not_itself p = grind (arith, nat_tests)
@@ -29,7 +29,7 @@ module _ (fs : List Formula) (ns : List ℕ) (ls : List Link) where
   abbrev NowhereAt : (Place → Type 0) → CellWanted → Type 0
   NowhereAt P w = LeadsNowhereAt fs ns ls P w
 
-  -- the reset of a cell with a path stands where the path does
+  -- the reset of a cell with a path is if the path does
   same_place : (w : CellWanted) (p : ResetPath) (c : Control) → IsPathOf fs ns ls w p → w.reset ≡ Some c → c.place ≡ p.place
   same_place w p c path is = ap (λ (k : Control). k.place) (same_Some c path.reset (sym is ∙ path.is)) ∙ sym path.place
 
@@ -120,7 +120,7 @@ module _ (d : Design) (fs : List Formula) (ns : List ℕ) (ls : List Link) (cs :
   reset_of w c for is = record { cells = cells; links = links; reset = reset_is w c for is }
 
   module _ (P : Place → Type 0) (nowhere : All (LeadsNowhereAt fs ns ls P) ws) where
-    -- the reset of the signal stands at such a place
+    -- the reset of the signal is at such a place
     abbrev StandsAt : ℕ → Type 0
     StandsAt s = (p : Place) → IsResetAt cs s p → P p
 
@@ -156,7 +156,7 @@ module _ (d : Design) (fs : List Formula) (ns : List ℕ) (ls : List Link) (cs :
         by None e = no_equation d s e
         by (Some f) e = stored_goes s f e (had s f e) stands
 
-  -- where no reset of a cell leads to a register, none of a signal does
+  -- if no reset of a cell leads to a register, none of a signal does
   pub none_leads : AllLeadNowhere fs ns ls ws → (s : ℕ) → HasNoSignalPath d s
   none_leads nowhere s = no_path AnyPlace nowhere s (λ p at. tt)
 

@@ -1,4 +1,4 @@
--- Where nothing is refused of several units, of an assignment, of a table or of a diagram, nothing is refused of their
+-- If nothing is refused of several units, of an assignment, of a table or of a diagram, nothing is refused of their
 -- parts, and the signals of their targets are nodes and pins of cells.
 use Rattle.std.proofs.Common.{◌≡◌, ℕ, ◌==◌, Bool, true, false, ◌&&◌, ◌||◌, Option, Some, List, [], ◌∷◌, ◌++◌, inl, inr, refl, ap, subst, None, sym, ◌∙◌, length}
 use Rattle.design.proofs.Common.{list_any, and_parts, true_from_ne_false, eqb-true, or_cases, Place, Extension, is_data, Context, name_at, some_signals, NotAnOutput, Manner, manner_of, is_output_kind, is_output, may_be_assigned, no_output, mixed, aims_refused, left_empty, right_empty, positions_of, among, Named, signals_of, assigned_each, is_assigned, Tree, RowTree, term_of, expression_found, CountedUnit, units_refused, is_clocked, StateTree, Found, TargetFound, target_member, refused_append, unless_any, assigned_aims, taken_refused, assign_refused, registers_refused, register_manners, units_of_states, units_behind, units_of_diagram, if_none}
@@ -43,7 +43,7 @@ header_clear : (rs : List SectionFault) (p : Place) (us : List CountedUnit) → 
 header_clear [] p us h = (refl, h)
 header_clear (r ∷ rs) p us h = absurd cc
 
--- the registers as targets, and the states behind them
+-- the registers as targets, and the states after them
 pub diagram_clear : (d : Context) (before : List Manner) (p : Place) (registers : Tree) (xs : List StateTree) → units_refused (units_of_diagram d before p registers xs) ≡ []
     → IsTargetClear d before None false true (target_member d registers)
     × (units_refused (units_of_states d (diagram.signals_of (target_member d registers).aims) (before ++ register_manners (target_member d registers)) [] xs) ≡ [])

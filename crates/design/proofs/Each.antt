@@ -49,7 +49,7 @@ module _ {A : Type 0} (test : A → Bool) where
   abbrev pub Misses : A → Type 0
   Misses x = test x ≡ false
 
-  -- none passes, told in three ways
+  -- none passes, given in three ways
   pub none_any : (xs : List A) → AllByRecursion Misses xs → list_any test xs ≡ false
   none_any [] all = refl
   none_any (x ∷ xs) all = rw all.0 (none_any xs all.1)

@@ -1,4 +1,4 @@
--- Where nothing is refused of the sections, the polarity of a free register may be chosen.
+-- If nothing is refused of the sections, the polarity of a free register may be chosen.
 use Rattle.std.proofs.Common.{◌≡◌, ℕ, ◌==◌, Bool, true, false, not, ◌&&◌, if◌then◌else◌, Option, None, Some, List, [], ◌∷◌, refl, sym, ap, ◌∙◌}
 use Rattle.design.proofs.Common.{AllByRecursion, list_any, and_parts, false_from_ne_true, not-true, or_parts, true≢false, list_any-append, Formula, Flip, Table, Extension, signals_of, target_extension, without_extension, is_assigned, is_clocked_target, Entry, is_signal, is_stored, Tree, ModuleTree, is_data, is_raw, Contribution, is_the_control, is_control, control_by, declared_names, Design, design_of, name_at, formulas, is_data_to, is_raw_signal, Part, ATarget, AValue, sections_parts, read_in, part_reads, parts_read, held_by, held_of, is_shared, part_shares, is_held, is_buffer_by_default, is_registered, is_buffer, is_open, stays_free, with_kind, given_formulas, term_of, HasNoEquation, among, FreeMayChoose, HaveBareHeaders, and-false}
 use Rattle.pld_device.specs.declared.flip.Flip.TheVariants.{AfterRegister}
@@ -13,7 +13,7 @@ use Rattle.design.proofs.NamedTerms.{signals_in, without_alike}
 
 -- ---- what is free
 
--- the settled words say neither polarity only where the register stays free
+-- the settled words say neither polarity only if the register stays free
 must_be_free : (stored buffer free : Bool) → (stored && (not (buffer && not free) && not (not buffer && not free))) ≡ true → free ≡ true
 must_be_free stored buffer true h = refl
 must_be_free true true false h = absurd cc

@@ -90,7 +90,7 @@ module _ (t : Table) (laws : IsDevice t) (source : Module) (n : Names) (found : 
       by_chains fault.OutOfMemory is = tt
       by_chains _ is = absurd is
 
-      -- all that is said of the netlist, where there are no chains
+      -- all that is said of the netlist, if there are no chains
       pub answered : HasNoSignalLoop d → AllLeadNowhere (arena net.exprs) ns ls net.cells → UnrefusedIsTakeable → GatheredIsSound → GatheredMeansTheSame → AreIdsIn net
           → ((p : ℕ) → p < 25 → get_or net.pair_of_pin p no_pair ≡ pair_of_pin t p) → ((c : ℕ) → c < 25 → get_or net.pair_of_cell c no_pair ≡ pair_of_cell t c)
           → IsGathered t (view_module source) (arena found.exprs) found.list net

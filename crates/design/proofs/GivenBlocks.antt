@@ -1,4 +1,4 @@
--- What tables, diagrams and equations contribute, contribution by contribution, where their terms read what they may.
+-- What tables, diagrams and equations contribute, contribution by contribution, if their terms read what they may.
 use Rattle.std.proofs.Common.{◌≡◌, ℕ, suc, ◌==◌, Bool, true, false, Option, None, Some, List, [], ◌∷◌, ◌++◌, map, reverse, length, if◌then◌else◌, filter, replicate}
 use Rattle.design.proofs.Common.{AllByRecursion, list_any, Extension, RowTree, StateTree, Contribution, Gives, Guard, Context, registers_equal, is_state, goal_gives, in_state, is_other, once, first_of_each, state_matches, other_matches, given_each, literal, agrees, row_matches, match_of, outputs_given, rows_give, no_matches, targets_of, some_signals, Term, term_of, SignalUse, term_uses, reads_of_terms, is_kept}
 use Rattle.abel_meaning.specs.Numbers.{width_of, digits}

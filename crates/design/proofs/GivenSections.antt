@@ -1,4 +1,4 @@
--- The sections of a design, part by part: what they contribute, and what holds of their targets where nothing is refused.
+-- The sections of a design, part by part: what they contribute, and what holds of their targets if nothing is refused.
 use Rattle.std.proofs.Common.{◌≡◌, ℕ, Bool, true, false, not, Option, None, Some, List, [], ◌∷◌, ◌++◌, map, length, append_assoc, refl, sym, ap, subst, ◌∙◌, if◌then◌else◌, filter, replicate}
 use Rattle.design.proofs.Common.{AllByRecursion, list_all, and_parts, Table, cell_at, Formula, Const, Extension, Named, Assigned, signals_of, target_extension, without_extension, is_clocked, assigned_each, statement_assigns, else_assigns, statements_assign, list_assigns, with_assigns, branch_assigns, other_assigns, choices_assign, branches_assign, states_assign, section_assigns, sections_assign, is_assigned, Tree, AParen, Statement, AnAssign, AWhen, AGroup, ADontCare, Otherwise, NoElse, AnElse, Statements, NoStatement, MoreStatements, statements_of, Branch, AGoal, AnIf, ACase, OtherBranch, NoBranch, ABranch, Choices, NoChoice, MoreChoices, StateTree, SectionTree, Declarations, Equations, ATable, ADiagram, SomeVectors, DontCareSection, Contribution, Guard, guarded, condition, Context, name_at, goal_gives, branch_gives, other_gives, choices_give, branches_give, in_state, states_give, is_other, first_of_each, other_matches, with_statements, Part, ATarget, AValue, statement_parts, else_parts, statements_parts, list_parts, with_parts, branch_parts, other_parts, choices_parts, branches_parts, states_parts, section_parts, sections_parts, sign_gives, statement_gives, else_gives, statements_give, rows_give, no_matches, targets_of, some_signals, term_of, cell_of, SignalUse, term_uses, reads_of_terms, is_kept, is_enabled_by_row, is_row, expression_found, Manner, names_signals, target_member, left_side, CountedUnit, units_refused, right_empty, side_positions, statement_manners, statements_manners, units_of_statement, units_of_else, units_of_statements, register_manners, state_guard, state_manners, branch_manners, units_of_branch, units_of_other, units_of_choices, units_of_branches, units_of_states, listed_after, section_manners, units_of_section, units_of_sections, among, PlacedUse, is_by_pin, is_cell_by_pin, is_enabled_by_pin, is_compared_by, is_compared, HasBareHeader, HaveBareHeaders, flat_map, PartTree, Outputs, Value, part, parts_in_branch, parts_in_choices, parts_in_else, parts_in_other, parts_in_row, parts_in_section, parts_in_state, parts_in_statement, parts_in_statements, parts_in_with, located, part_uses}
 use Rattle.std.proofs.lemmas.Grind.{flat_map-append}
@@ -68,8 +68,8 @@ module _ (d : Context) (P : SignalUse → Type 0) (K : Option Extension → ℕ 
   uses_in rs = flat_map (part_uses d) rs
 
   -- a part of the source, by its units, its expressions, what it holds, what it assigns, and what it contributes: each
-  -- contribution is good, given what is asked of what stands round it; the signal has data where it is assigned; and
-  -- where nothing is refused, targets are bare, and the signal is a node or the pin of a cell where it is assigned
+  -- contribution is good, given what is asked of what surrounds it; the signal has data if it is assigned; and if nothing
+  -- is refused, targets are bare, and the signal is a node or the pin of a cell if it is assigned
   pub record IsPart (H : Type 0) (us : List CountedUnit) (rs : List PartTree) (ps : List Part) (xs : List Assigned) (cs : List (Contribution (List SignalUse))) : Type 0 where
     pub good : H → EachUse (uses_in rs) → AllByRecursion (MayGive d K) ps → EachGood d P K plain cs
     pub given : IsWithin s ks d.known → is_assigned xs s ≡ true → has_data s cs ≡ true
@@ -82,7 +82,7 @@ module _ (d : Context) (P : SignalUse → Type 0) (K : Option Extension → ℕ 
   weaker : {H J : Type 0} {us : List CountedUnit} {rs : List PartTree} {ps : List Part} {xs : List Assigned} {cs : List (Contribution (List SignalUse))} → (J → H) → IsPart H us rs ps xs cs → IsPart J us rs ps xs cs
   weaker so x = record { good = λ h r p. x.good (so h) r p; given = x.given; are_bare = x.are_bare; output = x.output }
 
-  -- one part behind another
+  -- one part after another
   both : {H : Type 0} {us vs : List CountedUnit} {rs qs : List PartTree} {ps os : List Part} {xs ys : List Assigned} {cs bs : List (Contribution (List SignalUse))}
       → IsPart H us rs ps xs cs → IsPart H vs qs os ys bs → IsPart H (us ++ vs) (rs ++ qs) (ps ++ os) (xs ++ ys) (cs ++ bs)
   both {us = us} {vs = vs} {rs = rs} {qs = qs} {ps = ps} {os = os} {xs = xs} {ys = ys} {cs = cs} {bs = bs} x y = record {
@@ -96,7 +96,7 @@ module _ (d : Context) (P : SignalUse → Type 0) (K : Option Extension → ℕ 
     output = λ within e a. one_of_two (IsOutput d s) s xs ys a (x.output within (first_units us vs e)) (y.output within (last_units us vs e));
   }
 
-  -- behind a unit of its own
+  -- after a unit of its own
   unit : {H : Type 0} {u : CountedUnit} {us : List CountedUnit} {rs : List PartTree} {ps : List Part} {xs : List Assigned} {cs : List (Contribution (List SignalUse))} → IsPart H us rs ps xs cs → IsPart H (u ∷ us) rs ps xs cs
   unit {u = u} {us = us} x = record {
     good = x.good;

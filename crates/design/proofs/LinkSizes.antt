@@ -34,7 +34,7 @@ rising n (x ∷ xs) (suc i) (suc j) a b all less one other = rising (next_number
 
 -- ---- numbers of names
 
--- nodes come before pins
+-- nodes precede pins
 abbrev number_of : Kind → ℕ
 number_of (ANode n) = n
 number_of (APin pin negated) = 128 + pin

@@ -2,7 +2,7 @@
 use Rattle.std.proofs.Common.{◌≡◌, ℕ, suc, ◌==◌, Bool, true, false, if◌then◌else◌, Option, None, Some, List, [], ◌∷◌, ◌++◌, map, bytes_eq, append_assoc, inl, inr, refl, sym, ap, ap₂, ◌∙◌, codes}
 use Rattle.design.proofs.Common.{or_left, or_right, or_cases, map-append, list_any-append, Extension, Named, signals_of_name, signals_of_names, signals_of, signals_of_members, signals_of_member, meant, named_after, named_of, without_extension, Kind, AConstant, Entry, range_names, Tree, ASpecial, AName, ASet, AParen, SetMember, OneMember, SpanMember, Members, NoMember, MoreMembers, targets_of, all_targets, some_signals, Term, Terms, X, Pulse, Release, Read, Set, NoTerm, Before, Known, term_named, extended, extended_each, extended_if, named_before, member_before, special_term, term_of, terms_of, term_meant, known_after, known_of, some_append, extended_targets, among, bare_signals, all_bare_signals}
 
--- a name with the bare signals of what it stands for
+-- a name with the bare signals of what it represents
 abbrev as_named : Known → Named
 as_named k = record { name = k.name; signals = bare_signals k.term }
 
@@ -111,7 +111,7 @@ mutual
       ap (among s) (some_append (targets_of t) (all_targets ts))
       ∙ both_among s (bare_signals t) (all_bare_signals ts) (signals_in t) (signals_in_all ts) (bare_among s t) (all_among s ts) h
 
--- where these names name the signal, their terms have it
+-- if these names name the signal, their terms have it
 abbrev pub IsWithin : ℕ → List Named → List Known → Type 0
 IsWithin s ks known = (t : Tree) → among s (signals_of ks t) ≡ true → among s (signals_in (term_of known t)) ≡ true
 
@@ -124,6 +124,6 @@ without_alike known (AName word e) = extended_alike e (term_named known word.tex
 without_alike known (ASet p ms e) = extended_alike e (Set (terms_of known ms))
 without_alike known _ = refl
 
--- also where an equation's target names it
+-- also if an equation's target names it
 pub without_within : (s : ℕ) (ks : List Named) (known : List Known) → IsWithin s ks known → (t : Tree) → among s (signals_of ks (without_extension t)) ≡ true → among s (signals_in (term_of known t)) ≡ true
 without_within s ks known within t h = ap (among s) (without_alike known t) ∙ within (without_extension t) h

@@ -13,7 +13,7 @@ use Rattle.section_targets.specs.TargetSignals.{names_signals}
 abbrev pub SignalsAreAssigned : Context → Type 0
 SignalsAreAssigned d = (s : ℕ) → (name_at d s).assigned ≡ true → is_signal (name_at d s).kind ≡ true
 
--- on a device that has registers, none follows Q, or may, where the device can't complement behind it
+-- on a device that has registers, none follows Q, or may, if the device can't complement after it
 abbrev pub BuffersAreBehind : Context → Type 0
 BuffersAreBehind d =
     (s : ℕ) → is_stored (name_at d s) ≡ true → follows_q (name_at d s) ≡ true → d.device.clock ≢ 0

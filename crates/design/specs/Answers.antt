@@ -16,8 +16,8 @@ pub record HasNoRefusal (d : Design) (fs : List Formula) (cs : List Contribution
   pub no_loop : HasNoSignalLoop d
   pub no_path : (s : ℕ) → HasNoSignalPath d s
 
--- the netlist of a module of which nothing is refused, to whose targets this is contributed: it has its parts in their ranges,
--- does what the module does, and each cell stands at the first target of its signal
+-- the netlist of a module of which nothing is refused, to whose targets this is contributed: it has its parts in their
+-- ranges, does what the module does, and each cell is at the first target of its signal
 pub record IsGathered (t : Table) (m : ModuleTree) (fs : List Formula) (cs : List Contribution) (net : Netlist) : Type 0 where
   pub unrefused : HasNoRefusal (design_of t m) fs cs
   pub netlist : plain_netlist net ≡ netlist_of t m
@@ -33,15 +33,15 @@ pub record IsFirstLoop (d : Design) (p : Place) (chain : List ℕ) : Type 0 wher
   pub loop : IsSignalLoop d chain
   pub place : p ≡ (name_at d.context (get_or chain 0 0)).place
 
--- the first target of the reset of s stands here
+-- the first target of the reset of s is here
 abbrev pub IsResetAt : List Contribution → (s : ℕ) → Place → Type 0
 IsResetAt cs s p = target_place (first_target s extension.Ar cs) ≡ Some p
 
--- one place stands before another
+-- one place precedes another
 abbrev pub is_sooner : Place → Place → Bool
 is_sooner p q = is_before place_order p q
 
--- signals from a reset at this place to a register; from no reset that stands before it there is such a path
+-- signals from a reset at this place to a register; from no reset that precedes it there is such a path
 pub record IsFirstPath (d : Design) (cs : List Contribution) (p : Place) (path : List ℕ) : Type 0 where
   pub reset : ℕ
   pub stands : IsResetAt cs reset p
@@ -50,8 +50,8 @@ pub record IsFirstPath (d : Design) (cs : List Contribution) (p : Place) (path :
 
 -- ---- all kinds
 
--- the design is refused so: for its signals; where nothing of them is refused, for a loop; and where there is none, for a
--- path from a reset to a register
+-- the design is refused so: for its signals; if nothing of them is refused, for a loop; and if there isn't one, for a path
+-- from a reset to a register
 abbrev pub IsDesignRefused : Design → List Formula → List Contribution → DesignFault → Type 0
 IsDesignRefused d fs cs (fault.Loop p chain) = HasSoundSignals d fs cs × IsFirstLoop d p chain
 IsDesignRefused d fs cs (fault.ResetReadsRegister p path) =

@@ -31,7 +31,7 @@ pub record AreGiven (d : Design) : Type 0 where
 abbrev pub AssignedAreGiven : Type 0
 AssignedAreGiven = (t : Table) (m : ModuleTree) → AreGiven (design_of t m)
 
--- ---- where nothing is refused of the sections
+-- ---- if nothing is refused of the sections
 
 -- nothing is refused of the sections and of the constants
 abbrev pub HasSoundSections : Design → Type 0

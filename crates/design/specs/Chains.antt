@@ -1,5 +1,5 @@
--- Private: what is told of a design's chains: loops of signals, and paths from the resets of a netlist's cells to
--- registers (this project's rule).
+-- Private: what is reported of a design's chains: loops of signals, and paths from the resets of a netlist's
+-- cells to registers (this project's rule).
 use Rattle.std.specs.Prelude.{◌≡◌, ℕ, ◌≤◌, true, Option, None, Some, List, All, length}
 use Rattle.design.specs.Prelude.{Contains, Place, Formula, Ranks, Entry, Design, plain_control, given_formulas, HasNoSignalLoop, IsSignalPath, HasNoSignalPath, DesignFault}
 use Rattle.bit_expr.specs.declared.netlist.CellWanted.{CellWanted}
@@ -15,7 +15,7 @@ use Rattle.design_checks.specs.declared.fault.DesignFault.TheVariants as fault
 use Rattle.design.specs.declared.chains.ResetPath.{ResetPath}
 use Rattle.design.specs.Answers.{IsFirstLoop, is_sooner}
 
--- wherever it stands
+-- wherever it is
 abbrev pub AnyPlace : Place → Type 0
 AnyPlace p = Unit {0}
 
@@ -40,7 +40,7 @@ module _ (fs : List Formula) (ns : List ℕ) (ls : List Link) where
   abbrev pub LeadsNowhere : CellWanted → Type 0
   LeadsNowhere w = (d : Design) → IsResetOf w d → HasNoSignalPath d w.name
 
-  -- so where there is one, and it stands at such a place
+  -- so if there is one, and it is at such a place
   abbrev pub LeadsNowhereAt : (Place → Type 0) → CellWanted → Type 0
   LeadsNowhereAt P w = (c : Control) → w.reset ≡ Some c → P c.place → LeadsNowhere w
 
@@ -56,7 +56,7 @@ module _ (fs : List Formula) (ns : List ℕ) (ls : List Link) where
   IsFoundOf w None = LeadsNowhereAt AnyPlace w
   IsFoundOf w (Some p) = IsPathOf w p
 
-  -- the path is that of one of the cells, and from no reset of a cell that stands before it there is one
+  -- the path is that of one of the cells, and from no reset of a cell that precedes it there is one
   pub record IsFirstOf (ws : List CellWanted) (p : ResetPath) : Type 0 where
     pub cell : CellWanted
     pub there : Contains ws cell
@@ -81,7 +81,7 @@ pub record IsLinkedDesign (xs : List Entry) (ns : List ℕ) (ls : List Link) (d 
   pub cells : AssignedHaveCells d.context
   pub links : AreLinks d.context (given_formulas d) ns ls
 
--- what is told of a loop; and where there is none, of the path from the reset that stands first
+-- what is reported of a loop; and if there isn't one, of the path from the reset that is first
 abbrev pub IsChainTold : Design → List Formula → List ℕ → List Link → List CellWanted → DesignFault → Type 0
 IsChainTold d fs ns ls ws (fault.Loop p chain) = IsFirstLoop d p chain
 IsChainTold d fs ns ls ws (fault.ResetReadsRegister p path) =

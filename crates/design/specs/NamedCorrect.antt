@@ -7,7 +7,7 @@ use Rattle.declared_names.specs.AcceptedNames.{PinsAreApart, BuffersAreAllowed}
 use Rattle.design.specs.Accepted.{SignalsAreAssigned, BuffersAreBehind}
 
 -- the names of the design are accepted: no two are one pin, nodes are few, only signals are assigned, and no register
--- follows Q, or may, where the device can't complement behind it
+-- follows Q, or may, if the device can't complement after it
 pub record HasAcceptedNames (d : Context) : Type 0 where
   pub known : d.known ≡ known_of d.names
   pub pins : PinsApart d
@@ -15,7 +15,7 @@ pub record HasAcceptedNames (d : Context) : Type 0 where
   pub signals : SignalsAreAssigned d
   pub buffers : BuffersAreBehind d
 
--- where these are the names of a module for a device, and what is answered with them holds, they are accepted in its design
+-- if these are the names of a module for a device, and what is answered with them holds, they are accepted in its design
 abbrev pub NamesAreAccepted : Type 0
 NamesAreAccepted =
     (t : Table) (m : ModuleTree) (names : Names) → entries_of names ≡ names_of t m → SoundNames t.name t.pins names

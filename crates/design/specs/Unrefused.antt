@@ -17,7 +17,7 @@ pub record IsUnrefused (d : Design) (cs : List Contribution) : Type 0 where
   pub no_loop : HasNoSignalLoop d
   pub no_path : (s : ℕ) → HasNoSignalPath d s
 
--- the device can take the netlist of such a design, where it is accepted
+-- the device can take the netlist of such a design, if it is accepted
 abbrev pub UnrefusedIsTakeable : Type 0
 UnrefusedIsTakeable =
     (d : Design) (fs : List Formula) (cs : List Contribution) → IsDevice d.context.device → IsAccepted d

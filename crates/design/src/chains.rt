@@ -56,7 +56,7 @@ fn path_of(
     }
 }
 
-/// The path from the reset that stands first, of those from which there is one.
+/// The path from the reset that is first, of those from which there is one.
 fn first_path(
     alloc: Global,
     exprs: &Exprs,
@@ -78,7 +78,7 @@ fn first_path(
 }
 
 /// Refused for a loop of signals that begins with the earliest declared on any, at its declaration; else for the reset
-/// that stands first, of those from which a path leads to a register.
+/// that is first, of those from which a path leads to a register.
 pub(crate) fn check_chains(
     alloc: Global,
     names: &Names,

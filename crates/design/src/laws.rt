@@ -22,21 +22,20 @@ pub fn assigned_are_given()
     ensures { AssignedAreGiven }
 {}
 
-/// Where nothing is refused of the sections, each pin that is assigned is that of a cell. Does nothing.
+/// If nothing is refused of the sections, each pin that is assigned is that of a cell. Does nothing.
 #[tactic(auto, using(crate::proofs::SoundModules::on_cells))]
 pub fn assigned_have_cells()
     ensures { AssignedHaveCells }
 {}
 
-/// A module is accepted for a device where nothing is refused of its sections, and its declarations are sound: no two
-/// names are one pin, nodes are few, and no register follows Q, or may, where the device can't complement behind it. Does
-/// nothing.
+/// A module is accepted for a device if nothing is refused of its sections, and its declarations are sound: no two names
+/// are one pin, nodes are few, and no register follows Q, or may, if the device can't complement after it. Does nothing.
 #[tactic(auto, using(crate::proofs::SoundModules::all_accepted))]
 pub fn sound_modules_are_accepted()
     ensures { SoundModulesAreAccepted }
 {}
 
-/// Where nothing is refused of a design whose names and sections are accepted, the device can take its netlist. Does
+/// If nothing is refused of a design whose names and sections are accepted, the device can take its netlist. Does
 /// nothing.
 #[tactic(auto, using(crate::proofs::Takes::takes))]
 pub fn unrefused_is_takeable()

@@ -20,7 +20,7 @@ use set_expr::Contributions;
 use std::alloc::Global;
 
 /// The netlist of a module for a device, by what its sections contribute, or the first refusal of the design. Kinds of
-/// refusals come in the order of `DesignFault`, those of one kind by place; nothing of the contributions comes back.
+/// refusals are in the order of `DesignFault`, those of one kind by place; nothing of the contributions returns.
 ///
 /// The names are those that `declare` answers for the module, and the contributions those that its sections append.
 pub fn gather<D: Device>(
@@ -35,7 +35,7 @@ pub fn gather<D: Device>(
     requires inside { AllLieIn (length (arena found.exprs)) found.list }
     ensures gathered { IfOk result (IsGathered D.table (view_module source.now) (arena found.exprs) found.list) }
 
-    // only want of memory comes before a refusal
+    // only lack of memory precedes a refusal
     ensures refused { IfErr result (λ f. IsDesignRefused
         (design_of D.table (view_module source.now)) (arena found.exprs) found.list f) }
 {

@@ -17,7 +17,7 @@ no_nodes : (cells : List ℕ) (n : ℕ) → sets_node (map (λ c. slot.Cell c) c
 no_nodes [] n = refl
 no_nodes (c ∷ cells) n = no_nodes cells n
 
--- a device's logic but for what is a node
+-- a device's logic except for what is a node
 with_nodes : Table → List Bool → (ℕ → Bool) → Logic
 with_nodes t fuses nodes = record (device_logic t fuses) { is_node = nodes }
 
@@ -47,7 +47,7 @@ has_at : (numbers : List ℕ) (i n : ℕ) → slice_get numbers i ≡ Some n →
 has_at numbers i n found =
     list_any_at (λ x. n == x) numbers i 0 (slice_get_within numbers i n found) (eq-eqb n (get_or numbers i 0) (sym (get_or_from_slice_get numbers i n 0 found)))
 
--- a number that stands once has one place
+-- a number that is once has one place
 one_place : (numbers : List ℕ) (i j n : ℕ) → IsDistinct eqb numbers → slice_get numbers i ≡ Some n → slice_get numbers j ≡ Some n → i ≡ j
 one_place numbers i j n once here there =
     elim (cases_lt i j) [
@@ -64,7 +64,7 @@ one_place numbers i j n once here there =
         (sym (eq-eqb (get_or numbers a 0) (get_or numbers b 0) (get_or_from_slice_get numbers a x 0 first ∙ sym (get_or_from_slice_get numbers b x 0 second)))
         ∙ apart_from_distinct eqb numbers a b 0 once less (slice_get_within numbers b x second))
 
--- a cell at this place or behind it whose pin this is
+-- a cell at this place or after it whose pin this is
 record SetLater (t : Table) (order : List ℕ) (i pin : ℕ) : Type 0 where
   at : ℕ
   cell : ℕ
@@ -163,6 +163,6 @@ module _ (t : Table) (fuses : List Bool) (order : List ℕ) (free : ReadsFreePin
     resets = resets;
   }
 
--- it comes to rest, steps and runs in exactly one way
+-- it settles, steps and runs in exactly one way
 pub determined : (t : Table) (fuses : List Bool) (order : List ℕ) → IsOrdered (device_lookups t fuses order) → IsDetermined (device_logic t fuses)
 determined t fuses order ordered = subst IsDetermined (same_logic t fuses order) (is_determined (device_lookups t fuses order) ordered)

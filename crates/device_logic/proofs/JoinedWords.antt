@@ -11,7 +11,7 @@ halves_zero zero lower = ap (λ n. n == 0) (omega arith)
 halves_zero (suc upper) lower =
     above_zero (suc upper * 2 ^ 32 + lower) (omega arith) ∙ sym (ap (λ b. b && lower == 0) (above_zero (suc upper) (omega arith)))
 
--- a cube asks nothing that these levels lack where it meets their own cube
+-- a cube asks nothing that these levels lack if it meets their own cube
 pub joined_meets : (c : Cube) (levels none : ℕ) → c.yes < 2 ^ 32 → none < 2 ^ 32
     → (bit_and (c.no * 2 ^ 32 + c.yes) (levels * 2 ^ 32 + none) == 0) ≡ meets (record { yes = levels; no = none }) c
 joined_meets c levels none low-yes low-none =

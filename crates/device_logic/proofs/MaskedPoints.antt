@@ -40,7 +40,7 @@ module _ (n : ℕ) (low : n < 2 ^ 32) where
         rw (is_on-bits 32 n v (within v below))
         (fits_met (bit_at c.yes v) (bit_at c.no v) (bit_at n v) (bit_at (bit_not w32 n) v) (bit_at-lt n v) (complement_at v (within v below)) each.1 each.0))
 
-    -- a cube has the point of these levels where it meets their own cube
+    -- a cube has the point of these levels at which it meets their own cube
     pub meets_own : meets (record { yes = n; no = bit_not w32 n }) c ≡ has_point c (bits 32 n)
     meets_own = elim (cases_Bool (meets (record { yes = n; no = bit_not w32 n }) c)) [
       | inl met ↦ met ∙ sym (met_has met)

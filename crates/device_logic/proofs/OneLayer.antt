@@ -55,7 +55,7 @@ module _ (t : Table) (fuses : List Bool) (layer : IsOneLayer t fuses) where
   no_loop (c ∷ d ∷ []) is = never_both c d c (is.inside c (has_first c (d ∷ []))) is.returns.0 is.returns.1.0
   no_loop (c ∷ d ∷ e ∷ rest) is = never_both c d e (is.inside c (has_first c (d ∷ e ∷ rest))) is.returns.0 is.returns.1.0
 
-  -- it comes to rest, steps and runs in exactly one way
+  -- it settles, steps and runs in exactly one way
   pub layer_determined : IsDetermined (device_logic t fuses)
   layer_determined =
       let order = order_of t fuses no_loop in

@@ -18,7 +18,7 @@ resets_by_none t fuses order none outside a b a_is b_is a_settled b_settled c re
 pub device_ordered : (t : Table) (fuses : List Bool) (order : List ℕ) → IsDevice t → IsOrder (length t.cells) (cell_reads t fuses) order → HasNoResetPath t fuses → IsOrdered (device_lookups t fuses order)
 device_ordered t fuses order laws ordered none = is_ordered t fuses order (device_reads_free t laws fuses) ordered (resets_free t laws fuses order ordered none)
 
--- where there is no loop there is an order
+-- if there is no loop there is an order
 pub order_of : (t : Table) (fuses : List Bool) → HasNoLoop (length t.cells) (cell_reads t fuses) → HasOrder (length t.cells) (cell_reads t fuses)
 order_of t fuses no_loop = either (one_or_other (length t.cells) (cell_reads t fuses))
   where

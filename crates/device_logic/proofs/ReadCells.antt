@@ -42,7 +42,7 @@ pairs_read-none t fuses row d from [] none = refl
 pairs_read-none t fuses row d from (x ∷ carries) none =
     rw (none from 0 (omega arith) (omega arith), pairs_read-none t fuses row d (suc from) carries (λ k pair place low. none k (suc pair) (omega (arith, place)) (omega (arith, low)))) refl
 
--- a row reads a cell exactly where it reads a pair that carries it
+-- a row reads a cell exactly if it reads a pair that carries it
 pub row_reads_cell-from : (t : Table) (fuses : List Bool) (row d pair : ℕ) → pair < length t.pairs → pair_reads t fuses row d pair ≡ true → row_reads_cell t fuses row d ≡ true
 row_reads_cell-from t fuses row d pair low on =
     let parts = and_parts (row_reads t fuses row pair) (carries_cell d (get_or t.pairs pair (carry.Pin 0))) on in

@@ -1,4 +1,4 @@
--- Where no chain of reads leads from the reset row to a register, resets depend on no Q.
+-- If no chain of reads leads from the reset row to a register, resets depend on no Q.
 use Rattle.std.proofs.Common.{◌≡◌, ℕ, zero, suc, ◌<◌, Bool, true, false, not, ◌||◌, eqb, List, [], ◌∷◌, map, length, get_or, Option, Some, None, slice_get, refl, ap, sym, ◌∙◌, subst, inl, inr}
 use Rattle.device_logic.proofs.Common.{cases_Bool, cases_lt, or_cases, and_parts, and_from, true≢false, list_any, length-map, get_or_from_slice_get, slice_get_within, slice_get-get_or, is_on, Levels, Enable, Row, PinLow, IsPair, IsDevice, data_rows, row_if_any, stores, carried, Table, cell_at, never_drives, is_free_pin, Slot, SameAt, ResetsWithoutQ, IsOrder, HasNoPath, eqb_same, place_of, row_reads_cell, enable_reads, data_reads, rest_reads, cell_reads, device_lookups, row_reads_if_any, reset_reads, plain_reads, HasNoResetPath}
 use Rattle.pld_device.specs.declared.carry.Carry.TheVariants as carry
@@ -65,7 +65,7 @@ module _ (t : Table) (laws : IsDevice t) (fuses : List Bool) (order : List ℕ) 
     pins_same : (pin : ℕ) → is_free_pin t pin ≡ true → is_on a.pins pin ≡ is_on b.pins pin
     pins_same pin pin_free = agree.pins pin (unset_free t fuses order free ordered 0 pin pin_free)
 
-    -- a clean cell that stands before place i feeds back the same
+    -- a clean cell that precedes place i feeds back the same
     clean_same : (d : ℕ) → d < length t.cells → IsClean t fuses d → ((j : ℕ) → j < length order → get_or order j 0 ≡ d → j < i) → carried t fuses a (carry.Cell d) ≡ carried t fuses b (carry.Cell d)
     clean_same d within clean before =
         let there = place_of order d (ordered.each d within) in

@@ -11,7 +11,7 @@ any_at test first (suc count) k low high on =
       | inr other ↦ or_right (test first) (list_any test (range_with_len (first + 1) count)) (any_at test (first + 1) count k (omega arith) (omega arith) on)
     ]
 
--- where none passes
+-- if none passes
 pub any_none : (test : ℕ → Bool) (first count : ℕ) → ((k : ℕ) → first ≤ k → k < first + count → test k ≡ false) → list_any test (range_with_len first count) ≡ false
 any_none test first zero none = refl
 any_none test first (suc count) none =

@@ -1,4 +1,4 @@
--- A cell asks the same at two points where all that it reads is the same.
+-- A cell asks the same at two points at which all that it reads is the same.
 use Rattle.std.proofs.Common.{◌≡◌, ℕ, zero, suc, ◌*◌, ◌<◌, ◌≤◌, Bool, true, false, not, List, [], ◌∷◌, map, length, Some, slice_get, refl, ap, sym, ◌∙◌, subst, inl, inr}
 use Rattle.device_logic.proofs.Common.{cases_Bool, true≢false, is_on, Levels, Carry, Enable, Row, PinLow, Table, cell_at, stores, is_inverted, carried, row_value, complement_if, pin_complements, output_value, enabled_by, is_enabled, pin_level, row_reads, enables_never, never_drives, is_free_pin, row_same, never_true, row_reads_cell, enable_reads, rest_reads}
 use Rattle.pld_device.specs.declared.carry.Carry.TheVariants as carry

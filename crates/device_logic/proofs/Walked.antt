@@ -5,7 +5,7 @@ use Rattle.std.proofs.Math.Seq.{get_or-append_seam}
 use Rattle.device_logic.proofs.LiveRows.{live_value}
 use Rattle.device_logic.proofs.PairWalks.{row_passes, row_fails}
 
--- what a pair carries stands among the values
+-- what a pair carries is among the values
 pub value_at : (f : Carry → Bool) (carries : List Carry) (pair : ℕ) (x : Carry) → slice_get carries pair ≡ Some x → is_on (map f carries) pair ≡ f x
 value_at f [] pair x found = absurd cc
 value_at f (y ∷ carries) zero x found = ap f (same y x found)
@@ -34,7 +34,7 @@ pair_passes t fuses given row pair x same found lower higher lower_is higher_is 
     let e : carried t given at x ≡ is_on (pair_values t fuses at) pair = ap (λ fs. carried t fs at x) same ∙ sym (value_at (carried t fuses at) t.pairs pair x found) in
     both_columns l m r lower higher (λ at. carried t given at x) first second at is ∙ rw (lower_is, higher_is, e) refl
 
--- the test passes exactly where each pair so far does
+-- the test passes exactly if each pair so far does
 pub record PassesBelow (t : Table) (fuses : List Bool) (row pairs : ℕ) (test : Levels → Bool) : Type 0 where
   pub from : (at : Levels) → IsPoint at → test at ≡ true → (p : ℕ) → p < pairs → passes (row_fuses t fuses row) (pair_values t fuses at) p ≡ true
   pub to : (at : Levels) → IsPoint at → ((p : ℕ) → p < pairs → passes (row_fuses t fuses row) (pair_values t fuses at) p ≡ true) → test at ≡ true
@@ -70,7 +70,7 @@ module _ (t : Table) (laws : IsDevice t) (fuses : List Bool) (row : ℕ) (long :
       by_value (inl on) = on ∙ sym (row_passes t fuses row laws.sizes.columns_even laws.sizes.array_fits long within at (below.from at is on))
       by_value (inr never) = never ∙ sym (not_true never)
 
-  -- where all pairs pass, a row that can be true is so
+  -- if all pairs pass, a row that can be true is so
   pub passes_row : is_live t fuses row ≡ true → (at : Levels) → IsPoint at → test at ≡ row_value t fuses at row
   passes_row live at is = passes_columns at is ∙ sym (live_value t fuses row at live)
 

@@ -1,4 +1,4 @@
--- Which cells a cell reads while it comes to rest, whether or not its value depends on them (this project's
+-- Which cells a cell reads while it settles, whether or not its value depends on them (this project's
 -- rule).
 use Rattle.std.specs.Prelude.{ℕ, suc, [], ◌∷◌, Bool, false, not, ◌&&◌, ◌||◌, ◌==◌, List, length}
 use Rattle.device_logic.specs.Prelude.{list_any, Carry, Enable, Row, PinLow, Table, cell_at, never_drives, data_rows, carries_cell, row_reads, IsOrder, stores}
@@ -28,10 +28,10 @@ abbrev pub rest_reads : Table → List Bool → (c d : ℕ) → Bool
 rest_reads t fuses c d =
     not (never_drives t fuses c) && (enable_reads t fuses (cell_at t c).enable d || data_reads t fuses c d)
 
--- cell c waits for cell d: it reads the level of its pin, since a register's Q stands still
+-- cell c waits for cell d: it reads the level of its pin, since a register's Q doesn't change
 abbrev pub cell_reads : Table → List Bool → (c d : ℕ) → Bool
 cell_reads t fuses c d = not (stores t fuses d) && rest_reads t fuses c d
 
--- all cells, each once, none of which waits for itself or one that stands behind it
+-- all cells, each once, none of which waits for itself or one that follows it
 abbrev pub IsCellOrder : Table → List Bool → List ℕ → Type 0
 IsCellOrder t fuses order = IsOrder (length t.cells) (cell_reads t fuses) order

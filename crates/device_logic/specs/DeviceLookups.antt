@@ -3,7 +3,7 @@ use Rattle.std.specs.Prelude.{ℕ, Bool, false, List, map, length}
 use Rattle.device_logic.specs.Prelude.{Table, cell_at, stores, is_enabled, pin_level, next_q, row_if_any, Lookups}
 use Rattle.pld_machine.specs.declared.logic.Slot.TheVariants as slot
 
--- fuses in a device, and the order in which its cells come to rest
+-- fuses in a device, and the order in which its cells settle
 pub record Loaded : Type 0 where
   pub fuses : List Bool
   pub order : List ℕ

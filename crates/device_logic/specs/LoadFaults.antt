@@ -21,7 +21,7 @@ abbrev pub IsPinPath : Table → List Bool → List ℕ → Type 0
 IsPinPath t fuses pins =
     (path : List ℕ) × IsResetPath t fuses path × IsDistinct eqb path × (pins ≡ pins_of t path)
 
--- the fault is such a loop; or such a chain, where there is no loop; or says that memory ran out
+-- the fault is such a loop; or such a chain, if there is no loop; or says that memory ran out
 abbrev pub IsLoadFault : Table → List Bool → SimFault → Type 0
 IsLoadFault t fuses (UnsupportedCondition vector pin) = ⊥
 IsLoadFault t fuses (DeviceLoop pins) = IsPinLoop t fuses pins.items

@@ -3,7 +3,7 @@ use Rattle.std.specs.Prelude.{ℕ, Bool, false, not, ◌&&◌, Option, None, Som
 use Rattle.device_logic.specs.Prelude.{stores, Table, IsPath, HasNoPath}
 use Rattle.device_logic.specs.CellReads.{row_reads_cell, rest_reads}
 
--- the row, where there is one, reads the cell
+-- the row, if there is one, reads the cell
 abbrev pub row_reads_if_any : Table → List Bool → Option ℕ → ℕ → Bool
 row_reads_if_any t fuses None d = false
 row_reads_if_any t fuses (Some row) d = row_reads_cell t fuses row d

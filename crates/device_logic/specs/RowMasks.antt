@@ -7,11 +7,11 @@ use Rattle.device_logic.specs.declared.row_mask.RowMask.{RowMask}
 abbrev pub holds : RowMask → Levels → Bool
 holds mask at = has_point mask.pins at.pins && has_point mask.q at.q
 
--- the second holds at the points where the first does and the test passes
+-- the second holds at the points at which the first does and the test passes
 abbrev pub HoldsWith : RowMask → RowMask → (Levels → Bool) → Type 0
 HoldsWith mask with_more test = (at : Levels) → IsPoint at → holds with_more at ≡ (holds mask at && test at)
 
--- it holds at the points where the row is true
+-- it holds at the points at which the row is true
 abbrev pub IsMask : Table → List Bool → ℕ → RowMask → Type 0
 IsMask t fuses row mask = (at : Levels) → IsPoint at → holds mask at ≡ row_value t fuses at row
 

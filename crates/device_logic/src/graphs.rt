@@ -1,5 +1,5 @@
-//! A device's cells as graphs: the order in which they come to rest, or a loop; and the chain of reads
-//! from the reset row to a register.
+//! A device's cells as graphs: the order in which they settle, or a loop; and the chain of reads from
+//! the reset row to a register.
 
 ghost use Rattle.std.specs.Prelude.{◌≡◌, ◌<◌, eqb, IfErr, IfNone, IfOk, IfSome, length};
 ghost use Rattle.device_logic.specs.Prelude.{IsDistinct, HasNoLoop, IsLeastLoop};

@@ -32,7 +32,7 @@ fn pins_of<D: Device>(alloc: Global, cells: &[u8]) -> Result<Vec<u8>, OutOfMemor
 
 /// The device with these fuses, its cells in an order in which each reads earlier ones alone.
 ///
-/// Answers `DeviceLoop` where the cells have none, and else `DeviceResetReadsRegister` where the reset
+/// Answers `DeviceLoop` if the cells have none, and else `DeviceResetReadsRegister` if the reset
 /// depends on a register; never `UnsupportedCondition`. Takes memory for the fuses, and a flag and a
 /// mask for each row, or for the pins of a fault.
 pub fn load<D: Device>(alloc: Global, fuses: &Fuses) -> Result<DeviceLogic<D>, SimFault>

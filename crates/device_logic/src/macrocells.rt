@@ -30,7 +30,7 @@ fn data_complements(flip: Flip, inverted: bool) -> bool
 }
 
 impl<D: Device> DeviceLogic<D> {
-    /// Whether the row is true, where there is one.
+    /// Whether the row is true, if there is one.
     pub(crate) fn row_if_any(&self, at: &Point, row: Option<u16>) -> bool
         requires { IfSome row (λ r. r < D.table.rows) }
         ensures { result ≡ row_if_any D.table self.now.fuses (levels_of at.now) row }
@@ -95,7 +95,7 @@ impl<D: Device> DeviceLogic<D> {
         self.some_row(at, found.first, found.room)
     }
 
-    /// What stands at the cell's output: its Q where it stores, else its OR.
+    /// What is at the cell's output: its Q if it stores, else its OR.
     fn output_value(&self, at: &Point, cell: u8) -> bool
         requires { cell < length D.table.cells }
         ensures { result ≡ output_value D.table self.now.fuses (levels_of at.now) cell }

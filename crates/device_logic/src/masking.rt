@@ -37,7 +37,7 @@ fn with_carry<D: Device>(mask: RowMask, array: &FuseArray<D>, carry: Carry, leve
     }
 }
 
-/// The mask that asks for 1 in a column besides, where it is connected. The lower one of a pair carries
+/// The mask that asks for 1 in a column besides, if it is connected. The lower one of a pair carries
 /// what the pair does, the higher one its complement.
 fn with_column<D: Device>(
     mask: RowMask,
@@ -118,7 +118,7 @@ fn mask_of<D: Device>(array: &FuseArray<D>, fuses: &[bool], row: u16) -> RowMask
     }
 }
 
-/// A mask for each row of the device with these fuses, which holds where the row is true.
+/// A mask for each row of the device with these fuses, which holds if the row is true.
 pub fn row_masks<D: Device>(alloc: Global, fuses: &Fuses) -> Result<Vec<RowMask>, OutOfMemory>
     requires { length fuses.now ≡ D.table.fuses }
     ensures { IfOk result (λ masks. AreMasks D.table fuses.now masks.items) }

@@ -1,6 +1,6 @@
 //! What a device's rows ask of its column pairs, each as one cube.
 //!
-//! Where two fuse lists make the same cells registers, a pair carries the same with both; so rows of the
+//! If two fuse lists make the same cells registers, a pair carries the same with both; so rows of the
 //! one can be held against rows of the other by these cubes, as covers over the pairs.
 
 ghost use Rattle.std.specs.Prelude.{◌≡◌, ◌<◌, ◌||◌, IfOk, IsTrue, length};
@@ -22,7 +22,7 @@ pub fn pair_count<D: Device>() -> u8
     (D::COLUMNS / 2) as u8
 }
 
-/// The cube that asks for a level of a pair besides, where the column that carries 1 then is connected.
+/// The cube that asks for a level of a pair besides, if the column that carries 1 then is connected.
 fn with_column(cube: Cube, pair: u8, level: bool, opened: bool) -> Cube
     requires { pair < 32 }
     ensures { AsksBesides pair cube result (λ p. opened || same_level level (is_on p pair)) }
@@ -77,7 +77,7 @@ fn cube_of<D: Device>(array: &FuseArray<D>, fuses: &[bool], row: u16) -> Cube
 }
 
 /// A cube over the column pairs for each row of the device with these fuses: it has the values that the
-/// pairs carry at a point where the row is true there.
+/// pairs carry at a point at which the row is true there.
 pub fn pair_cubes<D: Device>(alloc: Global, fuses: &Fuses) -> Result<Vec<Cube>, OutOfMemory>
     requires { length fuses.now ≡ D.table.fuses }
     ensures { IfOk result (λ cubes. ArePairCubes D.table fuses.now cubes.items) }

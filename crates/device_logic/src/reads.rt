@@ -1,4 +1,4 @@
-//! Which cells a cell reads while it comes to rest.
+//! Which cells a cell reads while it settles.
 
 ghost use Rattle.std.specs.Prelude.{◌≡◌, ◌+◌, ◌<◌, ◌≤◌, IfSome, length};
 ghost use Rattle.device_logic.specs.Prelude.{list_any, range_with_len, enables_never};
@@ -73,7 +73,7 @@ fn enable_reads<D: Device>(array: &FuseArray<D>, enable: Enable, to: u8) -> bool
     }
 }
 
-/// Whether the cell's data read the other one while it comes to rest.
+/// Whether the cell's data read the other one while it settles.
 fn data_reads<D: Device>(array: &FuseArray<D>, from: u8, to: u8) -> bool
     requires from { from < length D.table.cells }
     requires to { to < length D.table.cells }
@@ -83,7 +83,7 @@ fn data_reads<D: Device>(array: &FuseArray<D>, from: u8, to: u8) -> bool
     !array.stores(from) && rows_read_cell(array, cell.first, cell.room, to)
 }
 
-/// Whether the cell reads the other one while it comes to rest, its level or its Q.
+/// Whether the cell reads the other one while it settles, its level or its Q.
 fn rest_reads<D: Device>(array: &FuseArray<D>, from: u8, to: u8) -> bool
     requires from { from < length D.table.cells }
     requires to { to < length D.table.cells }
@@ -112,7 +112,7 @@ pub fn plain_reads<D: Device>(array: &FuseArray<D>, from: u8, to: u8) -> bool
     !array.stores(from) && rest_reads(array, from, to)
 }
 
-/// Whether the row, where there is one, reads the cell.
+/// Whether the row, if there is one, reads the cell.
 pub fn row_reads_if_any<D: Device>(array: &FuseArray<D>, row: Option<u16>, cell: u8) -> bool
     requires row { IfSome row (λ r. r < D.table.rows) }
     requires cell { cell < length D.table.cells }

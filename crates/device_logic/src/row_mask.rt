@@ -26,7 +26,7 @@ fn joined(lower: u32, upper: u32) -> u64
 fn has_levels(cube: Cube, levels: u32) -> bool
     ensures { result ≡ has_point cube (bits 32 levels) }
 {
-    // Both kinds of literals in one test: a 1 that is asked is missing where the level is 0, a 0 where it is 1.
+    // Both kinds of literals in one test: a 1 that is asked is missing if the level is 0, a 0 if it is 1.
     let asked = joined(cube.yes, cube.no);
     let missing = joined(!levels, levels);
     asked & missing == 0

@@ -36,7 +36,7 @@ pub fn few_bits(alloc: Global) -> Result<[bool; 5], ExprFault> {
     ])
 }
 
-/// Whether the limit comes at the next node, and neither at a constant nor where there is none.
+/// Whether the limit occurs at the next node, and neither at a constant nor if there isn't one.
 pub fn limit(alloc: Global) -> Result<[bool; 2], ExprFault> {
     let mut exprs = Exprs::new(alloc);
     for _count in 0..262_144 {

@@ -1,4 +1,4 @@
-//! What devices tell of their cells, pairs and rows, as text.
+//! What devices say of their cells, pairs and rows, as text.
 
 use crate::numbers::put_number;
 use pld_device::{Carry, Device, Enable, FuseBit, Kinds};
@@ -28,7 +28,7 @@ fn kinds_word(kinds: Kinds) -> &'static str {
     }
 }
 
-/// Appends a fuse and its level, where there is one.
+/// Appends a fuse and its level, if there is one.
 fn put_bit(bit: Option<FuseBit>, found: &mut Found) {
     match bit {
         Some(bit) => {

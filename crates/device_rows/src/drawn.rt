@@ -7,7 +7,7 @@ use test_rows::{Found, Report, Row, Section};
 /// The bytes before the equations.
 const HEAD: usize = 196;
 
-/// Each byte weighs 31 times as much as the one behind it, modulo 65,521.
+/// Each byte weighs 31 times as much as the one after it, modulo 65,521.
 fn sum_of(text: &[u8]) -> u32 {
     let mut sum: u32 = 0;
     for byte in text {
@@ -16,7 +16,7 @@ fn sum_of(text: &[u8]) -> u32 {
     sum
 }
 
-/// Reports a text's length and its sum behind its number.
+/// Reports a text's length and its sum after its number.
 fn report_sum(alloc: Global, text: &[u8], seed: u16, row: &Row<'_>, report: &mut Report<'_>) {
     let mut found = Found::new(alloc);
     found.number(usize::from(seed));

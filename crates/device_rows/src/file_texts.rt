@@ -1,4 +1,4 @@
-//! What a fuse file says, or why bytes are none, as text.
+//! What a fuse file says, or why bytes aren't one, as text.
 
 use jedec_reader::{FuseFile, JedecFault};
 use pld_base::Vector;
@@ -27,7 +27,7 @@ fn put_chars(vector: &Vector, found: &mut Found) {
     found.put(chars);
 }
 
-/// Appends what a file says: the number of fuses, those that are 1, the level of pins that are not driven where it is 1,
+/// Appends what a file says: the number of fuses, those that are 1, the level of pins that are not driven if it is 1,
 /// and the vectors.
 pub fn put_file(file: &FuseFile, found: &mut Found) {
     found.number(usize::from(file.listed));

@@ -8,7 +8,7 @@ use pld_order::{VertexSet, order, path};
 use std::alloc::Global;
 use test_rows::{Found, Report, Section};
 
-/// The two vertices of a pair, of which the first reads the second.
+/// The two vertices of a pair, the first of which reads the second.
 fn pair_of(told: &str) -> Option<(u8, u8)> {
     let (from, to) = told.split_once('>')?;
     match (from.parse::<u8>(), to.parse::<u8>()) {

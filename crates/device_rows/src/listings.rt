@@ -8,7 +8,7 @@ use pld_device::Sample;
 use std::alloc::Global;
 use test_rows::{Found, Report, Row, Section};
 
-/// The name of a pin: `NAME=PIN`, with `!` before it for a complement and `*` behind it where it is assigned.
+/// The name of a pin: `NAME=PIN`, with `!` before it for a complement and `*` after it if it is assigned.
 fn declared(alloc: Global, word: &str) -> Result<Declared, OutOfMemory> {
     let (name, pin) = word.split_once('=').unwrap_or((word, ""));
     let plain = name.strip_prefix("!").unwrap_or(name);

@@ -79,7 +79,7 @@ impl<'a> Ask for ThreeCells<'a> {
     }
 }
 
-/// Asks the rows of a block, behind what its cells read and the fuses of each.
+/// Asks the rows of a block, after what its cells read and the fuses of each.
 fn ask_three_cells(alloc: Global, block: &[Row<'_>], report: &mut Report<'_>) {
     if let [_what, fuses @ ..] = block {
         let (fuses, rows) = fuses.split_at(fuses.len().min(3));

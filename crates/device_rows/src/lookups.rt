@@ -1,4 +1,4 @@
-//! What devices tell of their cells, pairs and rows.
+//! What devices say of their cells, pairs and rows.
 
 use crate::asked::{Ask, ask_rows};
 use crate::cells::{put_cell, put_fixed, put_low_pin, put_pair, put_pair_pin, put_switch};

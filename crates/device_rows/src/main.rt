@@ -1,4 +1,4 @@
-//! Runs rows of devices, fuse files, graphs and files, and tells which are not as they should be.
+//! Runs rows of devices, fuse files, graphs and files, and says which are not as they should be.
 #![tactic(auto)]
 
 mod asked;
@@ -32,7 +32,7 @@ use std::io;
 use std::io::Write;
 use test_rows::{Found, Report, Section, sections};
 
-/// Asks the rows of a section what its name says; false where no section has the name.
+/// Asks the rows of a section what its name says; false if no section has the name.
 fn ask_section(alloc: Global, section: &Section<'_>, report: &mut Report<'_>) -> bool {
     pins::ask_pins(alloc, section, report)
         || lookups::ask_devices(alloc, section, report)

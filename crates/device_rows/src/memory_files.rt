@@ -1,4 +1,4 @@
-//! Files and a sink in memory: what they hold, and that they fail where they are told to.
+//! Files and a sink in memory: what they hold, and that they fail if they have to.
 
 use outside::{Files, MemoryFiles, MemorySink, ReadFault, Sink, SinkFault, SureFiles};
 use pld_base::OutOfMemory;

@@ -1,4 +1,4 @@
-//! What the PAL16L8 tells of its pins.
+//! What the PAL16L8 says of its pins.
 
 use crate::asked::{Ask, ask_rows};
 use crate::numbers::put_number;

@@ -19,7 +19,7 @@ fn put_read(alloc: Global, text: &str, found: &mut Found) {
     }
 }
 
-/// What stands before and behind each row's fields in its file.
+/// What precedes and after each row's fields in its file.
 #[derive(Clone, Copy)]
 struct Around {
     front: &'static str,
@@ -53,7 +53,7 @@ impl<'a> Ask for Changed<'a> {
     }
 }
 
-/// Asks rows behind the block of lines that is their file's front.
+/// Asks rows after the block of lines that is their file's front.
 fn ask_changes(alloc: Global, front: &[Row<'_>], rows: &[Row<'_>], report: &mut Report<'_>) {
     match joined(alloc, front) {
         Ok(front) => {
@@ -66,7 +66,7 @@ fn ask_changes(alloc: Global, front: &[Row<'_>], rows: &[Row<'_>], report: &mut 
     }
 }
 
-/// Reads a file of several lines, and reports what is found against the row behind it.
+/// Reads a file of several lines, and reports what is found against the row after it.
 fn ask_shape(alloc: Global, lines: &[Row<'_>], wanted: &[Row<'_>], report: &mut Report<'_>) {
     let mut found = Found::new(alloc);
     match joined(alloc, lines) {
@@ -92,7 +92,7 @@ fn ask_two_blocks(alloc: Global, section: &Section<'_>, report: &mut Report<'_>)
     }
 }
 
-/// What stands around the rows of a section.
+/// What surrounds the rows of a section.
 fn around_of(name: &str) -> Option<Around> {
     if name == "fields that are accepted" || name == "fields that are refused" {
         Some(Around {

@@ -72,7 +72,7 @@ fn is_replaced(rt: &HostRuntime) -> io::Result<[bool; 4]> {
     ])
 }
 
-/// Whether a file is replaced in one piece, or stands.
+/// Whether a file is replaced in one piece, or is.
 pub fn replaced_files(rt: &HostRuntime) -> io::Result<[bool; 8]> {
     let made = make_old(rt)?;
     let [failed, kept, alone] = stands_when_full(rt)?;

@@ -22,7 +22,7 @@ fn rest_of(input: &str) -> Point {
     at_rest(bits_of(outside), bits_of(stored))
 }
 
-/// What comes to rest.
+/// What settles.
 #[derive(Clone, Copy)]
 struct Rests;
 

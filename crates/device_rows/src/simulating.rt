@@ -24,7 +24,7 @@ fn vector_of(line: &[u8]) -> Vector {
     Vector { chars }
 }
 
-/// How often a vector stands there, and its characters.
+/// How often a vector is there, and its characters.
 fn repeated(word: &str) -> (u16, &str) {
     match word.split_once('*') {
         Some((count, chars)) => (count.parse::<u16>().unwrap_or(0), chars),
@@ -54,7 +54,7 @@ fn put_mismatch(it: &Mismatch, found: &mut Found) {
     found.put(&[b' ', it.expects, b' ', it.finds, b';']);
 }
 
-/// Appends what comes of the vectors of a file.
+/// Appends what results from the vectors of a file.
 fn put_outcome<D: Device>(alloc: Global, file: &FuseFile, found: &mut Found)
     requires size { length file.now.fuses ≡ D.table.fuses }
     requires few { length file.now.vectors < 2 ^ 32 }
@@ -101,7 +101,7 @@ impl<'a, D: Device> Ask for Simulated<'a, D> {
     }
 }
 
-/// Asks the rows of each block, behind what its cells take and its fuses.
+/// Asks the rows of each block, after what its cells take and its fuses.
 fn ask_blocks<D: Device>(alloc: Global, section: &Section<'_>, report: &mut Report<'_>) {
     let Ok(blocks) = section.blocks(alloc) else {
         return report.unread(0);

@@ -1,4 +1,4 @@
-//! Fuses, sets of numbers and fields of rows as text, in which `-` stands for nothing.
+//! Fuses, sets of numbers and fields of rows as text, in which `-` represents nothing.
 
 ghost use Rattle.std.specs.Prelude.{◌≡◌, IfSome, length};
 
@@ -6,7 +6,7 @@ use pld_device::Fuses;
 use std::alloc::{AllocError, Global};
 use test_rows::{Found, Row};
 
-/// A part of a row without the blanks around it; empty where there is none.
+/// A part of a row without the blanks around it; empty if there isn't one.
 fn trimmed<'a>(part: Option<&'a str>) -> &'a str {
     part.unwrap_or("").trim()
 }
@@ -23,7 +23,7 @@ pub fn fields_of<'a>(input: &'a str) -> [&'a str; 5] {
     ]
 }
 
-/// The text of several lines, one right behind the other.
+/// The text of several lines, one right after the other.
 pub fn joined(alloc: Global, lines: &[Row<'_>]) -> Result<String, AllocError> {
     let mut text = String::new(alloc);
     for line in lines {
@@ -43,7 +43,7 @@ pub fn levels_of(alloc: Global, text: &str) -> Result<Vec<bool>, AllocError> {
     Ok(levels)
 }
 
-/// The fuses of a text, where they are as many as these.
+/// The fuses of a text, if they are as many as these.
 pub fn fuses_of(alloc: Global, text: &str, size: usize) -> Option<Fuses>
     ensures { IfSome result (λ f. length f ≡ size) }
 {

@@ -104,7 +104,7 @@ fn put_sum(alloc: Global, fuses: &Fuses, found: &mut Found) {
     }
 }
 
-/// Appends the bytes of a block's lines, in which escapes stand for what they tell.
+/// Appends the bytes of a block's lines, in which escapes represent what they give.
 fn bytes_of(alloc: Global, lines: &[Row<'_>]) -> Option<Vec<u8>> {
     match joined(alloc, lines) {
         Ok(text) => unescaped(alloc, text.as_str()),

@@ -35,7 +35,7 @@ module _ (m : Lookups) (at : Levels) (driven level : List Bool) (pins : HasPins 
         | inr off ↦ off
       ]
 
-  -- a pin is shown as driven where some cell drives it
+  -- a pin is shown as driven if some cell drives it
   driven_is : is_on driven k ≡ list_any drives (range_with_len 0 m.cells)
   unfolding drives
   driven_is =
@@ -48,7 +48,7 @@ module _ (m : Lookups) (at : Levels) (driven level : List Bool) (pins : HasPins 
             ∙ sym (any_none drives 0 m.cells (λ c first within. rw (no_cell none c (omega (arith, within))) refl))
       ]
 
-  -- what is found at the pin is told by what the point shows
+  -- what is found at the pin is given by what the point shows
   pub found_is : found (is_on driven k) (is_on level k) ≡ found_at (logic_of m) at k
   unfolding drives
   found_is = rw (shows.levels k low) (elim (cases_Bool (is_on driven k)) [

@@ -34,7 +34,7 @@ module _ (t : Table) (default : Bool) (vectors : List Vector) (few : t.pins ≤ 
 pub none_unsupported : (t : Table) (pins : ℕ) (slice vectors : List Vector) (found : Option (ℕ × ℕ)) → pins ≡ t.pins → slice ≡ vectors → found ≡ first_unsupported 1 (all_chars_at pins slice) → found ≡ None → first_unsupported 1 (all_chars t vectors) ≡ None
 none_unsupported t pins slice vectors found pins_is same found_is none = rw (pins_is, same) at (sym found_is ∙ none)
 
--- why a device isn't loaded is why it isn't simulated, where every character is simulated
+-- why a device isn't loaded is why it isn't simulated, if every character is simulated
 pub load_fault : (t : Table) (file : FuseFile) (fault : SimFault) → first_unsupported 1 file.vectors ≡ None → IsLoadFault t file.fuses fault → IsSimFault t file fault
 load_fault t file (UnsupportedCondition vector pin) none is = absurd is
 load_fault t file (DeviceLoop pins) none is = (none, is)

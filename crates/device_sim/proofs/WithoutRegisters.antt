@@ -1,4 +1,4 @@
--- A logic that stores nothing: a step only comes to rest, and so does a vector.
+-- A logic that stores nothing: a step only settles, and so does a vector.
 use Rattle.std.proofs.Common.{◌≡◌, ℕ, Bool, false, ◌==◌, nat_lt, List, Option, None, Some, refl, ap, sym, ◌∙◌, arith, inl, inr, le-ltb}
 use Rattle.device_sim.proofs.Common.{list_any, range_with_len, and_left, and_right, cases_Bool, cases_lt, false_from_ne_true, true≢false, Levels, is_register, Lookups, logic_of, between_of, clocked_of, filled, rest_of, settled_of, step_of, power_up, at_pins, has_clock, level_before, level_turned, outsides_of, last_after, point_after, any_at}
 use Rattle.pld_machine.specs.Rest.{q_at_rest}

@@ -5,7 +5,7 @@ use Rattle.pld_machine.specs.Comparison.{DoesTheSame, HasNoDontCare, NodeValues}
 use Rattle.device_sim.specs.declared.report.Mismatch.{Mismatch}
 use Rattle.device_sim.specs.VectorRun.{IsVectorRun}
 
--- where the vectors disagree with a run of the device, they disagree with a run of the source; and with no other where the
+-- if the vectors disagree with a run of the device, they disagree with a run of the source; and with no other if the
 -- source has no don't-care
 pub record DisagreeAlike (device source : Logic) (vectors : List (List ℕ)) : Type 0 where
   pub too : (default : Bool) (list : List Mismatch) → IsVectorRun device default vectors list → IsVectorRun source default vectors list

@@ -44,8 +44,8 @@ IsTheOnlyList t file list =
     (other : List Mismatch)
     → IsVectorRun (device_logic t file.fuses) file.default_level file.vectors other → other ≡ list
 
--- the fault is the first character that isn't simulated; or there is none, and some cells are a loop; or there is
--- no loop either, and the reset depends on a register; or memory ran out
+-- the fault is the first character that isn't simulated; or there isn't one, and some cells are a loop; or there
+-- is no loop either, and the reset depends on a register; or memory ran out
 abbrev pub IsSimFault : Table → FuseFile → SimFault → Type 0
 IsSimFault t file (UnsupportedCondition vector pin) = first_unsupported 1 file.vectors ≡ Some (vector, pin)
 IsSimFault t file (DeviceLoop pins) = (first_unsupported 1 file.vectors ≡ None) × IsPinLoop t file.fuses pins.items

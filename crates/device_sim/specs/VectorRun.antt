@@ -1,4 +1,4 @@
--- The run that test vectors drive, and where it disagrees with them (JESD3-C, test vector field; that a vector with a
+-- The run that test vectors drive, and if it disagrees with them (JESD3-C, test vector field; that a vector with a
 -- clock takes two further steps is this project's reading).
 use Rattle.std.specs.Prelude.{◌≡◌, ◌≢◌, ℕ, suc, ◌-◌, ◌==◌, ◌&&◌, not, Bool, true, false, if◌then◌else◌, List, [], ◌∷◌, ◌++◌, length, map, drop, replicate, flat_map, slice_get, Option, Some, None, codes}
 use Rattle.device_sim.specs.Prelude.{list_any, range_with_len, is_on, Levels, Logic, is_among, Run}
@@ -16,7 +16,7 @@ abbrev pub level_turned : Bool → ℕ → Bool
 level_turned default char =
     if is_among (codes "0K") char then false else if is_among (codes "1C") char then true else default
 
--- a level for each of 32 places: that of a pin's character at the pin, 0 where no pin is
+-- a level for each of 32 places: that of a pin's character at the pin, 0 if no pin is
 unfoldable pub at_pins : (ℕ → Bool) → List ℕ → List Bool
 at_pins level chars = false ∷ map level chars ++ replicate (31 - length chars) false
 
@@ -50,16 +50,16 @@ found_at m at pin = found (is_driven m at pin) (is_on at.pins pin)
 abbrev pub is_tested : ℕ → Bool
 is_tested = is_among (codes "HLZ")
 
--- a mismatch, where the character tests its pin and something else is found there
+-- a mismatch, if the character tests its pin and something else is found there
 abbrev pub if_mismatch : Mismatch → List Mismatch
 if_mismatch it = if is_tested it.expects && not (it.expects == it.finds) then it ∷ [] else []
 
--- where a pin disagrees with its character
+-- if a pin disagrees with its character
 abbrev pub mismatch_at : Logic → Levels → (vector pin char : ℕ) → List Mismatch
 mismatch_at m at vector pin char =
     if_mismatch (record { vector = vector; pin = pin; expects = char; finds = found_at m at pin })
 
--- where the pins from this one on disagree with their characters
+-- if the pins from this one on disagree with their characters
 abbrev pub vector_mismatches : Logic → Levels → (vector pin : ℕ) → List ℕ → List Mismatch
 vector_mismatches m at vector pin [] = []
 vector_mismatches m at vector pin (char ∷ chars) =

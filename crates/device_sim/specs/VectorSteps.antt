@@ -35,7 +35,7 @@ abbrev pub last_after : Lookups → Option Levels → List (List Bool) → Optio
 last_after m before [] = before
 last_after m before (outside ∷ rest) = last_after m (Some (point_after m before outside)) rest
 
--- where the vectors from this number on disagree, after the point that there may be
+-- if the vectors from this number on disagree, after the point that there may be
 unfoldable pub mismatches_after : Lookups → Bool → (vector : ℕ) → Option Levels → List (List ℕ) → List Mismatch
 mismatches_after m default vector before vectors =
     mismatches_of (logic_of m) default vector vectors (points_after m before (flat_map (outsides_of default) vectors))

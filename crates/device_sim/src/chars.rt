@@ -8,7 +8,7 @@ ghost use Rattle.device_sim.specs.VectorSteps.{all_chars_at, chars_at, level_for
 
 use pld_base::Vector;
 
-/// The characters of a vector at pins 1 to the last one; what stands behind counts for nothing.
+/// The characters of a vector at pins 1 to the last one; what follows counts for nothing.
 pub fn chars_of(vector: &Vector, pins: u8) -> &[u8]
     requires { pins ≤ 24 }
     ensures { result.now ≡ chars_at pins vector.now }
@@ -49,7 +49,7 @@ pub fn has_clock(chars: &[u8]) -> bool
 fn is_unsupported(char: u8) -> bool
     ensures { result ≡ is_unsupported char }
 {
-    // Most characters are 0 or 1, and one test tells them.
+    // Most characters are 0 or 1, and one test distinguishes them.
     char > b'1' && matches!(char, b'2'..=b'9' | b'B' | b'P' | b'U' | b'D')
 }
 

@@ -1,4 +1,4 @@
-//! What the test vectors of a fuse file came to.
+//! What the test vectors of a fuse file gave.
 
 use pld_base::ListOf;
 

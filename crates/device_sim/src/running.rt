@@ -26,7 +26,7 @@ pub fn has_register<L: Logic>(logic: &L) -> bool
     false
 }
 
-/// The next point: after a step, or at rest from power-up where there is none before.
+/// The next point: after a step, or at rest from power-up if there isn't one before.
 #[inline(always)]
 fn point_after<L: Logic>(logic: &L, before: Option<Point>, outside: u32) -> Point
     requires { IsOrdered (L.meaning logic.now) }
@@ -57,9 +57,9 @@ fn point_in_steps<L: Logic>(logic: &L, before: Option<Point>, chars: &[u8], defa
     }
 }
 
-/// The point at which a vector is tested, where it is known whether some cell is a register.
+/// The point at which a vector is tested, if it is known whether some cell is a register.
 ///
-/// Where none is, a step only comes to rest: clocks that are turned and turned back change nothing.
+/// If none is, a step only settles: clocks that are turned and turned back change nothing.
 #[inline(always)]
 pub fn point_of<L: Logic>(
     logic: &L,
@@ -82,7 +82,7 @@ pub fn point_of<L: Logic>(
     }
 }
 
-/// Where the vectors' run disagrees with them, in order of vectors and then pins.
+/// If the vectors' run disagrees with them, in order of vectors and then pins.
 pub fn run_vectors<L: Logic>(
     alloc: Global,
     logic: &L,

@@ -25,7 +25,7 @@ fn first_vectors(vectors: &[Vector], most: usize) -> &[Vector]
     }
 }
 
-/// What each vector comes to at the pins.
+/// What each vector amounts to at the pins.
 fn trace_vectors<L: Logic>(
     alloc: Global,
     logic: &L,
@@ -48,7 +48,8 @@ fn trace_vectors<L: Logic>(
     Ok(shown)
 }
 
-/// What each of the first vectors of a fuse file, so many at most, comes to at the pins: the run is that of `simulate`.
+/// What each of the first vectors of a fuse file, so many at most, amounts to at the pins: the run is that of
+/// `simulate`.
 ///
 /// Characters that are not simulated drive nothing here.
 pub fn traces<D: Device>(

@@ -20,8 +20,8 @@ use std::alloc::Global;
 /// vector with clocks takes two further steps: they are turned, and turned back. Then each `H`, `L`
 /// and `Z` is held against what its pin shows. Characters past the device's pins count for nothing.
 ///
-/// `UnsupportedCondition` is the first character that is not simulated. It comes before `DeviceLoop`,
-/// and that before `DeviceResetReadsRegister`. The loaded device and the mismatches take memory, and
+/// `UnsupportedCondition` is the first character that is not simulated. It precedes `DeviceLoop`, and
+/// that before `DeviceResetReadsRegister`. The loaded device and the mismatches take memory, and
 /// nothing else does.
 pub fn simulate<D: Device>(alloc: Global, file: &FuseFile) -> Result<Report, SimFault>
     requires size { length file.now.fuses ≡ D.table.fuses }

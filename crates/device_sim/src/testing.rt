@@ -20,7 +20,7 @@ fn found_at(shown: Trace, pin: u8) -> u8
     }
 }
 
-/// The levels, with 0 where the others have 1.
+/// The levels, with 0 if the others have 1.
 fn without(levels: u32, others: u32) -> u32
     ensures { (k : ℕ) → k < 32 → is_on (bits 32 result) k
         ≡ (is_on (bits 32 levels) k && not (is_on (bits 32 others) k)) }
@@ -43,7 +43,7 @@ fn disagrees(shown: Trace, pin: u8, expects: u8) -> bool
     }
 }
 
-/// Adds a mismatch where the character tests its pin and something else is found there.
+/// Adds a mismatch if the character tests its pin and something else is found there.
 fn test_pin(
     list: &mut Vec<Mismatch>,
     shown: Trace,
@@ -73,7 +73,7 @@ fn test_pin(
     Ok(())
 }
 
-/// Adds where the pins of a point disagree with a vector's characters, in order of pins.
+/// Adds if the pins of a point disagree with a vector's characters, in order of pins.
 pub fn test_pins<L: Logic>(
     list: &mut Vec<Mismatch>,
     logic: &L,

@@ -5,7 +5,7 @@ use Rattle.std.proofs.Common.{◌≡◌, ◌≢◌, ◌↔◌, ℕ, zero, suc, L
 pub found_at : (pins : List ℕ) (i pin : ℕ) → slice_get pins i ≡ Some pin → ◌≡◌ {A = Option ℕ} (Some i) None ↔ ((k : ℕ) → slice_get pins k ≢ Some pin)
 found_at pins i pin found = (λ e. absurd (cc), λ none. absurd (none i found))
 
--- the pin is none of the list
+-- the pin isn't one of the list
 abbrev pub IsNone : List ℕ → ℕ → Type 0
 IsNone [] pin = Unit {0}
 IsNone (first ∷ pins) pin = (first ≢ pin) × IsNone pins pin

@@ -19,7 +19,7 @@ abbrev pub ac1 : (fuse : ℕ) → List Cell → List FuseBit
 ac1 fuse [] = []
 ac1 fuse (cell ∷ cells) = bit fuse (not (stores_by cell.kinds false)) ∷ ac1 (suc fuse) cells
 
--- AC1 of each cell, from pin 19 on, then SYN, which tells complex mode from registered mode, and AC0
+-- AC1 of each cell, from pin 19 on, then SYN, which distinguishes complex mode from registered mode, and AC0
 abbrev pub mode_fuses : (syn : Bool) → List Cell → List FuseBit
 mode_fuses syn cells = ac1 2120 cells ++ bit 2192 syn ∷ bit 2193 true ∷ []
 
@@ -27,7 +27,7 @@ mode_fuses syn cells = ac1 2120 cells ++ bit 2192 syn ∷ bit 2193 true ∷ []
 abbrev pub switches : List ℕ
 switches = range_with_len 2128 64
 
--- the whole table of a mode: its name, its clock (0 where there is none), SYN, its cells and what its columns carry. Fuses
+-- the whole table of a mode: its name, its clock (0 if there isn't one), SYN, its cells and what its columns carry. Fuses
 -- 2056 to 2119 are the signature
 abbrev pub gal16v8 : DeviceName → (clock : ℕ) → (syn : Bool) → List Cell → List Carry → Table
 gal16v8 name clock syn cells pairs = record {

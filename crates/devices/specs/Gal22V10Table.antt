@@ -3,7 +3,7 @@ use Rattle.std.specs.Prelude.{ℕ, ◌+◌, false, Option, Some, List, [], ◌�
 use Rattle.devices.specs.Prelude.{GAL22V10, Carry, Cell, Row, AfterRegister, FuseBit, Either, Table}
 use Rattle.pld_device.specs.declared.carry.Carry.TheVariants as carry
 
--- a cell on a pin: a row enables it, and behind that one stand its data rows, as many as it has room
+-- a cell on a pin: a row enables it, and after that one are its data rows, as many as it has room
 abbrev pub either_cell : (pin enable room : ℕ) → Cell
 either_cell pin enable room = record { pin = pin; enable = Row enable; first = enable + 1; room = room; kinds = Either }
 

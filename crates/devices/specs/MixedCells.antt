@@ -40,7 +40,7 @@ c_shows =
     ∷ (others_high, 1, shown false true true false false true)
     ∷ []
 
--- a register's pin is the complement of its Q in either form; its next Q is the OR where it is inverted, else the complement
+-- a register's pin is the complement of its Q in either form; its next Q is the OR if it is inverted, else the complement
 abbrev pub r4_shows : List ShownRow
 r4_shows =
     (all_low, 0, shown false true false false false true)

@@ -10,7 +10,7 @@ combinational_cell pin row = record { pin = pin; enable = Row row; first = row +
 abbrev pub registered_cell : (pin row : ℕ) → Cell
 registered_cell pin row = record { pin = pin; enable = PinLow 11; first = row; room = 8; kinds = Registered }
 
--- a device of the family: its name, its clock (0 where there is none), its cells and what its columns carry. It
+-- a device of the family: its name, its clock (0 if there isn't one), its cells and what its columns carry. It
 -- always inverts, and has no reset, no preset and no control fuses
 abbrev pub pal16 : DeviceName → (clock : ℕ) → List Cell → List Carry → Table
 pal16 name clock cells pairs = record {

@@ -63,7 +63,7 @@ pins_2_3_22 = point_with (2 ∷ 3 ∷ 22 ∷ []) []
 abbrev pub pins_2_4 : Levels
 pins_2_4 = point_with (2 ∷ 4 ∷ []) (0 ∷ [])
 
--- the same columns; the register's feedback is the complement of Q where its pin is that too
+-- the same columns; the register's feedback is the complement of Q if its pin is that too
 abbrev pub mixed_shows : List ShownRow
 mixed_shows =
     (all_low, 0, shown true true false true true false)

@@ -10,7 +10,7 @@ use pld_device::{Carry, Cell, Chip, Enable, Flip, FuseBit, Kinds, Part};
 #[derive(Clone, Copy, PartialEq, Eq)]
 pub struct Gal22V10;
 
-/// A cell: its pin, the row that enables it, and how many data rows stand behind that one.
+/// A cell: its pin, the row that enables it, and how many data rows follow that one.
 fn either(pin: u8, enable: u16, room: u8) -> Cell
     requires { enable < 132 }
     ensures { result ≡ either_cell pin enable room }

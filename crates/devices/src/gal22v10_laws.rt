@@ -13,7 +13,7 @@ pub fn gal22v10_counters()
     ensures opened { opened_of counter ≡ 394 }
 {}
 
-/// What cells of both kinds and polarities show, and where the one reset row and the one preset row
+/// What cells of both kinds and polarities show, and if the one reset row and the one preset row
 /// are true. Does nothing.
 pub fn both_kinds()
     ensures shows { ShowsEach gal22v10 mixed mixed_shows }

@@ -1,4 +1,4 @@
-//! The devices by their names: their tables, and what tells one from another.
+//! The devices by their names: their tables, and what distinguishes them.
 #![tactic(auto)]
 
 mod cells;

@@ -1,6 +1,6 @@
 //! Code for all devices, called with the type of the device that has a name.
 
-/// Calls a function for all devices with the type of the device of a name: `on_device!(name, f(x))` is `f::<Pal16L8>(x)` where
+/// Calls a function for all devices with the type of the device of a name: `on_device!(name, f(x))` is `f::<Pal16L8>(x)` if
 /// the name is that of the PAL16L8, and so on.
 #[macro_export]
 macro_rules! on_device {

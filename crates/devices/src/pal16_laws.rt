@@ -7,7 +7,7 @@ ghost use Rattle.devices.specs.Pal16Cells.{combinational_cell};
 ghost use Rattle.devices.specs.Pal16L8Table.{pal16l8};
 ghost use Rattle.devices.specs.Pal16RTables.{pal16r4, pal16r6, pal16r8};
 
-/// The cells of the PAL16L8 stand on pins 19 to 12 with eight rows each. Does nothing.
+/// The cells of the PAL16L8 are on pins 19 to 12 with eight rows each. Does nothing.
 pub fn layout()
     ensures { (c : ℕ) → c < 8 → cell_at pal16l8 c ≡ combinational_cell (19 - c) (8 * c) }
 {}

@@ -20,7 +20,7 @@ use abel_tree::{Expr, Member};
 use pld_base::Boxed;
 use std::alloc::Global;
 
-/// Signs and the operand behind them.
+/// Signs and the operand after them.
 #[cycle(expr)]
 #[tactic(auto, unfolding(abel_grammar::specs::ExpressionReaders::read_negated))]
 fn negated<'a>(
@@ -115,7 +115,7 @@ fn set<'a>(alloc: Global, tokens: &'a [Token], depth: u8) -> Result<(Expr, &'a [
     ))
 }
 
-/// What opens no nesting, where none may be opened.
+/// What opens no nesting, if none may be opened.
 #[tactic(auto, unfolding(abel_grammar::specs::ExpressionReaders::read_operand))]
 fn flat<'a>(alloc: Global, tokens: &'a [Token]) -> Result<(Expr, &'a [Token]), Halt<'a>>
     ensures { Gives (λ x. (view x.0, x.1.now)) result (read_operand 0 tokens.now) }
@@ -155,7 +155,7 @@ fn operand<'a>(
     }
 }
 
-/// A sign and the operand behind it.
+/// A sign and the operand after it.
 #[cycle(expr)]
 fn product_link<'a>(
     alloc: Global,
@@ -191,7 +191,7 @@ fn product<'a>(
     Ok((left, rest))
 }
 
-/// A sign and the operand behind it.
+/// A sign and the operand after it.
 #[cycle(expr)]
 fn sum_link<'a>(
     alloc: Global,
@@ -223,7 +223,7 @@ fn sum<'a>(alloc: Global, tokens: &'a [Token], depth: u8) -> Result<(Expr, &'a [
     Ok((left, rest))
 }
 
-/// A sign and the operand behind it.
+/// A sign and the operand after it.
 #[cycle(expr)]
 fn relation_link<'a>(
     alloc: Global,
@@ -259,7 +259,7 @@ pub fn expr<'a>(
     Ok((left, rest))
 }
 
-/// A set that stands alone.
+/// A set that is alone.
 #[tactic(auto, unfolding(abel_grammar::specs::ExpressionReaders::read_set_at))]
 pub fn set_at<'a>(
     alloc: Global,

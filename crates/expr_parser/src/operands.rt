@@ -73,7 +73,7 @@ pub fn simple<'a>(alloc: Global, tokens: &'a [Token]) -> Result<(Expr, &'a [Toke
     }
 }
 
-/// A name and `..` stand there.
+/// A name and `..` are there.
 pub fn at_range(tokens: &[Token]) -> bool
     ensures { result ≡ starts_two (among (Terminal.Identifier ∷ [])) (among (Terminal.Range ∷ []))
         tokens.now }

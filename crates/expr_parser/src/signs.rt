@@ -35,7 +35,7 @@ const RELATIONS: [Terminal; 6] = [
     Terminal::GreaterEqual,
 ];
 
-/// Whether the sign of a product stands there.
+/// Whether the sign of a product is there.
 pub fn begins_product(tokens: &[Token]) -> bool
     ensures { result ≡ starts (among products) tokens.now }
 {
@@ -49,7 +49,7 @@ pub fn product_sign<'a>(tokens: &'a [Token]) -> Result<(&'a Token, &'a [Token]),
     expect(tokens, &PRODUCTS)
 }
 
-/// Whether the sign of a sum stands there.
+/// Whether the sign of a sum is there.
 pub fn begins_sum(tokens: &[Token]) -> bool
     ensures { result ≡ starts (among sums) tokens.now }
 {
@@ -63,7 +63,7 @@ pub fn sum_sign<'a>(tokens: &'a [Token]) -> Result<(&'a Token, &'a [Token]), Hal
     expect(tokens, &SUMS)
 }
 
-/// Whether the sign of a relation stands there.
+/// Whether the sign of a relation is there.
 pub fn begins_relation(tokens: &[Token]) -> bool
     ensures { result ≡ starts (among relations) tokens.now }
 {

@@ -6,7 +6,7 @@ use Rattle.std.proofs.Math.Seq.{get_or-append_seam}
 use Rattle.pld_device.specs.declared.fuse_bit.FuseBit.{FuseBit}
 use Rattle.fit_plans.specs.declared.control_fuses.CellForm.{CellForm}
 
--- ---- a level that is told
+-- ---- a level that is reported
 
 false_true : false ≡ true → ⊥
 false_true is = absurd cc
@@ -17,7 +17,7 @@ some_same x y is = ap (λ o. unwrap_or o x) is
 none_some : {X : Type 0} (x : X) → None ≡ Some x → ⊥
 none_some x is = absurd cc
 
--- the fuse is that of the bit, and the level says what is told
+-- the fuse is that of the bit, and the level says what is reported
 record IsTold (bit : Option FuseBit) (fuse : ℕ) (told level : Bool) : Type 0 where
   pub names : fuse_if_any bit ≡ Some fuse
   pub says : level ≡ told_level bit told
@@ -131,7 +131,7 @@ module _ (t : Table) (laws : IsDevice t) (fuse : ℕ) (cells : (c : ℕ) → c <
   pub level_none : (plan : Plan) (forms : List CellForm) → IsControlLevel t plan forms fuse false
   level_none plan forms = record { control = λ what at. absurd (no_control what at); free = λ nothing. refl }
 
--- where no cell and no row has the fuse, the level of a fixed one that was found, else 0
+-- if no cell and no row has the fuse, the level of a fixed one that was found, else 0
 pub level_last : (t : Table) → IsDevice t → (plan : Plan) (forms : List CellForm) (fuse : ℕ) (found : Option Bool) → IsFoundFor t (control_level t plan forms) fuse found
     → ((c : ℕ) → c < length t.cells → IsNoCells t fuse c) → ((row : ℕ) → row < t.rows → fuse_for t (Switches row) ≡ Some fuse → ⊥)
     → (found ≡ None → (index : ℕ) → index < 16 → fuse_for t (IsFixed index) ≡ Some fuse → ⊥) → IsControlLevel t plan forms fuse (unwrap_or found false)

@@ -1,4 +1,4 @@
--- Where lists that were put into a pool stand, and that it is as it was once they are let go.
+-- Where lists that were put into a pool are, and that it is as it was once they are let go.
 use Rattle.std.proofs.Common.{◌≡◌, ℕ, ◌+◌, ◌≤◌, List, [], ◌∷◌, ◌++◌, length, take, refl, sym, ◌∙◌, ap, arith, slice_range}
 use Rattle.fit_plans.proofs.Common.{length-append, Cube, Pool}
 use Rattle.covers.proofs.ExpandedRows.{slice_kept}
@@ -12,7 +12,7 @@ take_front (x ∷ xs) ys = ap (λ r. x ∷ r) (take_front xs ys)
 pub take_grown : (old new more : List Cube) → new ≡ old ++ more → take (length old) new ≡ old
 take_grown old new more is = rw is (take_front old more)
 
--- the first of two lists that were put behind one another
+-- the first of two lists that were put after one another
 pub first_slice : (old one two needed allowed : List Cube) (from to : ℕ) → one ≡ old ++ needed → two ≡ one ++ allowed → from ≡ length old → to ≡ length one
     → slice_range two from to ≡ needed
 first_slice old one two needed allowed from to put then start end =

@@ -9,7 +9,7 @@ abbrev pub FitsRoom : ℕ → Option (Vec Cube) → Type 0
 FitsRoom room None = ⊥
 FitsRoom room (Some rows) = length rows.items ≤ room
 
--- the direct cover where it fits, else the inverted one where this fits; else the covers that were tried
+-- the direct cover if it fits, else the inverted one if this fits; else the covers that were tried
 abbrev pub Chooses : ℕ → Option (Vec Cube) → Option (Vec Cube) → Result Chosen Tried → Type 0
 Chooses room direct inverted (Ok chosen) =
     (length chosen.rows.items ≤ room)

@@ -14,12 +14,12 @@ use Rattle.fit_plans.specs.RowCubes.{HoldsCubes}
 abbrev pub form_at : List CellForm → ℕ → CellForm
 form_at forms c = get_or forms c (record { inverted = false; registered = false })
 
--- the level by which a control fuse says what is told, where there is the fuse
+-- the level by which a control fuse says what is reported, if there is the fuse
 abbrev pub told_level : Option FuseBit → Bool → Bool
 told_level None told = false
 told_level (Some bit) told = same_level bit.level told
 
--- the level that a control fuse is to have: a row is switched on where it holds a cube
+-- the level that a control fuse is to have: a row is switched on if it holds a cube
 abbrev pub control_level : Table → Plan → List CellForm → Control → Bool
 control_level t plan forms (Inverts c) = told_level (inverted_at t c) (form_at forms c).inverted
 control_level t plan forms (Registers c) = told_level (registered_at t c) (form_at forms c).registered
@@ -30,13 +30,13 @@ control_level t plan forms (IsFixed index) = told_level (slice_get t.fixed index
 abbrev pub IsNoControl : Table → ℕ → Type 0
 IsNoControl t fuse = (what : Control) → fuse_for t what ≡ Some fuse → ⊥
 
--- a level for a fuse past the array: that of what it controls, and 0 where this is nothing
+-- a level for a fuse past the array: that of what it controls, and 0 if this is nothing
 pub record IsControlLevel (t : Table) (plan : Plan) (forms : List CellForm) (fuse : ℕ) (level : Bool) : Type 0 where
   pub control : (what : Control) → fuse_for t what ≡ Some fuse → level ≡ control_level t plan forms what
   pub free : IsNoControl t fuse → level ≡ false
 
 -- as many fuses as the device has; each row holds its cube, or nothing; each control fuse says what is asked, and all
--- other fuses past the array are 0; and so the data rows of each cell hold its cubes, where they fit its room
+-- other fuses past the array are 0; and so the data rows of each cell hold its cubes, if they fit its room
 pub record IsBurned (t : Table) (plan : Plan) (forms : List CellForm) (fuses : List Bool) : Type 0 where
   pub size : length fuses ≡ t.fuses
   pub rows : (row : ℕ) → row < t.rows → row_fuses t fuses row ≡ planned_row t (planned t plan row)
@@ -46,7 +46,7 @@ pub record IsBurned (t : Table) (plan : Plan) (forms : List CellForm) (fuses : L
 
 -- ---- looking for what a fuse controls
 
--- the level by which the fuse says what is told; none where the control fuse is another one, or there is none
+-- the level by which the fuse says what is reported; none if the control fuse is another one, or there isn't one
 abbrev pub told_by : Option FuseBit → ℕ → Bool → Option Bool
 told_by None fuse told = None
 told_by (Some bit) fuse told = if bit.fuse == fuse then Some (same_level bit.level told) else None

@@ -15,17 +15,17 @@ pub record CanCover (vars : ℕ) (net : Netlist) (f : Function) : Type 0 where
   pub any : CanLower net f.any
   pub carried : (pairs : List Bool) → length pairs ≡ vars → IsCarried net f pairs
 
--- the cover of a function by rows that have what its `one` has, or the complement; none where it is too wide
+-- the cover of a function by rows that have what its `one` has, or the complement; none if it is too wide
 abbrev pub IsCoverOf : (vars mask : ℕ) → Netlist → Function → (positive : Bool) → Option (Vec Cube) → Type 0
 IsCoverOf vars mask net f positive rows = IsTried vars mask (needed_of net f positive) (allowed_of net f positive) rows
 
--- the cover of a cell in one form where it may have the form, else none
+-- the cover of a cell in one form if it may have the form, else none
 abbrev pub IsTriedAs : Flip → (vars mask : ℕ) → Netlist → CellWanted → (inverted : Bool) → Option (Vec Cube) → Type 0
 IsTriedAs flip vars mask net w inverted rows =
     (may_be_inverted_as flip w inverted ≡ true → IsCoverOf vars mask net w.function (rows_are_positive flip w inverted) rows)
     × (may_be_inverted_as flip w inverted ≡ false → rows ≡ None)
 
--- the direct form of a cell, and the inverted one where the direct one doesn't fit the room; else that isn't tried
+-- the direct form of a cell, and the inverted one if the direct one doesn't fit the room; else that isn't tried
 pub record IsTriedCell (flip : Flip) (room vars mask : ℕ) (net : Netlist) (w : CellWanted) (tried : Tried) : Type 0 where
   pub direct : IsTriedAs flip vars mask net w false tried.direct
   pub inverted : (FitsRoom room tried.direct → ⊥) → IsTriedAs flip vars mask net w true tried.inverted

@@ -10,7 +10,7 @@ pub record IsInside (vars : ℕ) (needs allows : List Cube) : Type 0 where
   pub allowed_below : AllAskBelow vars allows
   pub inside : CoversList allows needs vars
 
--- so are the two lists, turned, where there are both
+-- so are the two lists, turned, if there are both
 abbrev pub AreInside : (vars mask : ℕ) → (needed allowed : Products) → Type 0
 AreInside vars mask needed allowed =
     (needs allows : List Cube) → needed ≡ Some needs → allowed ≡ Some allows → IsInside vars (all_turned mask needs) (all_turned mask allows)
@@ -24,7 +24,7 @@ pub record IsCoverBetween (vars mask : ℕ) (needed allowed : Products) (rows : 
   pub prime : IsPrimeIrredundant (all_turned mask needs) (all_turned mask allows) vars rows
   pub few : length rows ≤ length needs
 
--- a polarity that was tried has such rows; it isn't tried where there is no list
+-- a polarity that was tried has such rows; it isn't tried if there is no list
 abbrev pub IsTried : (vars mask : ℕ) → (needed allowed : Products) → Option (Vec Cube) → Type 0
 IsTried vars mask needed allowed None = (needed ≡ None) ⊎ (allowed ≡ None)
 IsTried vars mask needed allowed (Some rows) = IsCoverBetween vars mask needed allowed rows.items

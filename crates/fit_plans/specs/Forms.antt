@@ -5,7 +5,8 @@ use Rattle.fit_plans.specs.Prelude.{same_level, Flip, complement_if, data_comple
 use Rattle.pld_device.specs.declared.flip.Flip.TheVariants.{Always, AfterRegister, BeforeRegister}
 
 -- the cell may be inverted, or direct: a device that always complements has the inverted form alone, one that complements
--- behind the register gives a register the form in which its pin follows Q as is asked, a free one both, and else both are free
+-- after the register gives a register the form in which its pin follows Q as is asked, a free one both, and else both are
+-- free
 abbrev pub may_be_inverted_as : Flip → CellWanted → (inverted : Bool) → Bool
 may_be_inverted_as Always w inverted = inverted
 may_be_inverted_as AfterRegister w inverted = not w.registered || (w.free || same_level inverted (not w.buffer))
@@ -20,7 +21,7 @@ or_is_complement flip registered inverted =
 abbrev pub follows_as : CellWanted → (inverted : Bool) → Bool
 follows_as w inverted = complement_if (w.free && inverted) w.buffer
 
--- the value of which the cell's function speaks where the OR of its rows is 0
+-- the value of which the cell's function speaks if the OR of its rows is 0
 abbrev pub names_or : Flip → CellWanted → (inverted : Bool) → Bool
 names_or flip w inverted =
     if w.raw

@@ -27,7 +27,7 @@ abbrev pub is_row : Option ℕ → ℕ → Bool
 is_row None row = false
 is_row (Some own) row = own == row
 
--- whose the row is where it is no cell's
+-- whose the row is if it is no cell's
 abbrev pub shared_owner : Table → ℕ → Owner
 shared_owner t row = if is_row t.reset row then Reset else if is_row t.preset row then Preset else Nobody
 

@@ -8,7 +8,7 @@ use Rattle.fit_plans.specs.Owners.{planned}
 use Rattle.fit_plans.specs.RowCubes.{HoldsCubes}
 
 -- as many fuses as the device has; each row holds its cube, or nothing; the fuses past the array are those given; and
--- so the data rows of each cell hold its cubes, where they fit its room, and past these nothing
+-- so the data rows of each cell hold its cubes, if they fit its room, and past these nothing
 pub record IsPlanned (t : Table) (plan : Plan) (control fuses : List Bool) : Type 0 where
   pub size : length fuses ≡ t.fuses
   pub rows : (row : ℕ) → row < t.rows → row_fuses t fuses row ≡ planned_row t (planned t plan row)

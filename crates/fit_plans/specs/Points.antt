@@ -13,7 +13,7 @@ levels_turned mask v [] = []
 levels_turned mask v (level ∷ levels) =
     (if bit_at mask v == 1 then not level else level) ∷ levels_turned mask (suc v) levels
 
--- a turned cube has a point just where the cube has the turned point
+-- a turned cube has a point just if the cube has the turned point
 abbrev pub TurnedPoints : Type 0
 TurnedPoints =
     (mask : ℕ) (c : Cube) (pairs : List Bool) → mask < 2 ^ 32 → length pairs ≤ 32
@@ -24,7 +24,7 @@ pub record IsCarried (net : Netlist) (f : Function) (pairs : List Bool) : Type 0
   pub at : Levels
   pub carries : Carries net at pairs (one_or_any net f)
 
--- where all levels are carried, each needed point of a function's lists is allowed, over the pairs' columns too
+-- if all levels are carried, each needed point of a function's lists is allowed, over the pairs' columns too
 abbrev pub ListsInside : Type 0
 ListsInside =
     (net : Netlist) (f : Function) (vars mask : ℕ) (positive : Bool) → vars ≤ 32 → mask < 2 ^ 32

@@ -2,7 +2,7 @@
 use Rattle.std.specs.Prelude.{◌≡◌, ℕ, ◌+◌, ◌/◌, ◌%◌, ◌<◌, ◌≤◌, ◌==◌, Bool, if◌then◌else◌, List, map, length, replicate, get_or, false}
 use Rattle.fit_plans.specs.Prelude.{bit_at, range_with_len, row_fuses, Table, Cube, full_cube}
 
--- the fuse of a column in the row of a cube: 0 where the cube asks for what the column carries
+-- the fuse of a column in the row of a cube: 0 if the cube asks for what the column carries
 abbrev pub fuse_at : Cube → ℕ → Bool
 fuse_at c column = (if column % 2 == 0 then bit_at c.yes (column / 2) else bit_at c.no (column / 2)) == 0
 

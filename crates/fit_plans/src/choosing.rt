@@ -11,15 +11,15 @@ pub struct Chosen {
     pub rows: Vec<Cube>,
 }
 
-/// The covers that a cell was tried with: None where a polarity is not allowed, its lists are too wide, or it was not tried.
+/// The covers that a cell was tried with: None if a polarity is not allowed, its lists are too wide, or it was not tried.
 #[derive(Debug, Drop)]
 pub struct Tried {
     pub direct: Option<Vec<Cube>>,
     pub inverted: Option<Vec<Cube>>,
 }
 
-/// Takes the direct cover where it fits the room, else the inverted one where this fits. An error gives both back.
-/// Takes no memory.
+/// Takes the direct cover if it fits the room, else the inverted one if this fits. An error gives both back. Takes no
+/// memory.
 pub fn choose(tried: Tried, room: usize) -> Result<Chosen, Tried>
     ensures { Chooses room tried.direct tried.inverted result }
 {

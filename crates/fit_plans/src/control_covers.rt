@@ -10,7 +10,7 @@ use covers::Cube;
 use std::alloc::{AllocError, Global};
 
 impl<'a> Covering<'a> {
-    /// The cover of a control; None where a list on the way would pass 1,024 products.
+    /// The cover of a control; None if a list on the way would pass 1,024 products.
     pub fn control_cover(
         &self,
         space: &mut Workspace,

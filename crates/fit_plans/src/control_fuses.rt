@@ -16,7 +16,7 @@ pub struct CellForm {
     pub registered: bool,
 }
 
-/// The level by which a control fuse says what is told; None where it is another fuse, or there is none.
+/// The level by which a control fuse says what is reported; None if it is another fuse, or there isn't one.
 fn told(bit: Option<FuseBit>, fuse: u16, told: bool) -> Option<bool>
     ensures { result ≡ told_by bit fuse told }
 {
@@ -26,7 +26,7 @@ fn told(bit: Option<FuseBit>, fuse: u16, told: bool) -> Option<bool>
     }
 }
 
-/// The level of the fuse where it is a cell's.
+/// The level of the fuse if it is a cell's.
 fn cell_level<D: Device>(plan: &Plan, forms: &[CellForm], fuse: u16) -> Option<bool>
     requires { length forms.now ≡ length D.table.cells }
     ensures found { IsFoundFor D.table (control_level D.table plan.now forms.now) fuse result }
@@ -46,7 +46,7 @@ fn cell_level<D: Device>(plan: &Plan, forms: &[CellForm], fuse: u16) -> Option<b
     None
 }
 
-/// The level of the fuse where it switches a row on.
+/// The level of the fuse if it switches a row on.
 fn switch_level<D: Device>(plan: &Plan, fuse: u16) -> Option<bool>
     ensures found { (forms : List CellForm) → IsFoundFor D.table (control_level D.table plan.now forms) fuse result }
     ensures none { result ≡ None → (row : ℕ) → row < D.table.rows → fuse_for D.table (Switches row) ≡ Some fuse → ⊥ }
@@ -62,7 +62,7 @@ fn switch_level<D: Device>(plan: &Plan, fuse: u16) -> Option<bool>
 /// How many fuses have a fixed level at most.
 const FIXED: u16 = 16;
 
-/// The level of the fuse where it is fixed.
+/// The level of the fuse if it is fixed.
 fn fixed_level<D: Device>(plan: &Plan, fuse: u16) -> Option<bool>
     ensures found { (forms : List CellForm) → IsFoundFor D.table (control_level D.table plan.now forms) fuse result }
     ensures none { result ≡ None → (index : ℕ) → index < 16 → fuse_for D.table (IsFixed index) ≡ Some fuse → ⊥ }
@@ -98,7 +98,7 @@ fn level_past<D: Device>(plan: &Plan, forms: &[CellForm], fuse: u16) -> bool
     fuse >= D::COLUMNS * D::ROWS && control_level::<D>(plan, forms, fuse)
 }
 
-/// The levels of all fuses past the array, behind a 0 for each of its fuses.
+/// The levels of all fuses past the array, after a 0 for each of its fuses.
 fn control_levels<D: Device>(
     alloc: Global,
     plan: &Plan,
@@ -116,8 +116,8 @@ fn control_levels<D: Device>(
 }
 
 /// The fuses of a device whose rows hold what the plan says, and whose cells have these forms, one a cell. A row that
-/// may be switched is switched on where it holds a cube, fixed fuses have their level, and all others past the array
-/// are 0.
+/// may be switched is switched on if it holds a cube, fixed fuses have their level, and all others past the array are
+/// 0.
 pub fn device_fuses<D: Device>(
     alloc: Global,
     plan: &Plan,

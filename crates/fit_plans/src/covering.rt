@@ -13,7 +13,7 @@ use sop_lowering::LowerFault;
 use std::alloc::{AllocError, Global};
 
 /// What all covers of a netlist are over: the columns of `vars` pairs, of which pair v carries the complement of its
-/// variable where bit v of `turned` is set, and cells whose form is told by `flip`.
+/// variable where bit v of `turned` is set, and cells whose form is given by `flip`.
 #[derive(Drop)]
 pub struct Covering<'a> {
     pub net: &'a Netlist,
@@ -26,8 +26,8 @@ pub struct Covering<'a> {
 
 impl<'a> Covering<'a> {
     /// The cover of a function by rows that have what its `one` has, or else the complement: prime and irredundant between
-    /// the written lists. None where a list on the way to them would pass 1,024 products. The lists over the columns and
-    /// room for the rows are taken first, and no memory once the minimiser begins.
+    /// the written lists. None if a list on the way to them would pass 1,024 products. The lists over the columns and room
+    /// for the rows are taken first, and no memory once the minimiser begins.
     pub fn cover(
         &self,
         space: &mut Workspace,

@@ -7,7 +7,7 @@ ghost use Rattle.fit_plans.specs.Forms.{follows_as, may_be_inverted_as, rows_are
 use bit_expr::CellWanted;
 use pld_device::Flip;
 
-/// The complement where the first is 1.
+/// The complement if the first is 1.
 fn complement_if(complement: bool, level: bool) -> bool
     ensures { result ≡ complement_if complement level }
 {
@@ -43,7 +43,7 @@ fn follows_as(wanted: &CellWanted, inverted: bool) -> bool
     complement_if(wanted.free && inverted, wanted.buffer)
 }
 
-/// The value of which the cell's function speaks where the OR of its rows is 0.
+/// The value of which the cell's function speaks if the OR of its rows is 0.
 fn names_or(flip: Flip, wanted: &CellWanted, inverted: bool) -> bool
     ensures { result ≡ names_or flip wanted.now inverted }
 {

@@ -42,9 +42,9 @@ fn negative_lists(alloc: Global, net: &Netlist, function: Function) -> Result<Li
     Ok(Lists { needed, allowed })
 }
 
-/// The written lists of a function for rows that have what its `one` has, or else the complement: `needed` where the OR
-/// of the rows must be 1, `allowed` where it may be. TooWide comes just where a list on the way to one of them would
-/// pass 1,024 products.
+/// The written lists of a function for rows that have what its `one` has, or else the complement: `needed` the points
+/// at which the OR of the rows must be 1, `allowed` if it may be. TooWide is answered just if a list on the way to one
+/// of them would pass 1,024 products.
 pub fn written_lists(
     alloc: Global,
     net: &Netlist,

@@ -111,7 +111,7 @@ fn plan_rows<D: Device>(alloc: Global, plan: &Plan) -> Result<Vec<Option<Cube>>,
     Ok(rows)
 }
 
-/// The fuses of a device whose rows hold what the plan says: 0 where a cube asks for what a column carries, and a row that
+/// The fuses of a device whose rows hold what the plan says: 0 if a cube asks for what a column carries, and a row that
 /// holds nothing is all 0. The fuses past the array are those of `control`.
 pub fn planned_fuses<D: Device>(
     alloc: Global,

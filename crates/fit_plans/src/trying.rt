@@ -29,7 +29,7 @@ fn fits(cover: &Option<Vec<Cube>>, room: usize) -> bool
 }
 
 impl<'a> Covering<'a> {
-    /// The cover of a cell in one form; None where it may not have the form, or where a list on the way would pass 1,024
+    /// The cover of a cell in one form; None if it may not have the form, or if a list on the way would pass 1,024
     /// products.
     pub fn try_form(
         &self,
@@ -48,7 +48,7 @@ impl<'a> Covering<'a> {
         }
     }
 
-    /// The cover of a cell in its direct form, and in its inverted one only where the direct one doesn't fit the room, a
+    /// The cover of a cell in its direct form, and in its inverted one only if the direct one doesn't fit the room, a
     /// number of rows: the inverted one of what fits directly may take a second.
     pub fn try_cell(
         &self,
@@ -71,8 +71,8 @@ impl<'a> Covering<'a> {
     }
 }
 
-/// Whether there are written lists of a cell in one form: not where it may not have the form, nor where a list on the way
-/// would pass 1,024 products.
+/// Whether there are written lists of a cell in one form: not if it may not have the form, nor if a list on the way would
+/// pass 1,024 products.
 pub fn has_lists(
     alloc: Global,
     net: &Netlist,

@@ -1,4 +1,4 @@
--- Two logics that answer the same where the first rests are alike there.
+-- Two logics that answer the same if the first rests are alike there.
 use Rattle.std.proofs.Common.{◌≡◌, ℕ, ◌<◌, ◌≤◌, Bool, List, refl, sym, ◌∙◌, subst, inl, inr, le-ltb, lt-ltb}
 use Rattle.fuse_compare.proofs.Common.{cases_lt, true≢false, Levels, Lookups, logic_of, AtRest, q_at_rest, q_at_edge, IsTheRest, AnswerSame, AlikeAt, IsTold, SameShape}
 

@@ -1,4 +1,4 @@
--- Masks that are gathered until two devices answer the same where none of them holds.
+-- Masks that are gathered until two devices answer the same if none of them holds.
 use Rattle.std.proofs.Common.{◌≡◌, ℕ, ◌+◌, ◌<◌, ◌≤◌, Bool, true, false, ◌||◌, List, [], ◌∷◌, ◌++◌, length, refl, ap, sym, ◌∙◌, subst, inl, inr, arith}
 use Rattle.fuse_compare.proofs.Common.{cases_lt, or_parts, true≢false, IsPoint, Levels, is_enabled, or_value, row_if_any, row_value, Table, one_of, device_lookups, IsMask, holds, RowMask, DifferWithin, some_holds, AreOwn, CoveredOutside, Covers, HoldsMore, MakesCell, MakesSame, SameCell, SameKind, SameOutside, some_row, Group}
 
@@ -21,7 +21,7 @@ none_of own mask at none = or_parts (some_holds own at) (holds mask at) (sym (mo
 
 -- ---- the rows of a group, one after another
 
--- the rows so far are covered by the other device's group, where no mask holds
+-- the rows so far are covered by the other device's group, if no mask holds
 pub record CoversBelow (t : Table) (a b : List Bool) (rows : Group) (row : ℕ) (own more : List RowMask) : Type 0 where
   pub longer : HoldsMore own more
   pub each : (k : ℕ) → rows.first ≤ k → k < row → CoveredOutside more (λ at. row_value t a at k) (some_row t b rows)

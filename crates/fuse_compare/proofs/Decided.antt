@@ -1,4 +1,4 @@
--- What is decided where the first logic rests, variable by variable.
+-- What is decided if the first logic rests, variable by variable.
 use Rattle.std.proofs.Common.{◌≡◌, ℕ, suc, ◌<◌, Bool, true, false, not, ◌&&◌, ◌==◌, List, [], ◌∷◌, length, get_or, set, refl, ap, sym, ◌∙◌, subst, length-set, get_or-set_same, get_or-set_other, lt-ltb, arith, nat_lt}
 use Rattle.fuse_compare.proofs.Common.{eqb-false, or_parts, true≢false, is_on, same_level, IsPoint, Levels, Lookups, rest_of, IsWide, rests_once, HoldsWith, holds, RowMask, AreFreePins, AreKeptQs, DifferWithin, IsDecided, some_holds, AlikeAt, Varies, has_pin, has_q, IsTold, SameShape, Variable, Pin, Q}
 use Rattle.fuse_compare.proofs.AlikeThere.{alike_there}
@@ -86,7 +86,7 @@ module _ (a : Lookups) (o s : List Bool) (decided more : RowMask) (on : Bool) wh
   pub q_passed : (c : ℕ) (vs : List Variable) → IsDecided a (Q c ∷ vs) o s decided → IsDecided a vs o (set s c on) decided
   q_passed c vs is o' s' varies at rests = is o' s' (on, varies) at rests
 
--- ---- where no own row can be true
+-- ---- if no own row can be true
 
 pub alike_past : (a b : Lookups) → SameShape a b → IsTold a → IsTold b → (own : List RowMask) → DifferWithin a b own → (vs : List Variable) (o s : List Bool) → IsWide o → IsWide s
     → (decided : RowMask) → IsDecided a vs o s decided → ((at : Levels) → IsPoint at → holds decided at ≡ true → some_holds own at ≡ false)

@@ -68,7 +68,7 @@ once_more_q (Q d ∷ vs) c once none =
     let parts = or_parts (d == c) (has_q vs c) none in
     (has_q_more vs c d ∙ rw (once.0, other_end d c parts.0) refl, once_more_q vs c once.1 parts.1)
 
--- what stands only below a number doesn't stand at it
+-- what is only below a number isn't at it
 none_at : (test : ℕ → Bool) (n : ℕ) → ((k : ℕ) → test k ≡ true → k < n) → test n ≡ false
 none_at test n below = false_from_ne_true (test n) (λ is. let low = below n is in omega (arith, low))
 

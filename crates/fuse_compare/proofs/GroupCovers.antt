@@ -98,7 +98,7 @@ cover_all t fuses rows row cubes end below =
 pub whole_range : (cubes : List Cube) → slice_range cubes 0 (length cubes) ≡ cubes
 whole_range cubes = between_from_start cubes (length cubes) ∙ take-length cubes
 
--- where the cover has each point of a row's cube, the row is true only where some row of the group is
+-- if the cover has each point of a row's cube, the row is true only if some row of the group is
 pub covered_row : (t : Table) → IsDevice t → (a b : List Bool) → StoreSame t a b → (rows : Group) (row : ℕ) (cubes : List Cube) (cube : Cube) → IsGroupCover t b rows cubes
     → IsPairCube t a row cube → CoversCube cubes cube (length t.pairs) → (at : Levels) → IsPoint at → row_value t a at row ≡ true → some_row t b rows at ≡ true
 covered_row t laws a b same rows row cubes cube cover is all at point on =

@@ -1,9 +1,9 @@
--- Where two logics are alike at a state, they are alike at each state that it stands for.
+-- If two logics are alike at a state, they are alike at each state that it represents.
 use Rattle.std.proofs.Common.{◌≡◌, ◌≢◌, ◌⊎◌, ℕ, zero, suc, ◌<◌, ◌≤◌, Bool, true, false, not, ◌&&◌, ◌==◌, nat_lt, List, refl, ap, sym, ◌∙◌, subst, arith, inl, inr, eq-eqb, le-ltb}
 use Rattle.fuse_compare.proofs.Common.{cases_Bool, and_parts, true≢false, ltb-true, eqb-true, cases_lt, cases_eq, is_on, is_register, same_levels, complement_if, Lookups, logic_of, IsWide, AtRest, rest_of, q_at_edge, levels_equal, true_same, rests_once, AlikeAt, QCounts, StandsFor, AgreeOn, IsTold, SameShape, Same, Shown, Plain}
 use Rattle.fuse_compare.proofs.Moving.{points_agree}
 
--- a Q that is the same where it is stored as 1 is the same where it isn't
+-- a Q that is the same if it is stored as 1 is the same if it isn't
 same_stored : (r ra rb x : Bool) → (r && (not ra && true)) ≡ (r && (not rb && true)) → (r && (not ra && x)) ≡ (r && (not rb && x))
 same_stored r ra rb true h = h
 same_stored false ra rb false h = refl
@@ -133,7 +133,7 @@ module _ (a b : Lookups) (shape : SameShape a b) (ta : IsTold a) (tb : IsTold b)
 
   -- ---- pins
 
-  -- a cell's level is the same where its Q is the same as in the second state
+  -- a cell's level is the same if its Q is the same as in the second state
   first_level : (c : ℕ) → c < a.cells → (is_on (rest_of a o s).q c ≡ is_on alike.at.q c) ⊎ (a.stores c ≡ false) → a.level (rest_of a o s) c ≡ a.level alike.at c
   first_level c within why = by_kind (cases_Bool (a.stores c)) why
     where

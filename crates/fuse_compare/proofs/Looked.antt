@@ -1,4 +1,4 @@
--- What is looked at at a point at rest tells whether it is one of the second logic too.
+-- What is looked at at a point at rest says whether it is one of the second logic too.
 use Rattle.std.proofs.Common.{◌≡◌, ◌≢◌, ◌⊎◌, ℕ, ◌<◌, ◌≤◌, Bool, true, false, not, ◌&&◌, ◌==◌, List, refl, sym, ◌∙◌, subst, inl, inr, arith, le-ltb, ne_eqb}
 use Rattle.fuse_compare.proofs.Common.{cases_Bool, cases_lt, and_parts, true≢false, is_on, same_level, Levels, Lookups, logic_of, IsTheRest, q_at_rest, q_at_edge, true_same, same_true, RestsToo, StoresToo, StoresOther, AllToo, AllEdgesToo, drives_so, clock_is_low, IsTold, SameShape}
 

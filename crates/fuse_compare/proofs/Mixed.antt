@@ -1,4 +1,4 @@
--- Where a cell is a register in one of two logics alone, they are alike only if both are always reset.
+-- If a cell is a register in one of two logics alone, they are alike only if both are always reset.
 use Rattle.std.proofs.Common.{◌≡◌, ◌≢◌, ◌⊎◌, ℕ, ◌<◌, Bool, true, false, not, ◌&&◌, List, refl, sym, ◌∙◌, subst, arith, inl, inr, le-ltb, lt-ltb}
 use Rattle.fuse_compare.proofs.Common.{cases_Bool, cases_lt, true≢false, is_on, Levels, is_register, Lookups, logic_of, IsWide, AtRest, q_at_rest, rests_once, AlikeAt, IsTold, SameShape}
 
@@ -49,7 +49,7 @@ module _ (a b : Lookups) (shape : SameShape a b) (ta : IsTold a) (tb : IsTold b)
   q_of_d : is_on alike.at.q d ≡ false
   q_of_d = first_q d within d_full ∙ one_reset (a.stores d) (b.stores d) (a.reset alike.at d) (b.reset alike.at d) mixed (sym (first_q d within d_full) ∙ second_q d within d_full)
 
-  -- one of the two is reset there, and so the other too, where it has a register
+  -- one of the two is reset there, and so the other too, if it has a register
   either_reset : (a.reset alike.at d ≡ true) ⊎ (b.reset alike.at d ≡ true)
   either_reset = by_kinds (cases_Bool (a.stores d)) (cases_Bool (b.stores d))
     where

@@ -1,4 +1,4 @@
--- States that have the same known pins and Qs come to rest at points that have them the same.
+-- States that have the same known pins and Qs settle at points that have them the same.
 use Rattle.std.proofs.Common.{◌≡◌, ◌≢◌, ◌⊎◌, ℕ, suc, ◌<◌, Bool, true, false, List, [], ◌∷◌, slice_get, set, Some, refl, ap, sym, ◌∙◌, subst, arith, inl, inr, get_or-set_same, get_or-set_other}
 use Rattle.fuse_compare.proofs.Common.{cases_Bool, cases_eq, and_parts, true≢false, ltb-true, is_on, Levels, IsPoint, Lookups, logic_of, IsWide, IsOrdered, InRange, AtRest, q_at_rest, settle_slot, settle, start, settled_of, filled, rest_of, rests_once, is_on-filled, length-filled, length-bits, Known, AgreeOn, IsToldBy}
 use Rattle.pld_machine.specs.declared.logic.Slot.{Slot}

@@ -1,4 +1,4 @@
--- The states of a search have no level where no pin is, and no Q where no register is.
+-- The states of a search have no level at which no pin is, and no Q if no register is.
 use Rattle.std.proofs.Common.{◌≡◌, ◌⊎◌, ℕ, ◌<◌, Bool, true, ◌||◌, ◌==◌, not, List, [], ◌∷◌, length, set, get_or, sym, ◌∙◌, ap, subst, inl, inr, nat_lt}
 use Rattle.fuse_compare.proofs.Common.{and_parts, eqb-true, ltb-true, or_cases, or_left, or_right, bits, is_on, Carry, Cell, is_enable_pin, IsDevice, IsPair, IsSignalPin, stores, Table, cell_at, no_cell, AreKnown, HoldsRegisters, IsPlainState, enables_some, is_level_of, known_of, some_read, Varies, has_pin, has_q, Difference, Variable, Pin, Q}
 use Rattle.pld_device.specs.declared.carry.Carry.TheVariants as carry

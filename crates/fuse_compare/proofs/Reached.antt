@@ -1,4 +1,4 @@
--- Each state is stood for by one that varies the variables alone.
+-- Each state is represented by one that varies the variables alone.
 use Rattle.std.proofs.Common.{◌≡◌, ◌≢◌, ◌⊎◌, ℕ, ◌<◌, Bool, true, false, ◌||◌, ◌==◌, List, [], ◌∷◌, length, set, refl, sym, ◌∙◌, subst, inl, inr, length-set, get_or-set_same, get_or-set_other}
 use Rattle.fuse_compare.proofs.Common.{cases_Bool, cases_eq, or_cases, or_parts, true≢false, eqb-true, eqb-false, bits, is_on, is_on-zero, length-bits, Lookups, logic_of, IsWide, AreAlike, AlikeAt, QCounts, StandsFor, Varies, has_pin, has_q, AreVariables, QFixed, QsSuffice, Suffices, Same, Shown, Plain, Variable, Pin, Q}
 use Rattle.fuse_compare.specs.States.QFixed.{AtOne, AsPlain}
@@ -97,7 +97,7 @@ module _ (a b : Lookups) (vs : List Variable) (fixed : List Bool) (enough : Suff
   zeros_wide : IsWide (bits 32 0)
   zeros_wide = length-bits 32 0
 
-  -- the clock is low where it was, as a variable or at 0
+  -- the clock is low if it was, as a variable or at 0
   clock_low : (o s : List Bool) (r : IsReached vs (bits 32 0) fixed o s) → is_on o a.clock ≡ false → is_on r.outside a.clock ≡ false
   clock_low o s r low = elim (cases_Bool (has_pin vs a.clock)) [
     | inl is ↦ r.pins a.clock is ∙ low

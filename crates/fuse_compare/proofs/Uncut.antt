@@ -1,4 +1,4 @@
--- What is cut where nothing is known of two logics.
+-- What is cut if nothing is known of two logics.
 use Rattle.std.proofs.Common.{◌≡◌, ◌⊎◌, ℕ, ◌<◌, Bool, true, false, ◌==◌, List, [], ◌∷◌, set, refl, sym, ◌∙◌, subst, inl, inr, arith, get_or-set_other}
 use Rattle.fuse_compare.proofs.Common.{cases_eq, cases_lt, eq-eqb, eqb-true, true≢false, get_or_past, bits, is_on, IsPoint, Levels, is_on-zero, length-bits, Lookups, holds, RowMask, AreFreePins, AreKeptQs, DifferWithin, some_holds}
 

@@ -46,7 +46,7 @@ DifferAs a b false outside stored = DifferAtRest a b outside stored
 abbrev pub IsDifference : Logic → Logic → Difference → Type 0
 IsDifference a b d = DifferAs a b d.clocked (bits 32 d.outside) (bits 32 d.stored)
 
--- None where they are alike, else a difference
+-- None if they are alike, else a difference
 abbrev pub FindsDifference : Logic → Logic → Option Difference → Type 0
 FindsDifference a b None = AreAlike a b
 FindsDifference a b (Some d) = IsDifference a b d

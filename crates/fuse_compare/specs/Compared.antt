@@ -22,7 +22,7 @@ pub record CanBeCompared (t : Table) (a b : List Bool) : Type 0 where
 abbrev pub IsCompareFault : Table → (a b : List Bool) → SimFault → Type 0
 IsCompareFault t a b fault = IsLoadFault t a fault ⊎ (CanBeLoaded t a × IsLoadFault t b fault)
 
--- the levels are 0 at ground, at the supply and where no pin is, and the Qs at each cell that stores in neither
+-- the levels are 0 at ground, at the supply and if no pin is, and the Qs at each cell that stores in neither
 pub record IsPlainState (t : Table) (a b : List Bool) (d : Difference) : Type 0 where
   pub outside : (k : ℕ) → is_on (bits 32 d.outside) k ≡ true → IsSignalPin t k
   pub stored : (c : ℕ) → is_on (bits 32 d.stored) c ≡ true

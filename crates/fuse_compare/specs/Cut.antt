@@ -19,7 +19,7 @@ pub record AnswerSame (a b : Lookups) (at : Levels) : Type 0 where
   pub preset : (c : ℕ) → c < a.cells → a.preset at c ≡ b.preset at c
   pub next : (c : ℕ) → c < a.cells → a.next at c ≡ b.next at c
 
--- where none of these masks holds, both answer the same
+-- if none of these masks holds, both answer the same
 abbrev pub DifferWithin : Lookups → Lookups → List RowMask → Type 0
 DifferWithin a b own = (at : Levels) → IsPoint at → some_holds own at ≡ false → AnswerSame a b at
 
@@ -35,13 +35,13 @@ AreKeptQs a cells =
     (c : ℕ) → is_on cells c ≡ true
     → (c < a.cells) × (a.stores c ≡ true) × ((at : Levels) → IsPoint at → a.reset at c ≡ false)
 
--- the mask holds where the first logic rests, at each state that varies these variables
+-- the mask holds if the first logic rests, at each state that varies these variables
 abbrev pub IsDecided : Lookups → List Variable → (outside stored : List Bool) → RowMask → Type 0
 IsDecided a vars outside stored decided =
     (o s : List Bool) → Varies vars outside stored o s
     → (at : Levels) → AtRest (logic_of a) o s at → holds decided at ≡ true
 
--- no variable stands in the list twice
+-- no variable is in the list twice
 abbrev pub AreOnce : List Variable → Type 0
 AreOnce [] = Unit {0}
 AreOnce (Pin k ∷ vs) = (has_pin vs k ≡ false) × AreOnce vs

@@ -1,4 +1,4 @@
--- Private: what two logics that come to rest at one state are asked there (this project's rule).
+-- Private: what two logics that settle at one state are asked there (this project's rule).
 use Rattle.std.specs.Prelude.{◌≡◌, ◌≢◌, ℕ, ◌<◌, Bool, true, false, not, ◌&&◌, ◌||◌, ◌==◌, List}
 use Rattle.fuse_compare.specs.Prelude.{is_on, same_level, Levels, Lookups, logic_of, AtRest, q_at_rest, q_at_edge, IsTheRest}
 
@@ -33,7 +33,7 @@ pub record RestsToo (a b : Lookups) (outside stored : List Bool) (at : Levels) :
   pub rests : AtRest (logic_of b) outside stored at
   pub enabled : (c : ℕ) → c < a.cells → a.enable at c ≡ b.enable at c
 
--- where the clock is low, both have the same Qs after its edge
+-- if the clock is low, both have the same Qs after its edge
 abbrev pub StoresToo : Lookups → Lookups → List Bool → Levels → Type 0
 StoresToo a b outside at =
     a.clock ≢ 0 → is_on outside a.clock ≡ false → (c : ℕ) → c < 32 → q_at_edge a at c ≡ q_at_edge b at c

@@ -1,4 +1,4 @@
--- Private: rows that are true with one of two fuse lists where no row of their group is with the other, and masks of them
+-- Private: rows that are true with one of two fuse lists if no row of their group is with the other, and masks of them
 -- (this project's rule).
 use Rattle.std.specs.Prelude.{◌≡◌, ℕ, ◌+◌, ◌<◌, ◌≤◌, Bool, true, false, List, length}
 use Rattle.fuse_compare.specs.Prelude.{list_any, range_with_len, IsPoint, Levels, is_enabled, or_value, row_if_any, is_inverted, stores, Table, cell_at, AllAskBelow, covers, RowMask}
@@ -19,26 +19,26 @@ some_row t fuses rows at = list_any (row_value t fuses at) (range_with_len rows.
 abbrev pub StoreSame : Table → (a b : List Bool) → Type 0
 StoreSame t a b = (c : ℕ) → c < length t.cells → stores t a c ≡ stores t b c
 
--- the group's rows as a cover over the column pairs: of the values that these carry at a point it has those where some
--- row of the group is true
+-- the group's rows as a cover over the column pairs: of the values that these carry at a point it has those if some row
+-- of the group is true
 pub record IsGroupCover (t : Table) (fuses : List Bool) (rows : Group) (cubes : List Cube) : Type 0 where
   pub below : AllAskBelow (length t.pairs) cubes
   pub points : (at : Levels) → IsPoint at → covers cubes (pair_values t fuses at) ≡ some_row t fuses rows at
 
--- where no mask of the list holds, the two tests answer the same
+-- if no mask of the list holds, the two tests answer the same
 abbrev pub SameOutside : List RowMask → (test other : Levels → Bool) → Type 0
 SameOutside own test other = (at : Levels) → IsPoint at → some_holds own at ≡ false → test at ≡ other at
 
--- where no mask of the second list holds, none of the first does
+-- if no mask of the second list holds, none of the first does
 abbrev pub HoldsMore : (own more : List RowMask) → Type 0
 HoldsMore own more = (at : Levels) → some_holds more at ≡ false → some_holds own at ≡ false
 
--- where no mask of the list holds and the first test passes, the second does
+-- if no mask of the list holds and the first test passes, the second does
 abbrev pub CoveredOutside : List RowMask → (test other : Levels → Bool) → Type 0
 CoveredOutside own test other = (at : Levels) → IsPoint at → some_holds own at ≡ false → test at ≡ true → other at ≡ true
 
--- the second list has the first one's masks, and with it some row of the group is true with the fuses `b` where one is
--- with `a`
+-- the second list has the first one's masks, and with it some row of the group is true with the fuses `b` if one is with
+-- `a`
 pub record Covers (t : Table) (a b : List Bool) (rows : Group) (own more : List RowMask) : Type 0 where
   pub longer : HoldsMore own more
   pub covered : CoveredOutside more (some_row t a rows) (some_row t b rows)
@@ -72,6 +72,6 @@ pub record AreOwn (t : Table) (a b : List Bool) (own : List RowMask) : Type 0 wh
 abbrev pub NeverDrives : Table → List Bool → (c pin : ℕ) → Type 0
 NeverDrives t fuses c pin = (cell_at t c).pin ≡ pin → (at : Levels) → IsPoint at → is_enabled t fuses at c ≡ false
 
--- the reset row, where there is one, is never true
+-- the reset row, if there is one, is never true
 abbrev pub NeverResets : Table → List Bool → Type 0
 NeverResets t fuses = (at : Levels) → IsPoint at → row_if_any t fuses at t.reset ≡ false

@@ -1,4 +1,4 @@
--- Private: what a search for a difference stands on (this project's rule).
+-- Private: what a search for a difference is on (this project's rule).
 use Rattle.std.specs.Prelude.{List}
 use Rattle.fuse_compare.specs.Prelude.{bits, Lookups}
 use Rattle.fuse_compare.specs.Cut.{AreFreePins, AreKeptQs, AreOnce, DifferWithin}
@@ -13,7 +13,7 @@ pub record IsCut (a b : Lookups) (cut : Cut) : Type 0 where
   pub free : AreFreePins a (bits 32 cut.free)
   pub kept : AreKeptQs a (bits 32 cut.kept)
 
--- two logics that can be compared state by state, variables that each stand once, and a cut
+-- two logics that can be compared state by state, variables that each are once, and a cut
 pub record CanSearch (a b : Lookups) (vars : List Variable) (cut : Cut) : Type 0 where
   pub shape : SameShape a b
   pub first : IsTold a

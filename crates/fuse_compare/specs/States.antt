@@ -1,11 +1,11 @@
--- Private: which states stand for all (this project's rule).
+-- Private: which states represent all (this project's rule).
 use Rattle.std.specs.Prelude.{◌≡◌, ◌≢◌, ℕ, ◌<◌, Bool, true, false, ◌||◌, ◌==◌, List, [], ◌∷◌, set}
 use Rattle.fuse_compare.specs.Prelude.{is_on, Levels, Lookups, IsWide}
 use Rattle.fuse_compare.specs.Told.{IsTold, Known, SameShape}
 use Rattle.fuse_compare.specs.declared.variable.Variable.{Variable}
 use Rattle.fuse_compare.specs.declared.variable.Variable.TheVariants.{Pin, Q}
 
--- a Q counts the same in the second state: it is the same; or it is 1, no answer is told by it, and the cell is a
+-- a Q counts the same in the second state: it is the same; or it is 1, no answer is given by it, and the cell is a
 -- register in both or in none; or the cell is one in none
 pub data QCounts (a b : Lookups) (ka kb : Known) (stored other : List Bool) (c : ℕ) : Type 0 where
   Same : is_on stored c ≡ is_on other c → QCounts a b ka kb stored other c
@@ -13,8 +13,8 @@ pub data QCounts (a b : Lookups) (ka kb : Known) (stored other : List Bool) (c :
       → QCounts a b ka kb stored other c
   Plain : a.stores c ≡ false → b.stores c ≡ false → QCounts a b ka kb stored other c
 
--- the second state stands for the first one: known pins have the same levels, the clock is low where it was, and each
--- Q counts the same
+-- the second state represents the first one: known pins have the same levels, the clock is low if it was, and each Q
+-- counts the same
 pub record StandsFor (a b : Lookups) (ka kb : Known) (outside stored outside' stored' : List Bool) : Type 0 where
   pub first_pins : (k : ℕ) → ka.pins k ≡ true → is_on outside k ≡ is_on outside' k
   pub second_pins : (k : ℕ) → kb.pins k ≡ true → is_on outside k ≡ is_on outside' k
@@ -69,7 +69,7 @@ pub data QsSuffice (a b : Lookups) (ka kb : Known) (vars : List Variable) (fixed
       → ((c : ℕ) → c < a.cells → b.stores c ≡ true → is_on fixed c ≡ true)
       → QsSuffice a b ka kb vars fixed
 
--- all levels of these variables, with all other pins at 0 and all other Qs fixed, stand for all states
+-- all levels of these variables, with all other pins at 0 and all other Qs fixed, represent all states
 pub record Suffices (a b : Lookups) (vars : List Variable) (fixed : List Bool) : Type 0 where
   pub shape : SameShape a b
   pub first : IsTold a

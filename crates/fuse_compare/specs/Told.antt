@@ -1,4 +1,4 @@
--- Private: by which pins and Qs a logic's answers are told (this project's rule).
+-- Private: by which pins and Qs a logic's answers are reported (this project's rule).
 use Rattle.std.specs.Prelude.{◌≡◌, ℕ, ◌<◌, Bool, true, false}
 use Rattle.fuse_compare.specs.Prelude.{is_on, Levels, is_register, complement_if, Lookups, logic_of, sets_node, IsOrdered}
 
@@ -13,7 +13,7 @@ pub record AgreeOn (known : Known) (a b : Levels) : Type 0 where
   pub q : (c : ℕ) → known.q c ≡ true → is_on a.q c ≡ is_on b.q c
 
 -- none of the pins is a register's, and each of the Qs is; at points that have them the same the logic answers the
--- same, but for a register's level, which is its own Q or the complement
+-- same, except for a register's level, which is its own Q or the complement
 pub record IsToldBy (m : Lookups) (known : Known) (flips : ℕ → Bool) : Type 0 where
   pub no_register : (c : ℕ) → c < m.cells → m.stores c ≡ true → known.pins (m.pin c) ≡ false
   pub registers : (c : ℕ) → known.q c ≡ true → is_register (logic_of m) c ≡ true
@@ -26,7 +26,7 @@ pub record IsToldBy (m : Lookups) (known : Known) (flips : ℕ → Bool) : Type 
   pub preset : (a b : Levels) → AgreeOn known a b → (c : ℕ) → c < m.cells → m.preset a c ≡ m.preset b c
   pub next : (a b : Levels) → AgreeOn known a b → (c : ℕ) → c < m.cells → m.next a c ≡ m.next b c
 
--- a logic that can be settled, has no nodes, and is told by these
+-- a logic that can be settled, has no nodes, and is given by these
 pub record IsTold (m : Lookups) : Type 0 where
   pub ordered : IsOrdered m
   pub no_nodes : (n : ℕ) → sets_node m.slots n ≡ false

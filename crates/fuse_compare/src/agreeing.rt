@@ -26,7 +26,7 @@ fn edge_q<L: Logic>(logic: &L, at: &Point, cell: u8) -> bool
     logic.stores(cell) && !logic.reset(at, cell) && (logic.preset(at, cell) || logic.next(at, cell))
 }
 
-/// Whether a cell's pin has the level that the cell drives, where it does.
+/// Whether a cell's pin has the level that the cell drives, if it does.
 fn drives_so<L: Logic>(logic: &L, at: &Point, cell: u8, enabled: bool) -> bool
     requires pins { HasPins (L.meaning logic.now) }
     requires within { cell < (L.meaning logic.now).cells }

@@ -1,9 +1,9 @@
 //! The variables for two fuse lists: what rows read, and the pins that enable.
 //!
-//! A Q that no row reads is fixed at 1, since a stored 0 hides whether the register is reset. Where a
-//! cell is a register with one of the two lists alone, no Q is a variable: with all registers at 1 that
-//! cell has a Q of 1 with the one list alone unless it is reset; so without a difference both are
-//! always reset, whatever is stored.
+//! A Q that no row reads is fixed at 1, since a stored 0 hides whether the register is reset. If a cell
+//! is a register with one of the two lists alone, no Q is a variable: with all registers at 1 that cell
+//! has a Q of 1 with the one list alone unless it is reset; so without a difference both are always
+//! reset, whatever is stored.
 
 ghost use Rattle.std.specs.Prelude.{◌≡◌, ◌≢◌, ◌<◌, ◌||◌, ℕ, IfOk, false, length, true};
 ghost use Rattle.fuse_compare.specs.Prelude.{bits, stores};
@@ -18,7 +18,7 @@ use pld_base::{OutOfMemory, with_level};
 use pld_device::Device;
 use std::alloc::Global;
 
-/// The variables of a search, and the Qs that are stored where none is one.
+/// The variables of a search, and the Qs that are stored if none is one.
 #[derive(Drop)]
 pub struct Choice {
     pub vars: Vec<Variable>,

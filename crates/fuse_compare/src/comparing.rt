@@ -14,10 +14,10 @@ use device_logic::SimFault;
 use pld_device::{Device, Fuses};
 use std::alloc::Global;
 
-/// A difference between the device with the fuses `a` and with the fuses `b`, or None where they behave
+/// A difference between the device with the fuses `a` and with the fuses `b`, or None if they behave
 /// alike.
 ///
-/// Answers what `device_logic::load` answers of `a` where it refuses it, else what it answers of `b`.
+/// Answers what `device_logic::load` answers of `a` if it refuses it, else what it answers of `b`.
 /// Takes memory for both loaded devices, a mask for each row, and the variables of the search. Its time
 /// can double with each pin and register that a row reads.
 pub fn compare<D: Device>(

@@ -1,8 +1,9 @@
 //! The states that a search may pass over, since no row that one logic has alone can be true there.
 //!
-//! The idea: where each row that is true is one of both logics, they answer the same. So a branch whose
-//! levels so far keep all other rows at 0 has no difference. A pin has its outside level where no cell
-//! can drive it, and a stored 0 rests as 0; a stored 1 rests as 1 in a register that is never reset.
+//! The idea: if each row that is true is one of both logics, they answer the same. So a branch whose
+//! levels so far keep all other rows at 0 has no difference. A pin has its outside level at which no
+//! cell can drive it, and a stored 0 rests as 0; a stored 1 rests as 1 in a register that is never
+//! reset.
 
 ghost use Rattle.std.specs.Prelude.{◌≡◌, ◌<◌, ◌||◌, false, not, slice_set, true};
 ghost use Rattle.fuse_compare.specs.Prelude.{bits, is_on, same_level, IsPoint, Levels, HoldsWith, holds};
@@ -35,7 +36,7 @@ pub fn some_meets(masks: &[RowMask], decided: RowMask) -> bool
 }
 
 impl Cut {
-    /// The state with this level of a pin, which is decided where no cell drives the pin.
+    /// The state with this level of a pin, which is decided if no cell drives the pin.
     pub fn with_pin(&self, state: State, pin: u8, on: bool) -> State
         requires { pin < 32 }
         ensures outside { bits 32 result.outside ≡ slice_set (bits 32 state.outside) pin on }
@@ -57,7 +58,7 @@ impl Cut {
         }
     }
 
-    /// The state with this stored Q of a cell, which is decided where it rests so.
+    /// The state with this stored Q of a cell, which is decided if it rests so.
     pub fn with_q(&self, state: State, cell: u8, on: bool) -> State
         requires { cell < 32 }
         ensures outside { result.outside ≡ state.outside }

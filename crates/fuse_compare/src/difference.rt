@@ -1,4 +1,4 @@
-//! Where two logics differ.
+//! A point at which two logics differ.
 
 /// A state at which two logics differ: outside levels, bit p for pin p; and stored Qs, bit c for cell c.
 ///

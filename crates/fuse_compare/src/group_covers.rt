@@ -1,8 +1,8 @@
 //! The rows of a group as a cover over the column pairs, as they are true together.
 //!
-//! The idea: where the same cells are registers with both fuse lists, a pair carries the same with both.
-//! So a row of the one is true only where some row of the other's group is, if the cover has each point
-//! of the row's cube. A group has few rows, so that this is soon decided.
+//! The idea: if the same cells are registers with both fuse lists, a pair carries the same with both. So
+//! a row of the one is true only if some row of the other's group is, if the cover has each point of the
+//! row's cube. A group has few rows, so that this is soon decided.
 
 ghost use Rattle.std.specs.Prelude.{◌≡◌, ◌+◌, ◌*◌, ◌≤◌, ◌↔◌, IfOk, IsTrue, length};
 ghost use Rattle.fuse_compare.specs.Prelude.{AllAskBelow, AsksBelow};

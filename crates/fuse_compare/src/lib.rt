@@ -1,4 +1,4 @@
-//! Whether two fuse lists of one device behave alike, and where they differ.
+//! Whether two fuse lists of one device behave alike, and if they differ.
 #![tactic(auto)]
 
 mod agreeing;

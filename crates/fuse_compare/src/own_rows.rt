@@ -1,8 +1,8 @@
 //! The rows that a device has with one of two fuse lists alone.
 //!
 //! The idea: rows are compared within their group, which is a cell's data rows, its enable row, the
-//! reset row or the preset row. A row is no list's own where the rows of the other list's group cover
-//! it, be it together. So none is left where the groups say the same by other rows.
+//! reset row or the preset row. A row is no list's own if the rows of the other list's group cover
+//! it, be it together. So none is left if the groups say the same by other rows.
 
 ghost use Rattle.std.specs.Prelude.{◌≡◌, ◌<◌, ℕ, IfOk, IfSome, length, true};
 ghost use Rattle.fuse_compare.specs.Prelude.{enabled_by, row_if_any, EnableInRange};
@@ -56,7 +56,7 @@ fn with_rows<D: Device>(
     with_own(alloc, covered, b, a, rows)
 }
 
-/// The masks, and that of a row, where there is one, in the devices that have it alone.
+/// The masks, and that of a row, if there is one, in the devices that have it alone.
 fn with_row_if_any<D: Device>(
     alloc: Global,
     own: Vec<RowMask>,
@@ -75,7 +75,7 @@ fn with_row_if_any<D: Device>(
     }
 }
 
-/// The masks, and those of what enables a cell, where it is a row.
+/// The masks, and those of what enables a cell, if it is a row.
 fn with_enable<D: Device>(
     alloc: Global,
     own: Vec<RowMask>,

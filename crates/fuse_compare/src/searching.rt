@@ -1,8 +1,8 @@
 //! The search for a state at which two logics differ.
 //!
-//! The idea: at each state that varies the variables alone, the first logic comes to rest, and the second
-//! is asked whether its cells want the same there; so it needn't come to rest itself. A branch in which
-//! no row that one of the two has alone can be true is left without a look.
+//! The idea: at each state that varies the variables alone, the first logic settles, and the second is
+//! asked whether its cells want the same there; so it needn't settle itself. A branch in which no row
+//! that one of the two has alone can be true is left without a look.
 //!
 //! Names: `from` counts the variables that have their levels.
 
@@ -24,7 +24,7 @@ use device_logic::RowMask;
 use pld_base::{Point, level_at};
 use pld_machine::{Logic, rest};
 
-/// Two logics, the variables that tell their states apart, and what their search may pass over.
+/// Two logics, the variables that distinguish their states, and what their search may pass over.
 #[derive(Drop)]
 pub struct Search<'a, A: Logic, B: Logic> {
     pub a: &'a A,
@@ -57,7 +57,7 @@ fn stores_other<A: Logic, B: Logic>(a: &A, b: &B, at: &Point, outside: u32) -> b
     }
 }
 
-/// The difference at a state, or None where there is none.
+/// The difference at a state, or None if there isn't one.
 fn difference_at<A: Logic, B: Logic>(a: &A, b: &B, state: State) -> Option<Difference>
     requires shape { SameShape (A.meaning a.now) (B.meaning b.now) }
     requires first { IsTold (A.meaning a.now) }
@@ -145,7 +145,7 @@ fn search_from<A: Logic, B: Logic>(
     }
 }
 
-/// A difference of two logics, or None where they are alike, by the states of variables that suffice; all
+/// A difference of two logics, or None if they are alike, by the states of variables that suffice; all
 /// other Qs are stored as `fixed` says.
 pub fn compared<A: Logic, B: Logic>(search: &Search<'_, A, B>, fixed: u32) -> Option<Difference>
     requires can { CanSearch (A.meaning search.now.a.now) (B.meaning search.now.b.now)

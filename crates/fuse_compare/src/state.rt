@@ -5,7 +5,7 @@ ghost use Rattle.std.specs.Prelude.{◌≡◌};
 use crate::difference::Difference;
 use device_logic::RowMask;
 
-/// Outside levels, stored Qs, and a mask that holds where the first logic rests there.
+/// Outside levels, stored Qs, and a mask that holds if the first logic rests there.
 #[derive(Clone, Copy)]
 pub struct State {
     pub outside: u32,

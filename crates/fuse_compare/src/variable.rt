@@ -1,4 +1,4 @@
-//! What tells the states of a search apart.
+//! What distinguishes the states of a search.
 
 /// A pin's outside level, or a cell's stored Q.
 #[derive(Clone, Copy, Debug, PartialEq, Eq)]

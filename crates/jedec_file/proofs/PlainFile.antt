@@ -21,7 +21,7 @@ plain_body t name fuses =
     ++ line (codes "C" ++ four_hex (fuse_sum_of fuses))
     ++ ETX ∷ []
 
--- nothing where the lines of vectors and of control fuses stand
+-- nothing the place of the lines of vectors and of control fuses
 joined : (a b c d e f g h k : List ℕ) → h ≡ [] → (a ++ b ++ c ++ [] ++ d ++ e ++ [] ++ f ++ h ++ g ++ [] ++ k) ≡ (a ++ b ++ c ++ d ++ e ++ f ++ g ++ k)
 joined a b c d e f g h k none =
     rw (none, append-nil (a ++ b ++ c), append-nil (a ++ b ++ c ++ d ++ e), append-nil (a ++ b ++ c ++ d ++ e ++ f), append-nil (a ++ b ++ c ++ d ++ e ++ f ++ g)) refl

@@ -9,7 +9,7 @@ use Rattle.jedec_file.specs.ControlLines.{control_levels}
 use Rattle.jedec_file.specs.FileText.{STX, ETX, space, asterisk, four_digits, four_hex, level_char, line}
 use Rattle.jedec_file.specs.FuseSums.{fuse_sum_of}
 
--- the line of the levels from a fuse on; none where all are 0
+-- the line of the levels from a fuse on; none if all are 0
 abbrev pub levels_line : ℕ → List Bool → List ℕ
 levels_line first levels =
     if list_any (λ level. level) levels
@@ -34,7 +34,7 @@ abbrev pub line_with : List (List ℕ) → List ℕ → List ℕ
 line_with [] text = []
 line_with (vector ∷ vectors) text = line text
 
--- the lines of the vectors, of which the first has this number
+-- the lines of the vectors, the first of which has this number
 abbrev pub vector_lines : ℕ → List (List ℕ) → List ℕ
 vector_lines n [] = []
 vector_lines n (vector ∷ vectors) =

@@ -4,7 +4,7 @@ use Rattle.std.specs.List.{list_any}
 use Rattle.pld_device.specs.ControlFuses.{control_fuses}
 use Rattle.pld_device.specs.Table.{Table}
 
--- the number after the greatest, 0 where there is none
+-- the number after the greatest, 0 if there isn't one
 abbrev pub past : List ℕ → ℕ
 past [] = 0
 past (n ∷ ns) = if nat_lt n (past ns) then past ns else suc n

@@ -1,5 +1,5 @@
 -- The fields of a fuse file's text, one after another, each up to its asterisk (JESD3-C, the design
--- specification field and the fields behind it; where a refusal stands is this project's rule).
+-- specification field and the fields after it; the place of a refusal is this project's rule).
 use Rattle.std.specs.Prelude.{ℕ, ◌+◌, ◌-◌, ◌==◌, if◌then◌else◌, List, [], ◌∷◌, length, codes, Ok, Err}
 use Rattle.std.specs.List.{slice_split}
 use Rattle.jedec_file.specs.declared.field.Field.{Field}
@@ -14,14 +14,14 @@ use Rattle.jedec_file.specs.Refusals.{Read, ◌>>=◌, some_or}
 abbrev pub pieces : List ℕ → List (List ℕ)
 pieces = slice_split (λ b. b == asterisk)
 
--- the field whose letter stands at the offset
+-- the field whose letter is at the offset
 unfoldable pub field_at : Table → ℕ → List ℕ → Read Field
 field_at t at [] = Err (fault.BadField at)
 field_at t at (letter ∷ text) =
     if letter == byte (codes "K") then Err (fault.UnsupportedField at)
     else some_or (fault.BadField at) (field_of t letter text)
 
--- behind the last asterisk stand only blanks; a field there has none, which is refused where the text ends,
+-- after the last asterisk are only blanks; a field there has none, which is refused at the end of the text,
 -- unless its letter is refused already
 unfoldable pub no_field : (at : ℕ) → (ends : ℕ) → List ℕ → Read (List Field)
 no_field at ends [] = Ok []
@@ -39,7 +39,7 @@ fields_from t at (piece ∷ next ∷ rest) =
     fields_from t (at + length piece + 1) (next ∷ rest) >>= λ fields.
     Ok (field ∷ fields)
 
--- the fields behind the design text, which has its asterisk
+-- the fields after the design text, which has its asterisk
 unfoldable pub behind_design : Table → ℕ → List (List ℕ) → Read (List Field)
 behind_design t at [] = Ok []
 behind_design t at (design ∷ []) = Err (fault.BadField (at + length design))

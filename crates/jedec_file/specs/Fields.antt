@@ -1,4 +1,4 @@
--- What one field of a fuse file says: its letter, and the words behind it, which blanks part (JESD3-C, the
+-- What one field of a fuse file says: its letter, and the words after it, which blanks part (JESD3-C, the
 -- fields of each letter; which letters are passed over is this project's profile).
 use Rattle.std.specs.Prelude.{ℕ, ◌+◌, ◌^◌, nat_lt, nat_le, ◌==◌, ◌&&◌, ◌||◌, not, if◌then◌else◌, Bool, true, false, Option, None, Some, option_and_then, option_map, List, [], ◌∷◌, length, filter, codes}
 use Rattle.std.specs.List.{list_all, list_any, concat, slice_split, range_with_len}
@@ -14,7 +14,7 @@ use Rattle.jedec_file.specs.Frame.{four_hex_value}
 abbrev pub is_blank : ℕ → Bool
 is_blank b = b == space || (b == byte (codes "\t") || (b == byte (codes "\r") || b == byte (codes "\n")))
 
--- some byte stands in the text
+-- some byte is in the text
 abbrev pub has_bytes : List ℕ → Bool
 has_bytes [] = false
 has_bytes (b ∷ bs) = true
@@ -41,7 +41,7 @@ short_number word = option_and_then (λ n. if nat_lt n (2 ^ 16) then Some n else
 abbrev pub level_of : ℕ → Option Bool
 level_of b = if b == level_char false then Some false else if b == level_char true then Some true else None
 
--- what each byte or word is, where each of them is something
+-- what each byte or word is, if each of them is something
 abbrev pub each_of : {A B : Type 0} → (A → Option B) → List A → Option (List B)
 each_of of [] = Some []
 each_of of (x ∷ xs) = option_and_then (λ y. option_map (λ ys. y ∷ ys) (each_of of xs)) (of x)
@@ -116,7 +116,7 @@ is_passed_over = is_among (codes "NADEJRSTU")
 abbrev pub is_field_letter : ℕ → Bool
 is_field_letter = is_among (codes "QFLCGXPVNADEJRSTU")
 
--- what the field of this letter and text says, where it is one
+-- what the field of this letter and text says, if it is one
 unfoldable pub field_of : Table → (letter : ℕ) → List ℕ → Option Field
 field_of t letter text =
     if letter == byte (codes "Q") then counts (trimmed text)

@@ -14,7 +14,7 @@ hex_value b =
     else if nat_le (byte (codes "a")) b && nat_le b (byte (codes "f")) then Some (10 + b - byte (codes "a"))
     else None
 
--- the value of the hexadecimal digits behind those of value n
+-- the value of the hexadecimal digits after those of value n
 abbrev pub hex_after : ℕ → List ℕ → Option ℕ
 hex_after n [] = Some n
 hex_after n (b ∷ bs) = option_and_then (λ digit. hex_after (16 * n + digit) bs) (hex_value b)
@@ -29,15 +29,15 @@ pub record Framed : Type 0 where
   pub at : ℕ
   pub text : List ℕ
 
--- where the start byte stands
+-- the place of the start byte
 unfoldable pub start_of : List ℕ → Read ℕ
 start_of bytes = some_or fault.NoStart (position (λ b. b == STX) bytes)
 
--- how many bytes stand before the end byte, of those behind the start byte
+-- how many bytes precede the end byte, of those after the start byte
 unfoldable pub length_of : List ℕ → Read ℕ
 length_of behind = some_or fault.NoEnd (position (λ b. b == ETX) behind)
 
--- the sum that stands at once behind the end byte
+-- the sum that immediately follows the end byte
 unfoldable pub sum_at : List ℕ → Read ℕ
 sum_at behind = some_or fault.NoEnd (four_hex_value (take 4 behind))
 

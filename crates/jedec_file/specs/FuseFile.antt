@@ -1,5 +1,5 @@
--- The fuse file: what its bytes say of a device's fuses and tests, or why they are none (JESD3-C; the later of
--- two fields counts, the number of fuses must be the device's, and every fuse has a level).
+-- The fuse file: what its bytes say of a device's fuses and tests, or why they aren't one (JESD3-C; the later of two
+-- fields counts, the number of fuses must be the device's, and every fuse has a level).
 use Rattle.std.specs.Prelude.{ℕ, ◌+◌, ◌-◌, nat_lt, nat_le, ◌==◌, ◌&&◌, ◌||◌, if◌then◌else◌, Bool, true, false, Option, None, Some, is_none, unwrap_or, List, [], ◌∷◌, length, map, take, slice_get, get_or, position, filter_map, Ok, Err}
 use Rattle.std.specs.List.{list_all, range_with_len}
 use Rattle.std.specs.Option.{option_or}
@@ -12,9 +12,9 @@ use Rattle.jedec_file.specs.Frame.{frame_of}
 use Rattle.jedec_file.specs.FuseSums.{fuse_sum_of}
 use Rattle.jedec_file.specs.Refusals.{Read, ◌>>=◌}
 
--- what a fuse file says: the levels of the device's fuses, of which the first `listed` are the file's and the others 0;
--- the test vectors in rising order of their numbers, each as its characters from pin 1 to the last pin; and
--- the level of pins that a vector doesn't drive
+-- what a fuse file says: the levels of the device's fuses, the first of which `listed` are the file's and the others 0;
+-- the test vectors in rising order of their numbers, each as its characters from pin 1 to the last pin; and the level
+-- of pins that a vector doesn't drive
 pub record FuseFile : Type 0 where
   pub fuses : List Bool
   pub listed : ℕ
@@ -25,7 +25,7 @@ pub record FuseFile : Type 0 where
 abbrev pub only_fuses : Table → List Bool → FuseFile
 only_fuses t fuses = record { fuses = fuses; listed = t.fuses; vectors = []; default_level = false }
 
--- ---- what a single field says: None where it doesn't speak of it
+-- ---- what a single field says: None if it doesn't speak of it
 
 -- the number of fuses
 abbrev pub fuse_count : Field → Option ℕ
@@ -37,7 +37,7 @@ abbrev pub pin_count : Field → Option ℕ
 pin_count (field.PinCount n) = Some n
 pin_count other = None
 
--- the level of the fuses that stand in no list
+-- the level of the fuses that are in no list
 abbrev pub default_fuse : Field → Option Bool
 default_fuse (field.DefaultFuse level) = Some level
 default_fuse other = None
@@ -79,7 +79,7 @@ abbrev pub ends_by : ℕ → Field → Bool
 ends_by n (field.Levels first levels) = nat_le (first + length levels) n
 ends_by n other = true
 
--- the number of pins, where it is said, is the device's
+-- the number of pins, if it is said, is the device's
 abbrev pub is_pin_count : Table → Option ℕ → Bool
 is_pin_count t None = true
 is_pin_count t (Some n) = n == t.pins
@@ -89,7 +89,7 @@ abbrev pub is_size : Table → List Field → ℕ → Bool
 is_size t fields n =
     (n == t.fuses || n == t.short) && (is_pin_count t (last_of pin_count fields) && list_all (ends_by n) fields)
 
--- that number, where it is said and fits
+-- that number, if it is said and fits
 abbrev pub size_said : Table → List Field → Option ℕ → Read ℕ
 size_said t fields None = Err fault.WrongSize
 size_said t fields (Some n) = if is_size t fields n then Ok n else Err fault.WrongSize
@@ -98,21 +98,21 @@ size_said t fields (Some n) = if is_size t fields n then Ok n else Err fault.Wro
 unfoldable pub size_of : Table → List Field → Read ℕ
 size_of t fields = size_said t fields (last_of fuse_count fields)
 
--- the first fuse that stands in no list
+-- the first fuse that is in no list
 abbrev pub first_unlisted : List Field → ℕ → Option ℕ
 first_unlisted fields listed = position (λ n. is_none (last_of (level_at n) fields)) (range_with_len 0 listed)
 
--- where every fuse stands in a list, the level of the others is of no account
+-- if every fuse is in a list, the level of the others is of no account
 abbrev pub none_unlisted : Option ℕ → Read Bool
 none_unlisted None = Ok false
 none_unlisted (Some n) = Err (fault.Unlisted n)
 
--- the level that is said; where none is, each fuse must stand in a list
+-- the level that is said; if none is, each fuse must be in a list
 abbrev pub default_said : List Field → ℕ → Option Bool → Read Bool
 default_said fields listed (Some level) = Ok level
 default_said fields listed None = none_unlisted (first_unlisted fields listed)
 
--- the level of the fuses that stand in no list
+-- the level of the fuses that are in no list
 unfoldable pub default_of : List Field → ℕ → Read Bool
 default_of fields listed = default_said fields listed (last_of default_fuse fields)
 
@@ -121,7 +121,7 @@ unfoldable pub fuses_said : Table → List Field → ℕ → Bool → List Bool
 fuses_said t fields listed default =
     map (λ n. if nat_lt n listed then unwrap_or (last_of (level_at n) fields) default else false) (range_with_len 0 t.fuses)
 
--- the fuse sum, where it is said, is that of the fuses
+-- the fuse sum, if it is said, is that of the fuses
 abbrev pub sum_agrees : Option ℕ → ℕ → Read ℕ
 sum_agrees None found = Ok found
 sum_agrees (Some read) found = if read == found then Ok found else Err (fault.FuseSum read found)
@@ -136,12 +136,12 @@ fuse_sum_read fields listed fuses = sum_agrees (last_of sum_said fields) (fuse_s
 abbrev pub order_of : Table → List Field → List ℕ
 order_of t fields = unwrap_or (last_of pin_order fields) (range_with_len 1 t.pins)
 
--- the characters by pins: that of a pin stands at the place that the order gives it
+-- the characters by pins: that of a pin is at the place that the order gives it
 abbrev pub by_pins : List ℕ → List ℕ → List ℕ
 by_pins order chars =
     map (λ pin. get_or chars (unwrap_or (position (λ other. other == pin) order) 0) 0) (range_with_len 1 (length order))
 
--- the vectors: of each number the last one
+-- the vectors: the last one of each number
 unfoldable pub vectors_of : Table → List Field → List (List ℕ)
 vectors_of t fields =
     map (by_pins (order_of t fields)) (filter_map (λ n. last_of (vector_at n) fields) (range_with_len 1 65535))

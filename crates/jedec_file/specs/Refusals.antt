@@ -1,4 +1,4 @@
--- What reading a fuse file gives: a value, or the first refusal (this project's rule: refusals come in the
+-- What reading a fuse file gives: a value, or the first refusal (this project's rule: refusals are in the
 -- order of the steps).
 use Rattle.std.specs.Prelude.{◌≡◌, Option, Some, None, Result, Ok, Err, ⊤}
 use Rattle.jedec_file.specs.declared.jedec_fault.JedecFault.{JedecFault}
@@ -8,7 +8,7 @@ use Rattle.jedec_file.specs.declared.jedec_fault.JedecFault.TheVariants as fault
 abbrev pub Read : Type 0 → Type 0
 Read A = Result A JedecFault
 
--- the second step on what the first one gives; a refusal of the first one stands
+-- the second step on what the first one gives; a refusal of the first one is
 infixl 10 ◌>>=◌
 abbrev pub ◌>>=◌ : {A B : Type 0} → Read A → (A → Read B) → Read B
 (Ok x) >>= next = next x

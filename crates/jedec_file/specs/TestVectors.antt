@@ -5,7 +5,7 @@ use Rattle.pld_base.specs.declared.point.Vector.{Vector}
 use Rattle.pld_device.specs.Table.{Table}
 use Rattle.jedec_file.specs.Fields.{is_test_char}
 
--- those of pins 1 to the last one; what stands behind counts for nothing
+-- those of pins 1 to the last one; what follows counts for nothing
 abbrev pub chars_of : Table → Vector → List ℕ
 chars_of t vector = take t.pins vector.chars
 

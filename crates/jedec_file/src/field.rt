@@ -9,7 +9,7 @@ pub enum Field {
     FuseCount(u16),
     /// `QP`: the number of pins.
     PinCount(u16),
-    /// `F`: the level of the fuses that stand in no list.
+    /// `F`: the level of the fuses that are in no list.
     DefaultFuse(bool),
     /// `L`: a first fuse, and the levels from it on.
     Levels(u16, ListOf<bool>),

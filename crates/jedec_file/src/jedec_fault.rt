@@ -8,7 +8,7 @@ use thiserror::Error;
 /// from the start of the file, from 0.
 #[derive(Debug, Drop, Error)]
 pub enum JedecFault {
-    /// No start byte (2) stands in the file.
+    /// No start byte (2) is in the file.
     #[error("no start byte")]
     NoStart,
     /// No end byte (3) follows, or it is not followed at once by four hexadecimal digits.
@@ -17,14 +17,14 @@ pub enum JedecFault {
     /// The transmission sum that was read is neither 0000 nor that of the bytes.
     #[error("the file's sum is not that of its bytes")]
     FileSum { read: u16, found: u16 },
-    /// The field whose letter stands at the offset is none, or no asterisk ends the last field before
-    /// the end byte at the offset.
+    /// The field whose letter is at the offset is unknown, or no asterisk ends the last field before the
+    /// end byte at the offset.
     #[error("no field")]
     BadField(usize),
-    /// The field whose letter stands at the offset is not read.
+    /// The field whose letter is at the offset is not read.
     #[error("a field that is not read")]
     UnsupportedField(usize),
-    /// The numbers of fuses or pins are not the device's, or a level stands past the fuses.
+    /// The numbers of fuses or pins are not the device's, or a level is past the fuses.
     #[error("the sizes are not the device's")]
     WrongSize,
     /// This is the first fuse that has no level.

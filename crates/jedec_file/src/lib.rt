@@ -1,4 +1,4 @@
-//! The form of a fuse file: its fields, its sums, and why bytes are none.
+//! The form of a fuse file: its fields, its sums, and why bytes aren't one.
 #![tactic(auto)]
 
 mod field;

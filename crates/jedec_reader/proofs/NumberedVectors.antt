@@ -57,7 +57,7 @@ vector_other t order fs i f table low here other so_far = record {
 
 -- ---- a vector's characters at the pins
 
--- a place is one of the order, also where the pin has none
+-- a place is one of the order, also if the pin has none
 place_within : (order : List ℕ) (pin : ℕ) → 0 < length order → place_of order pin < length order
 place_within order pin some = within (position_or_len (λ other. other == pin) order) (length order) some
   where

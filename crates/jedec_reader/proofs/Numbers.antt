@@ -4,13 +4,13 @@ use Rattle.jedec_reader.proofs.Common.{cases_Bool, lt-ltb, le-ltb, nat_tests, al
 use Rattle.std.specs.Char.{is_ascii_digit, digit_value}
 use Rattle.std.specs.Str.Parse.{digits_value_after}
 
--- the number of the digits behind those of n
+-- the number of the digits after those of n
 abbrev pub short_after : ℕ → List ℕ → Option ℕ
 short_after n [] = Some n
 short_after n (b ∷ bs) =
     if is_ascii_digit b then if nat_lt (10 * n + (b - 48)) 65536 then short_after (10 * n + (b - 48)) bs else None else None
 
--- a value that there is where the bytes are digits, and that counts below 65,536
+-- a value that there is if the bytes are digits, and that counts below 65,536
 abbrev short_of : Bool → ℕ → Option ℕ
 short_of digits n = option_and_then (λ n. if nat_lt n (2 ^ 16) then Some n else None) (if digits then Some n else None)
 

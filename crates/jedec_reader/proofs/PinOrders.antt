@@ -18,7 +18,7 @@ take-range_with_len a (suc n) (suc k) high = ap (λ ks. a ∷ ks) (take-range_wi
 pub order_length : (pins : ℕ) (order : List ℕ) → is_each_pin pins order ≡ true → length order ≡ pins
 order_length pins order is = eqb-true (length order) pins (first_true (length order == pins) (list_all (is_among order) (range_with_len 1 pins)) is)
 
--- an order behind all others is the order
+-- an order after all others is the order
 pub order_put : (t : Table) (fs : List Field) (i : ℕ) (f : Field) (order : List ℕ) → i < length fs → f ≡ get_or fs i f → f ≡ field.PinOrder order
     → order_of t (take (i + 1) fs) ≡ order
 order_put t fs i f order low here is =

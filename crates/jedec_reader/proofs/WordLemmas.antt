@@ -1,4 +1,4 @@
--- The first word of a text, and the words behind it.
+-- The first word of a text, and the words after it.
 use Rattle.std.proofs.Common.{◌≡◌, ◌≢◌, ℕ, suc, ◌+◌, ◌<◌, ◌≤◌, true, false, if◌then◌else◌, inl, inr, List, [], ◌∷◌, length, take, drop, get_or, filter, refl, sym, ap, arith}
 use Rattle.jedec_reader.proofs.Common.{slice_split, position_or_len, cases_Bool, slice_split-cons_yes, position_or_len_is, is_blank, has_bytes, words, trimmed}
 
@@ -39,7 +39,7 @@ trimmed_begins (x ∷ xs) b bs is = elim (cases_Bool (is_blank x)) [
 one_more : (n : ℕ) → 1 + n ≡ suc n
 one_more n = omega arith
 
--- the parts behind the first one
+-- the parts after the first one
 abbrev more_parts : List ℕ → List (List ℕ)
 more_parts [] = []
 more_parts (b ∷ bs) = if is_blank b then slice_split is_blank bs else more_parts bs

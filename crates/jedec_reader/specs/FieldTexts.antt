@@ -11,7 +11,7 @@ framed at text = record { at = at; text = text }
 abbrev pub characters_in : List ℕ → List ℕ
 characters_in text = concat (words text)
 
--- the levels that these are, where each of them is one
+-- the levels that these are, if each of them is one
 abbrev pub levels_in : List ℕ → Option (List Bool)
 levels_in text = each_of level_of (characters_in text)
 
@@ -19,6 +19,6 @@ levels_in text = each_of level_of (characters_in text)
 abbrev pub pin_number : List ℕ → Option ℕ
 pin_number word = option_and_then (λ n. if nat_lt n (2 ^ 8) then Some n else None) (number word)
 
--- the numbers that the words are, where each of them is one
+-- the numbers that the words are, if each of them is one
 abbrev pub pins_in : List ℕ → Option (List ℕ)
 pins_in text = each_of pin_number (words text)

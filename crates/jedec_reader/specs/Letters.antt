@@ -1,9 +1,9 @@
--- Where a field's letter stands, and what makes a vector (JESD3-C, the fields of each letter; which numbers and
+-- The place of a field's letter, and what makes a vector (JESD3-C, the fields of each letter; which numbers and
 -- characters they hold is this project's profile).
 use Rattle.std.specs.Prelude.{ℕ, ◌+◌, ◌-◌, ◌==◌, ◌&&◌, not, Bool, List, length}
 use Rattle.jedec_reader.specs.Prelude.{list_all, trimmed, is_test_char}
 
--- where the letter stands in a piece that begins at the offset
+-- the place of the letter in a piece that begins at the offset
 abbrev pub letter_at : (at : ℕ) → List ℕ → ℕ
 letter_at at piece = at + (length piece - length (trimmed piece))
 

@@ -15,7 +15,7 @@ level_in first levels n = if nat_le first n then slice_get levels (n - first) el
 abbrev pub HasPut : (first : ℕ) → List Bool → (old new : List (Option Bool)) → Type 0
 HasPut first levels old new = (n : ℕ) → get_or new n None ≡ option_or (level_in first levels n) (get_or old n None)
 
--- the level that is said; where none is, it is of no account, and each fuse of the table must have one
+-- the level that is said; if none is, it is of no account, and each fuse of the table must have one
 abbrev pub default_in : List (Option Bool) → Option Bool → Read Bool
 default_in table (Some level) = Ok level
 default_in table None = none_unlisted (position is_none table)

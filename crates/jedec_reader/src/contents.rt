@@ -52,15 +52,15 @@ fn listed<D: Device>(said: &Said, fields: &[Field]) -> Result<u16, JedecFault>
     }
 }
 
-/// The number of fuses is one of the device's, the number of pins is the device's, and no level
-/// stands past the fuses.
+/// The number of fuses is one of the device's, the number of pins is the device's, and no level is
+/// past the fuses.
 fn is_size<D: Device>(pins: Option<u16>, fields: &[Field], count: u16) -> bool
     ensures { result ≡ size_fits D.table pins fields.now count }
 {
     (count == D::FUSES || count == D::SHORT) && is_pin_count::<D>(pins) && all_end_by(fields, count)
 }
 
-/// The number of pins, where it is said, is the device's.
+/// The number of pins, if it is said, is the device's.
 fn is_pin_count<D: Device>(pins: Option<u16>) -> bool
     ensures { result ≡ is_pin_count D.table pins }
 {

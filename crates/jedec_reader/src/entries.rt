@@ -8,8 +8,8 @@ ghost use Rattle.jedec_reader.specs.FieldTexts.{characters_in, levels_in, pin_nu
 use crate::words::{first_word, is_blank, level_of, short_number};
 use std::alloc::{AllocError, Global};
 
-/// The levels that all bytes of the words are, a byte for each; `None` where one of them is no
-/// level. Takes memory once.
+/// The levels that all bytes of the words are, a byte for each; `None` if one of them is no level.
+/// Takes memory once.
 #[tactic(auto, using(std::proofs::lemmas::List::drop_more, crate::proofs::EntryLemmas::each_next, crate::proofs::EntryLemmas::each_none,))]
 pub fn levels(alloc: Global, text: &[u8]) -> Result<Option<Vec<bool>>, AllocError>
     ensures { IfOk result (λ found. option_map (λ v. v.items) found ≡ levels_in text.now) }
@@ -40,7 +40,7 @@ pub fn characters(alloc: Global, text: &[u8]) -> Result<Vec<u8>, AllocError>
     Ok(characters)
 }
 
-/// The numbers that the words are, each below 256; `None` where one of them is none.
+/// The numbers that the words are, each below 256; `None` if one of them isn't one.
 #[tactic(auto, using(crate::proofs::EntryLemmas::each_next, crate::proofs::EntryLemmas::each_none))]
 pub fn pin_numbers(alloc: Global, text: &[u8]) -> Result<Option<Vec<u8>>, AllocError>
     ensures { IfOk result (λ found. option_map (λ v. v.items) found ≡ pins_in text.now) }

@@ -16,7 +16,7 @@ use pld_base::ListOf;
 use pld_device::Device;
 use std::alloc::{AllocError, Global};
 
-/// What the field of a letter and the text behind it says; `None` where it is no field.
+/// What the field of a letter and the text after it says; `None` if it is no field.
 #[tactic(auto, unfolding(jedec_file::specs::Fields::field_of))]
 pub fn field_of<D: Device>(
     alloc: Global,
@@ -56,7 +56,7 @@ fn counts(text: &[u8]) -> Option<Field>
     }
 }
 
-/// `F`: the level of fuses that stand in no list.
+/// `F`: the level of fuses that are in no list.
 fn default_fuse(text: &[u8]) -> Option<Field>
     ensures { result ≡ option_map field.DefaultFuse (fields.one_level (fields.words text.now)) }
 {

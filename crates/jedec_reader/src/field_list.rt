@@ -27,7 +27,7 @@ pub fn fields<D: Device>(alloc: Global, bytes: &[u8]) -> Result<Vec<Field>, Jede
     behind_design::<D>(alloc, at, text)
 }
 
-/// The fields behind the design text, which begins at the offset and has its asterisk.
+/// The fields after the design text, which begins at the offset and has its asterisk.
 #[tactic(auto, unfolding(jedec_file::specs::FieldLists::behind_design))]
 fn behind_design<D: Device>(alloc: Global, at: usize, text: &[u8]) -> Result<Vec<Field>, JedecFault>
     requires { at + length text.now < 2 ^ 32 }
@@ -57,7 +57,7 @@ fn fields_from<D: Device>(alloc: Global, at: usize, text: &[u8]) -> Result<Vec<F
     Ok(fields)
 }
 
-/// How many bytes stand before the first asterisk.
+/// How many bytes precede the first asterisk.
 fn piece_len(text: &[u8]) -> Option<usize>
     ensures pieces { MatchOption result
         (lists.pieces text.now ≡ text.now ∷ [])
@@ -78,7 +78,7 @@ fn field_of_piece<D: Device>(alloc: Global, at: usize, piece: &[u8]) -> Result<F
     field_at::<D>(alloc, at + (piece.len() - text.len()), text)
 }
 
-/// The field whose letter stands at the offset.
+/// The field whose letter is at the offset.
 #[tactic(auto, unfolding(jedec_file::specs::FieldLists::field_at))]
 fn field_at<D: Device>(alloc: Global, at: usize, text: &[u8]) -> Result<Field, JedecFault>
     ensures { Gives (λ field. field) result (lists.field_at D.table at text.now) }
@@ -95,7 +95,7 @@ fn field_at<D: Device>(alloc: Global, at: usize, text: &[u8]) -> Result<Field, J
     }
 }
 
-/// Behind the last asterisk, where the piece begins at the offset, stand only blanks.
+/// After the last asterisk, if the piece begins at the offset, there are only blanks.
 fn ends_blank(at: usize, piece: &[u8]) -> Result<(), JedecFault>
     requires { at + length piece.now < 2 ^ 32 }
     ensures { Gives (λ done. []) result

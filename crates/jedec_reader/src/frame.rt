@@ -15,7 +15,7 @@ const ETX: u8 = 3;
 
 /// The text between the two bytes, and the place of its first byte.
 ///
-/// The first end byte behind the first start byte counts. Takes no memory.
+/// The first end byte after the first start byte counts. Takes no memory.
 #[tactic(auto, unfolding(jedec_file::specs::Frame::frame_of))]
 pub fn frame_of(bytes: &[u8]) -> Result<(usize, &[u8]), JedecFault>
     ensures gives { Gives (λ x. framed x.0 x.1.now) result (frame.frame_of bytes.now) }
@@ -75,7 +75,7 @@ fn check_sum(read: u16, bytes: &[u8]) -> Result<u16, JedecFault>
     Err(JedecFault::FileSum { read, found })
 }
 
-/// Where the byte stands first.
+/// The place of the byte first.
 pub fn place_of(bytes: &[u8], byte: u8) -> Option<usize>
     ensures place { result ≡ position (λ other. other == byte) bytes.now }
     ensures within { IfSome result (λ place. place < length bytes.now) }

@@ -7,8 +7,8 @@ ghost use Rattle.jedec_reader.specs.LevelTable.{default_in, filled};
 use jedec_file::JedecFault;
 use std::alloc::{AllocError, Global};
 
-/// The level of fuses that stand in no list. Where none is said each fuse of the table must stand
-/// in one, and it is of no account.
+/// The level of fuses that are in no list. If none is said each fuse of the table must be in one,
+/// and it is of no account.
 pub fn default_level(said: Option<bool>, table: &[Option<bool>]) -> Result<bool, JedecFault>
     requires { length table.now < 2 ^ 16 }
     ensures { Gives (λ level. level) result (default_in table.now said) }

@@ -1,4 +1,4 @@
-//! The level of each fuse that stands in a list of levels.
+//! The level of each fuse that is in a list of levels.
 
 ghost use Rattle.std.specs.Prelude.{◌≡◌, ◌+◌, ◌≤◌, length, IfOk, All};
 ghost use Rattle.jedec_reader.specs.FieldFits.{FieldFits};
@@ -8,8 +8,7 @@ use jedec_file::Field;
 use pld_device::Device;
 use std::alloc::{AllocError, Global};
 
-/// What the fields say of each fuse of the device: the last list counts, None where it stands in
-/// none.
+/// What the fields say of each fuse of the device: the last list counts, None its place in none.
 pub fn level_table<D: Device>(
     alloc: Global,
     fields: &[Field],

@@ -14,7 +14,7 @@ const RISING: [u8; 24] = [
 ];
 
 /// Where vectors have the character of each pin, that of pin p at p - 1: by the last order of pins,
-/// and in rising order where there is none.
+/// and in rising order if there isn't one.
 pub fn places<D: Device>(fields: &[Field]) -> [u8; 24]
     requires { All (FieldFits D.table) fields.now }
     ensures { ArePlaces (order_of D.table fields.now) result }
@@ -40,7 +40,7 @@ fn places_in(order: &[u8]) -> [u8; 24]
     places
 }
 
-/// The first place of the pin, 0 where it has none.
+/// The first place of the pin, 0 if it has none.
 fn place_of(order: &[u8], pin: u8) -> u8
     requires { length order.now ≤ 24 }
     ensures { result ≡ place_of order.now pin }

@@ -11,13 +11,13 @@ use jedec_file::JedecFault;
 use pld_device::Device;
 use std::alloc::Global;
 
-/// What the bytes of a fuse file say of a device, or why they are none (JESD3-C; which fields are
+/// What the bytes of a fuse file say of a device, or why they aren't one (JESD3-C; which fields are
 /// refused, and in which order, is this project's rule).
 ///
 /// The fault is the first one in this order: no start byte, no end byte with a sum, the sum of the
 /// bytes, the fields from the first to the last, the sizes, a fuse without a level, the fuse sum.
-/// Bytes before the start byte and behind the sum count for nothing. Takes memory for the fields
-/// and for what they say; `OutOfMemory` may come in place of any other answer.
+/// Bytes before the start byte and after the sum count for nothing. Takes memory for the fields and
+/// for what they say; `OutOfMemory` may replace any other answer.
 pub fn read<D: Device>(alloc: Global, bytes: &[u8]) -> Result<FuseFile, JedecFault>
     requires { length bytes.now < 2 ^ 32 }
     ensures file { IfOk result (λ file. file_of D.table bytes.now ≡ Ok (contents D.table file)) }

@@ -2,7 +2,7 @@
 
 use jedec_file::Field;
 
-/// What the last field of each kind says, None where there is none.
+/// What the last field of each kind says, None if there isn't one.
 #[derive(Clone, Copy)]
 pub struct Said {
     pub fuse_count: Option<u16>,
@@ -35,7 +35,7 @@ impl Said {
         said
     }
 
-    /// The same with one more field behind.
+    /// The same with one more field after it.
     fn then_by(self, field: &Field) -> Said
         ensures fuse_count { result.fuse_count ≡ option_or (says.fuse_count field.now) self.fuse_count }
         ensures pin_count { result.pin_count ≡ option_or (says.pin_count field.now) self.pin_count }

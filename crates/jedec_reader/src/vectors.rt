@@ -12,7 +12,7 @@ use pld_base::Vector;
 use pld_device::Device;
 use std::alloc::{AllocError, Global};
 
-/// The test vectors of the fields: of each number the last one, in rising order of the numbers.
+/// The test vectors of the fields: the last one of each number, in rising order of the numbers.
 pub fn vectors<D: Device>(alloc: Global, fields: &[Field]) -> Result<Vec<Vector>, AllocError>
     requires { All (FieldFits D.table) fields.now }
     ensures chars { IfOk result (λ vectors.
@@ -24,7 +24,7 @@ pub fn vectors<D: Device>(alloc: Global, fields: &[Field]) -> Result<Vec<Vector>
     present(alloc, &table)
 }
 
-/// The vectors by their numbers, None where a number has none.
+/// The vectors by their numbers, None if a number has none.
 fn vector_table<D: Device>(
     alloc: Global,
     fields: &[Field],
@@ -63,7 +63,7 @@ fn put_vector(
     Ok(())
 }
 
-/// The vector whose characters stand at their pins.
+/// The vector whose characters are at their pins.
 fn at_pins(places: &[u8; 24], chars: &[u8]) -> Vector
     requires few { length chars.now ≤ 24 }
     requires within { AreWithin places.now (length chars.now) }

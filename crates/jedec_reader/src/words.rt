@@ -28,7 +28,7 @@ pub fn trimmed(text: &[u8]) -> &[u8]
     text.split_at(text.len()).1
 }
 
-/// How many bytes stand before the first blank.
+/// How many bytes precede the first blank.
 fn word_len(text: &[u8]) -> usize
     ensures { result ≡ position_or_len fields.is_blank text.now }
 {
@@ -40,7 +40,7 @@ fn word_len(text: &[u8]) -> usize
     text.len()
 }
 
-/// The first word, and the text behind it.
+/// The first word, and the text after it.
 pub fn first_word(text: &[u8]) -> Option<(&[u8], &[u8])>
     ensures words { MatchOption result
         (fields.words text.now ≡ [])
@@ -54,7 +54,7 @@ pub fn first_word(text: &[u8]) -> Option<(&[u8], &[u8])>
     Some(text.split_at(word_len(text)))
 }
 
-/// The word, where there is just one.
+/// The word, if there is just one.
 pub fn only_word(text: &[u8]) -> Option<&[u8]>
     ensures { option_map (λ word. word.now) result ≡ fields.only (fields.words text.now) }
 {
@@ -96,7 +96,7 @@ pub fn short_number(word: &[u8]) -> Option<u16>
     Some(number as u16)
 }
 
-/// The only word's number, where it is below 65,536.
+/// The only word's number, if it is below 65,536.
 pub fn only_number(text: &[u8]) -> Option<u16>
     ensures { result ≡ option_and_then fields.short_number (fields.only (fields.words text.now)) }
 {

@@ -16,7 +16,7 @@ past_append (n ∷ ns) ms =
     past_cons n (ns ++ ms) ∙ ap (max (suc n)) (past_append ns ms)
     ∙ sym (max_assoc (suc n) (past ns) (past ms)) ∙ ap (λ (k : ℕ). max k (past ms)) (sym (past_cons n ns))
 
--- an entry of a list of fixed fuses, and those behind it
+-- an entry of a list of fixed fuses, and those after it
 pub fixed_more : (bits : List FuseBit) (i : ℕ)
     → max (past (fuses_named (slice_get bits i ∷ []))) (past (map (λ (bit : FuseBit). bit.fuse) (drop (suc i) bits)))
     ≡ past (map (λ (bit : FuseBit). bit.fuse) (drop i bits))
@@ -26,7 +26,7 @@ fixed_more (bit ∷ bits) zero =
     ap (λ (k : ℕ). max k (past fixed)) (past_cons bit.fuse [] ∙ max-zero (suc bit.fuse)) ∙ sym (past_cons bit.fuse fixed)
 fixed_more (bit ∷ bits) (suc i) = fixed_more bits i
 
--- a switch of a row, and those behind it
+-- a switch of a row, and those after it
 pub switch_more : (ns : List ℕ) (i n : ℕ) → slice_get ns i ≡ Some n → max (suc n) (past (drop (suc i) ns)) ≡ past (drop i ns)
 switch_more [] i n found = absurd cc
 switch_more (m ∷ ns) zero n found =
@@ -39,7 +39,7 @@ no_switch [] i found = rw (drop-nil (suc i), drop-nil i) refl
 no_switch (m ∷ ns) zero found = absurd cc
 no_switch (m ∷ ns) (suc i) found = no_switch ns i found
 
--- what was passed, one entry, and those behind it
+-- what was passed, one entry, and those after it
 pub goes_on : (end more next rest all : ℕ) → max end rest ≡ all → max more next ≡ rest → max (max end more) next ≡ all
 goes_on end more next rest all is step = max_assoc end more next ∙ ap (max end) step ∙ is
 

@@ -1,5 +1,5 @@
--- What the field of each line of the canonical file says. Letters stand as bytes: C 67, F 70, G 71, L 76, P 80,
--- Q 81, V 86, X 88.
+-- What the field of each line of the canonical file says. Letters are as bytes: C 67, F 70, G 71, L 76, P 80, Q
+-- 81, V 86, X 88.
 use Rattle.std.proofs.Common.{◌≡◌, ℕ, ◌+◌, ◌^◌, ◌<◌, ◌≤◌, Bool, true, false, List, [], ◌∷◌, ◌++◌, length, map, Some, refl, arith, append-nil, ◌==◌}
 use Rattle.jedec_writer.proofs.Common.{list_all, decimal, le-leb, eq-eqb, ne_eqb, Table, space, four_digits, four_hex, level_char, is_test_char, each_of, level_of, field_of}
 use Rattle.jedec_file.specs.declared.field.Field.TheVariants as field

@@ -26,7 +26,7 @@ last_of_first says fs gs none = last_of-append says fs gs ∙ ap (λ o. option_o
 pub last_of_second : {A : Type 0} (says : Field → Option A) (fs gs : List Field) → last_of says fs ≡ None → last_of says (fs ++ gs) ≡ last_of says gs
 last_of_second says fs gs none = last_of-append says fs gs ∙ ap (λ o. option_or (last_of says gs) o) none ∙ or_none (last_of says gs)
 
--- ---- fields of levels and of vectors, where nothing is said of them
+-- ---- fields of levels and of vectors, if nothing is said of them
 
 abbrev PassesLevels : {A : Type 0} → (Field → Option A) → Type 0
 PassesLevels says = (first : ℕ) (levels : List Bool) → says (field.Levels first levels) ≡ None
@@ -51,7 +51,7 @@ pub vectors_passed : {A : Type 0} (says : Field → Option A) → PassesVectors 
 vectors_passed says passes n [] = refl
 vectors_passed says passes n (vector ∷ vectors) = rw (vectors_passed says passes (suc n) vectors, passes n vector) refl
 
--- ---- what stands before the levels
+-- ---- what precedes the levels
 
 abbrev pub head_fields : Table → List (List ℕ) → List Field
 head_fields t vectors =

@@ -1,4 +1,4 @@
--- No level that the canonical file says stands past the fuses.
+-- No level that the canonical file says is past the fuses.
 use Rattle.std.proofs.Common.{◌≡◌, ℕ, zero, suc, ◌+◌, ◌*◌, ◌≤◌, Bool, true, List, [], ◌∷◌, ◌++◌, length, refl, arith, inl, inr, slice_range}
 use Rattle.jedec_writer.proofs.Common.{list_all, list_any, cases_Bool, le-leb, Table, fuse_sum_of, control_levels, past, control_fuses, ends_by}
 use Rattle.jedec_file.specs.declared.field.Field.TheVariants as field

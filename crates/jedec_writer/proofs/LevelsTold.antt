@@ -7,13 +7,13 @@ use Rattle.jedec_writer.proofs.LinesRead.{levels_fields, row_fields, vector_fiel
 use Rattle.jedec_writer.proofs.TextRead.{written_fields}
 use Rattle.jedec_writer.proofs.LastSaid.{last_of_first, last_of_second, vectors_passed, head_fields}
 
--- the fields say nothing of fuses but these, and of these the level where it isn't 0
+-- the fields say nothing of fuses but these, and of these the level at which it isn't 0
 pub record Tells (fuses : List Bool) (low high : ℕ) (fields : List Field) : Type 0 where
   pub below : (n : ℕ) → n < low → last_of (level_at n) fields ≡ None
   pub above : (n : ℕ) → high ≤ n → last_of (level_at n) fields ≡ None
   pub within : (n : ℕ) → low ≤ n → n < high → unwrap_or (last_of (level_at n) fields) false ≡ get_or fuses n false
 
--- fields without levels, and one list behind another
+-- fields without levels, and one list after another
 tells_none : {fuses : List Bool} (at : ℕ) (fields : List Field) → ((n : ℕ) → last_of (level_at n) fields ≡ None) → Tells fuses at at fields
 tells_none at fields none = record {
   below = λ n _. none n;

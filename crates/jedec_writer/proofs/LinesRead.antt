@@ -70,7 +70,7 @@ levels_lines t first levels small fits = elim (cases_Bool (list_any (λ level. l
   | inr none ↦ rw none (says_nothing t)
 ]
 
--- a part of the fuses ends where they end
+-- a part of the fuses ends at their end
 pub part_ends : (fuses : List Bool) (from to : ℕ) → from ≤ length fuses → from + length (slice_range fuses from to) ≤ length fuses
 part_ends fuses from to within = omega (arith, length-take (to - from) (drop from fuses), length-drop from fuses)
 

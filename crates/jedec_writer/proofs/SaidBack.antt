@@ -1,4 +1,4 @@
--- Parts of a fuse file's text that are read as fields, one behind another.
+-- Parts of a fuse file's text that are read as fields, one after another.
 use Rattle.std.proofs.Common.{◌≡◌, ℕ, ◌+◌, Bool, true, false, not, ◌&&◌, List, [], ◌∷◌, ◌++◌, length, Some, Ok, refl, sym, ap, ◌∙◌, subst, arith, append-nil, append_assoc, ◌==◌, codes}
 use Rattle.jedec_writer.proofs.Common.{list_all, onto_first, All, and_parts, not-true, nat_tests, slice_split_at, All-nil, All-cons, Field, Table, line, is_blank, field_of, pieces, field_at, no_field, fields_from, behind_design, fields_of}
 use Rattle.jedec_writer.proofs.Words.{is_plain, both_pass}
@@ -7,7 +7,7 @@ use Rattle.jedec_writer.proofs.Words.{is_plain, both_pass}
 abbrev pub is_inner : ℕ → Bool
 is_inner b = not (b == 3)
 
--- behind the end of a line (13, 10), wherever it stands, this text is read as these fields
+-- after the end of a line (13, 10), wherever it is, this text is read as these fields
 abbrev pub Gives : Table → List ℕ → List Field → Type 0
 Gives t text fields = (at : ℕ) → fields_from t at (pieces (13 ∷ 10 ∷ text)) ≡ Ok fields
 
@@ -16,7 +16,7 @@ pub record Says (t : Table) (lines : List ℕ) (fields : List Field) : Type 0 wh
   pub inner : list_all is_inner lines ≡ true
   pub before : (rest : List ℕ) (more : List Field) → Gives t rest more → Gives t (lines ++ rest) (fields ++ more)
 
--- nothing, and one part behind another
+-- nothing, and one part after another
 pub says_nothing : (t : Table) → Says t [] []
 says_nothing t = record { inner = refl; before = λ rest more gives. gives }
 
@@ -109,7 +109,7 @@ all_read t lines fields says at =
     let said : fields ++ [] ≡ fields = append-nil fields in
     ap (λ (bs : List ℕ). fields_from t at (pieces (13 ∷ 10 ∷ bs))) (sym text) ∙ read ∙ ap (λ (fs : List Field). Ok fs) said
 
--- the design text and its line's end, and the lines behind them
+-- the design text and its line's end, and the lines after them
 pub fields_read : (t : Table) (at : ℕ) (design lines : List ℕ) (fields : List Field) → list_all is_plain design ≡ true → Says t lines fields
     → fields_of t (record { at = at; text = design ++ 42 ∷ 13 ∷ 10 ∷ lines }) ≡ Ok fields
 unfolding behind_design

@@ -22,7 +22,7 @@ design_text t name = codes "ABEL-HDL " ++ name ++ space ∷ device_text t.name
 pub design_is_plain : (t : Table) (name : List ℕ) → IsPlainName name → list_all is_plain (design_text t name) ≡ true
 design_is_plain t name plain = both_pass is_plain name (space ∷ device_text t.name) plain (device_text_is_plain t.name)
 
--- ---- the lines behind it
+-- ---- the lines after it
 
 abbrev pub written_lines : Table → List Bool → List (List ℕ) → List ℕ
 written_lines t fuses vectors =

@@ -2,7 +2,7 @@
 use Rattle.std.proofs.Common.{◌≡◌, ℕ, suc, ◌+◌, ◌<◌, List, ◌∷◌, ◌++◌, length, drop, get_or, sym, ap, ◌∙◌, add-one, append_assoc, codes}
 use Rattle.jedec_writer.proofs.Common.{drop_more, Vector, Table, four_digits, line, space, all_chars, chars_of, vector_lines}
 
--- the line of a vector and those of the vectors behind it, which begin with its own
+-- the line of a vector and those of the vectors after it, which begin with its own
 vectors_from : (t : Table) (vectors : List Vector) (i n : ℕ) (d : Vector) → i < length vectors
     → vector_lines n (all_chars t (drop i vectors))
     ≡ line (codes "V" ++ four_digits n ++ space ∷ chars_of t (get_or vectors i d)) ++ vector_lines (suc n) (all_chars t (drop (i + 1) vectors))

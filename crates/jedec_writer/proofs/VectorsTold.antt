@@ -39,7 +39,7 @@ in_order n (suc count) (vector ∷ vectors) few =
     ap (λ o. cons_option o (filter_map (λ k. last_of (vector_at k) (vector_fields n (vector ∷ vectors))) (range_with_len (n + 1) count))) (first_number n vector vectors)
     ∙ ap (λ (vs : List (List ℕ)). vector ∷ vs) rest
 
--- ---- pins: each stands at its own place
+-- ---- pins: each is at its own place
 
 place_in_range : (from count k : ℕ) → from ≤ k → k < from + count → position_or_len (λ other. other == k) (range_with_len from count) ≡ k - from
 place_in_range from zero k low high = absurd (omega arith)

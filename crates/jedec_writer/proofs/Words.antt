@@ -1,9 +1,9 @@
--- The words of a field's text, where a blank parts them.
+-- The words of a field's text, if a blank parts them.
 use Rattle.std.proofs.Common.{◌≡◌, ℕ, Bool, true, false, not, ◌||◌, List, [], ◌∷◌, ◌++◌, refl, ◌∙◌, arith, ◌==◌, nat_lt}
 use Rattle.jedec_writer.proofs.Common.{list_all, slice_split, All, and_parts, and_from, nat_tests, slice_split_none, slice_split_at, All-nil, All-cons, ETX, space, is_blank, has_bytes, words}
 use Rattle.std.proofs.lemmas.List.Folds.{list_all-append}
 
--- a byte that parts no words, ends no field and ends no text: all of these come before the plus sign
+-- a byte that parts no words, ends no field and ends no text: all of these precede the plus sign
 abbrev pub is_word_byte : ℕ → Bool
 is_word_byte b = nat_lt 42 b
 

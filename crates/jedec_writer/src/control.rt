@@ -1,4 +1,4 @@
-//! The line of the control fuses, which stand past the array.
+//! The line of the control fuses, which are past the array.
 
 ghost use Rattle.std.specs.Prelude.{◌≡◌, ◌≤◌, ◌∷◌, [], ◌++◌, length, map, OnOk};
 ghost use Rattle.jedec_file.specs.CanonicalFile.{control_line};
@@ -91,7 +91,7 @@ fn control_levels<D: Device>(levels: &[bool]) -> &[bool]
     }
 }
 
-/// The line of the control fuses, where one of these levels is 1.
+/// The line of the control fuses, if one of these levels is 1.
 pub fn put_control<D: Device>(out: &mut Vec<u8>, levels: &[bool]) -> Result<(), OutOfMemory>
     requires { length levels.now ≡ D.table.fuses }
     ensures { OnOk result (out.new.items ≡ out.old.items ++ control_line D.table levels.now) }

@@ -34,7 +34,7 @@ fn is_any_opened(levels: &[bool]) -> bool
     levels.iter().any(|level| *level)
 }
 
-/// The line of the fuses from number `first` on, where some fuse is opened.
+/// The line of the fuses from number `first` on, if some fuse is opened.
 pub fn put_levels_line(out: &mut Vec<u8>, first: u16, levels: &[bool]) -> Result<(), OutOfMemory>
     ensures { OnOk result (out.new.items ≡ out.old.items ++ levels_line first levels.now) }
 {
@@ -48,7 +48,7 @@ pub fn put_levels_line(out: &mut Vec<u8>, first: u16, levels: &[bool]) -> Result
     Ok(())
 }
 
-/// The line of a number behind its letters.
+/// The line of a number after its letters.
 pub fn put_counted(
     alloc: Global,
     out: &mut Vec<u8>,

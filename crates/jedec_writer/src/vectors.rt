@@ -12,7 +12,7 @@ use pld_base::{OutOfMemory, Vector, put_four_digits};
 use pld_device::Device;
 use std::alloc::Global;
 
-/// The number of vectors, where there are any.
+/// The number of vectors, if there are any.
 pub fn put_vector_count<D: Device>(
     alloc: Global,
     out: &mut Vec<u8>,
@@ -28,7 +28,7 @@ pub fn put_vector_count<D: Device>(
     Ok(())
 }
 
-/// The level of pins that no vector drives, where there are vectors.
+/// The level of pins that no vector drives, if there are vectors.
 pub fn put_default_test<D: Device>(out: &mut Vec<u8>, vectors: &[Vector]) -> Result<(), OutOfMemory>
     ensures { OnOk result (out.new.items
         ≡ out.old.items ++ line_with (all_chars D.table vectors.now) (codes "X0")) }

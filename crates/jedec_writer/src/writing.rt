@@ -32,7 +32,7 @@ fn put_device<D: Device>(out: &mut Vec<u8>) -> Result<(), OutOfMemory>
     put_end(out)
 }
 
-/// The line with the names of the module and of the device, behind the start byte.
+/// The line with the names of the module and of the device, after the start byte.
 fn put_header<D: Device>(out: &mut Vec<u8>, name: &[u8]) -> Result<(), OutOfMemory>
     ensures { OnOk result (out.new.items ≡ out.old.items
         ++ line (STX ∷ codes "ABEL-HDL " ++ name.now ++ space ∷ device_text D.table.name)) }
@@ -94,7 +94,7 @@ fn written<D: Device>(
 ///
 /// There are as many fuses as the device has, and those past its array and its last control fuse are 0,
 /// since no line names them. Of a vector the characters of pins 1 to `PINS` are written; vectors are
-/// numbered from 1. The name has no `*` and no end byte (3). Answers want of memory alone.
+/// numbered from 1. The name has no `*` and no end byte (3). Answers only lack of memory.
 pub fn write<D: Device>(
     alloc: Global,
     name: &[u8],

@@ -69,7 +69,7 @@ shared_logic d at cs =
       allows_next = λ _ c q. next_allows allows d.context at cs (signal_on d.context c) q;
     }
 
--- each name's value with any as 0; 2 where it is assigned nothing
+-- each name's value with any as 0; 2 if it is assigned nothing
 abbrev pub any_0_values : Context → Levels → List (Contribution Bool) → List ℕ
 any_0_values d at cs =
     map (λ s. if (name_at d s).assigned then packed (value_with_any_0 (function_of (truth_at d at) cs s) ∷ []) else 2)
@@ -133,7 +133,7 @@ all_trees d = trees_with d.context (given_formulas d)
 abbrev pub read_from : Context → (named : Leaf → Bool) → List ℕ
 read_from d named = filter (λ r. is_one_of named (leaf_of d r)) (range_with_len 0 (length d.names))
 
--- for each name those that its formulas name, none where it doesn't settle
+-- for each name those that its formulas name, none if it doesn't settle
 abbrev pub reads_with : Context → List (Contribution Formula) → List (List ℕ)
 reads_with d cs =
     map (λ s. if settles (name_at d s) then read_from d (signal_names d cs s) else []) (range_with_len 0 (length d.names))

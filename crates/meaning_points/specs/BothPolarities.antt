@@ -51,13 +51,13 @@ source =
 abbrev d : Design
 d = design_of gal22v10 source
 
--- 1 where a is, and where the complement is 0; either where b alone frees the complement
+-- 1 if a is, and if the complement is 0; either where b alone frees the complement
 x_has : at_each (points_of (2 ∷ 3 ∷ 4 ∷ []) [] []) (may_be d "x")
     ≡ ((1 ∷ []) ∷ (1 ∷ []) ∷ (0 ∷ 1 ∷ []) ∷ (0 ∷ []) ∷ (1 ∷ []) ∷ (1 ∷ []) ∷ (1 ∷ []) ∷ (1 ∷ []) ∷ [])
 unfolding digits
 x_has = refl
 
--- beside the don't-care table stands an equation: nothing is free where no row matches
+-- beside the don't-care table is an equation: nothing is free if no row matches
 y_has : at_each (points_of (2 ∷ 3 ∷ []) [] []) (may_be d "y") ≡ ((1 ∷ []) ∷ (0 ∷ []) ∷ (1 ∷ []) ∷ (1 ∷ []) ∷ [])
 unfolding digits
 y_has = refl
@@ -67,7 +67,7 @@ r_next : at_each (points_of (2 ∷ 3 ∷ []) [] []) (next_may_be d "r") ≡ ((1 
 unfolding digits
 r_next = refl
 
--- a state with both, where it is the present one
+-- a state with both, if it is the present one
 w_in_0 : at_each (points_of (2 ∷ 3 ∷ []) [] []) (may_be d "w") ≡ ((1 ∷ []) ∷ (0 ∷ []) ∷ (1 ∷ []) ∷ (1 ∷ []) ∷ [])
 unfolding digits
 w_in_0 = refl

@@ -63,7 +63,7 @@ characters : design_vectors d
 unfolding digits
 characters = refl
 
--- Z reads the level of pin 18 also where that pin is released
+-- Z reads the level of pin 18 also if that pin is released
 z_reads : at_each (points_of (18 ∷ []) [] []) (may_be d "Z") ≡ ((0 ∷ []) ∷ (1 ∷ []) ∷ [])
 unfolding digits
 z_reads = refl

@@ -50,7 +50,7 @@ q0_from_0 : at_each (points_of (2 ∷ 3 ∷ []) [] []) (next_may_be d "q0") ≡ 
 unfolding digits
 q0_from_0 = refl
 
--- the statement behind WITH counts where b is taken
+-- the statement after WITH counts where b is taken
 y_in_0 : at_each (points_of (2 ∷ 3 ∷ []) [] []) (may_be d "y") ≡ ((0 ∷ []) ∷ (0 ∷ []) ∷ (0 ∷ []) ∷ (1 ∷ []) ∷ [])
 unfolding digits
 y_in_0 = refl
@@ -65,7 +65,7 @@ q0_from_1 : at_each (points_of (2 ∷ 3 ∷ []) (1 ∷ []) []) (next_may_be d "q
 unfolding digits
 q0_from_1 = refl
 
--- b, where a is taken
+-- b, if a is taken
 y_in_1 : at_each (points_of (2 ∷ 3 ∷ []) (1 ∷ []) []) (may_be d "y") ≡ ((0 ∷ []) ∷ (0 ∷ []) ∷ (0 ∷ []) ∷ (1 ∷ []) ∷ [])
 unfolding digits
 y_in_1 = refl

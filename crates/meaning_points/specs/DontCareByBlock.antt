@@ -45,17 +45,17 @@ source =
 abbrev d : Design
 d = design_of gal22v10 source
 
--- one of the two tables that assign y is not don't-care: 0 where no row matches
+-- one of the two tables that assign y is not don't-care: 0 if no row matches
 y_has : at_each (points_of (2 ∷ 3 ∷ []) [] []) (may_be d "y") ≡ ((0 ∷ []) ∷ (1 ∷ []) ∷ (0 ∷ []) ∷ (1 ∷ []) ∷ [])
 unfolding digits
 y_has = refl
 
--- the one table that assigns z is: either where its row does not match
+-- the one table that assigns z is: either if its row does not match
 z_has : at_each (points_of (2 ∷ 3 ∷ []) [] []) (may_be d "z") ≡ ((0 ∷ 1 ∷ []) ∷ (0 ∷ 1 ∷ []) ∷ (0 ∷ 1 ∷ []) ∷ (1 ∷ []) ∷ [])
 unfolding digits
 z_has = refl
 
--- an equation assigns x too: 0 where neither gives 1
+-- an equation assigns x too: 0 if neither gives 1
 x_has : at_each (points_of (2 ∷ 3 ∷ []) [] []) (may_be d "x") ≡ ((0 ∷ []) ∷ (0 ∷ []) ∷ (1 ∷ []) ∷ (1 ∷ []) ∷ [])
 unfolding digits
 x_has = refl

@@ -37,7 +37,7 @@ y_has : at_each (points_of (2 ∷ 3 ∷ []) [] []) (may_be d "y") ≡ ((0 ∷ []
 unfolding digits
 y_has = refl
 
--- said of the complement: z is 0 where a holds, either where b alone does, else 1
+-- said of the complement: z is 0 if a holds, either where b alone does, else 1
 z_has : at_each (points_of (2 ∷ 3 ∷ []) [] []) (may_be d "z") ≡ ((1 ∷ []) ∷ (0 ∷ 1 ∷ []) ∷ (0 ∷ []) ∷ (0 ∷ []) ∷ [])
 unfolding digits
 z_has = refl

@@ -1,4 +1,4 @@
--- The equations of the last five of ten registers, as trees (the source stands at the head of TenRegisters).
+-- The equations of the last five of ten registers, as trees (the source is at the head of TenRegisters).
 use Rattle.std.specs.Prelude.{List, [], ◌∷◌}
 use Rattle.meaning_points.specs.Prelude.{Statement}
 use Rattle.meaning_points.specs.Constructs.{clocked}

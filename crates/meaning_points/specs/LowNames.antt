@@ -40,7 +40,7 @@ en_pin : at_each (points_of (2 ∷ 3 ∷ []) [] []) (pin_may_be d "en") ≡ ((0 
 unfolding digits
 en_pin = refl
 
--- sel is 0 where a holds and pin 18 is low: pins 4 and 18 count up
+-- sel is 0 if a holds and pin 18 is low: pins 4 and 18 count up
 sel_has : at_each (points_of (4 ∷ 18 ∷ []) [] []) (may_be d "sel") ≡ ((1 ∷ []) ∷ (1 ∷ []) ∷ (0 ∷ []) ∷ (1 ∷ []) ∷ [])
 unfolding digits
 sel_has = refl

@@ -35,12 +35,12 @@ source =
 abbrev d : Design
 d = design_of gal22v10 source
 
--- y is b where a holds, and c where it does not; a, b, c count up
+-- y is b if a holds, and c if it does not; a, b, c count up
 y_has : at_each (points_of (2 ∷ 3 ∷ 4 ∷ []) [] []) (may_be d "y") ≡ ((0 ∷ []) ∷ (1 ∷ []) ∷ (0 ∷ []) ∷ (1 ∷ []) ∷ (0 ∷ []) ∷ (0 ∷ []) ∷ (1 ∷ []) ∷ (1 ∷ []) ∷ [])
 unfolding digits
 y_has = refl
 
--- z is c where a and b hold, !c where a alone does, and nothing is given to it elsewhere
+-- z is c if a and b hold, !c if a alone does, and nothing is given to it elsewhere
 z_has : at_each (points_of (2 ∷ 3 ∷ 4 ∷ []) [] []) (may_be d "z") ≡ ((0 ∷ []) ∷ (0 ∷ []) ∷ (0 ∷ []) ∷ (0 ∷ []) ∷ (1 ∷ []) ∷ (0 ∷ []) ∷ (0 ∷ []) ∷ (1 ∷ []) ∷ [])
 unfolding digits
 z_has = refl

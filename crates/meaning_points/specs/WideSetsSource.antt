@@ -1,4 +1,4 @@
--- Wide sets, as a tree (the source stands at the head of WideSets).
+-- Wide sets, as a tree (the source is at the head of WideSets).
 use Rattle.std.specs.Prelude.{[], ◌∷◌, codes}
 use Rattle.meaning_points.specs.Prelude.{ModuleTree, Equations}
 use Rattle.meaning_points.specs.Constructs.{module_of, assign, constants, device, item, items, nodes, pin, pins}

@@ -1,4 +1,4 @@
--- An expansion ends once: behind it every turn changes nothing, so a text has one expanded text.
+-- An expansion ends once: after it every turn changes nothing, so a text has one expanded text.
 use Rattle.std.proofs.Common.{◌≡◌, ◌+◌, ◌-◌, ◌≤◌, ℕ, zero, suc, List, [], Ok, Err, refl, sym, ap, ◌∙◌, subst, arith, append-nil, ◌⊎◌, inl, inr}
 use Rattle.module_reader.proofs.Common.{Tables, Move, Done, move, Config, moved, turned, after, IsExpanded}
 use Rattle.abel_lexer.specs.Lengths.{longest_at, longest_word}
@@ -8,7 +8,7 @@ pub record Ended (c : Config) (w : List ℕ) : Type 0 where
   pub rest : c.rest ≡ []
   pub done : c.done ≡ w
 
--- where nothing is left, a move does nothing
+-- if nothing is left, a move does nothing
 no_move : (t : Tables) → move t [] ≡ Done t [] []
 unfolding longest_at longest_word
 no_move t = refl

@@ -1,4 +1,4 @@
--- An expansion ends or is refused, and is refused once: where a turn is refused, every later one leaves all as it is.
+-- An expansion ends or is refused, and is refused once: if a turn is refused, every later one leaves all as it is.
 use Rattle.std.proofs.Common.{◌≡◌, ℕ, zero, suc, ◌+◌, ◌-◌, ◌≤◌, inl, inr, List, Result, Ok, Err, refl, sym, ap, subst, ◌∙◌, arith, ◌≢◌}
 use Rattle.module_reader.proofs.Common.{cases_lt, Place, place_past, first_place, Cause, TooLong, ExpansionLimit, BadDirective, Unsupported, Config, turn, turned, after, IsExpanded, IsRefusal}
 use Rattle.abel_expand.specs.declared.fault.ExpandFault.{ExpandFault}
@@ -12,7 +12,7 @@ use Rattle.module_reader.proofs.Ends.{Ended, still}
 no_turn : (c : Config) (cause : Cause) → turn c ≡ Err cause → turned c ≡ c
 no_turn c cause e = subst (λ (r : Result Config Cause). elim r [ Ok d ↦ d | Err f ↦ c ] ≡ c) (sym e) refl
 
--- and no number of turns behind it does
+-- and no number of turns after it does
 stays : (text : List ℕ) (n k : ℕ) (cause : Cause) → turn (after n text) ≡ Err cause → after (k + n) text ≡ after n text
 stays text n zero cause e = let none : 0 + n ≡ n = omega arith in ap (λ (i : ℕ). after i text) none
 stays text n (suc k) cause e =
@@ -67,7 +67,7 @@ fault_at ExpansionLimit p = fault.ExpansionLimit p
 fault_at BadDirective p = fault.BadDirective p
 fault_at Unsupported p = fault.Unsupported p
 
--- a refusal has a cause, and stands behind what was done
+-- a refusal has a cause, and follows what was done
 cause_of : (text v : List ℕ) (f : ExpandFault) → f ≢ fault.OutOfMemory → IsRefusal text v f → (cause : Cause) × (f ≡ fault_at cause (place_past first_place v)) × IsRefused text cause v
 cause_of text v (fault.TooLong p) some r = (TooLong, ap (fault_at TooLong) r.0, r.1)
 cause_of text v (fault.ExpansionLimit p) some r = (ExpansionLimit, ap (fault_at ExpansionLimit) r.0, r.1)

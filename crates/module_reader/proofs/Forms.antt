@@ -5,7 +5,7 @@ use Rattle.module_reader.proofs.Common.{append_assoc, Form, BeginsToken, token, 
 use Rattle.abel_grammar.specs.Further.{placed, times, unless}
 use Rattle.abel_grammar.proofs.Along.{along_none}
 
--- the tokens that spell a tree do so whatever stands behind them, and begin the form
+-- the tokens that spell a tree do so whatever follows them, and begin the form
 pub record Taken {A : Type 0} (a : Form Token A) (ts : List Token) (t : A) (rest : List Token) : Type 0 where
   pub own : List Token
   pub parts : ts ≡ own ++ rest
@@ -37,7 +37,7 @@ cut (x ∷ a) b (y ∷ c) d e = behind (cut a b c d cc)
     behind (inl (e, is)) = inl (e, ap (λ (z : Token). z ∷ a) same ∙ ap (λ (zs : List Token). y ∷ zs) is)
     behind (inr (e, is, rest)) = inr (e, ap (λ (z : Token). z ∷ c) (sym same) ∙ ap (λ (zs : List Token). x ∷ zs) is, rest)
 
--- ---- tokens, and forms one behind the other
+-- ---- tokens, and forms one after the other
 
 token_front : (test : Token → Bool) (c d : List Token) → BeginsToken test (c ++ d) → BeginsToken test c
 token_front test [] d h = tt
@@ -171,7 +171,7 @@ times_begun (suc n) la = made_begun (then_begun la (times_begun n la))
 
 -- ---- a form with its first token
 
--- the tokens that spell it stand before the rest
+-- the tokens that spell it precede the rest
 pub lies : {A : Type 0} {a : Form Token A} → Begun a → Lies a (λ _. [])
 lies la = record { along = λ ts t rest s. let h = la.taken ts t rest s in (h.own, h.parts, along_none h.own) }
 

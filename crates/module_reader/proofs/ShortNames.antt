@@ -6,7 +6,7 @@ use Rattle.module_reader.proofs.Common.{ScanFault}
 use Rattle.module_reader.specs.Correct.{ModuleNamesAreShort}
 use Rattle.module_reader.proofs.ModuleNames.{name_is_identifier}
 
--- where a test gives no fault it fails
+-- if a test gives no fault it fails
 no_fault : (test : Bool) (f : ScanFault) → fault_if test f ≡ None → test ≡ false
 no_fault true f none = absurd cc
 no_fault false f none = refl

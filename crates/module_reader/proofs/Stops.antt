@@ -1,4 +1,4 @@
--- Tokens are spelled, or refused at one place, where each front of what begins a form begins it.
+-- Tokens are spelled, or refused at one place, if each front of what begins a form begins it.
 use Rattle.std.proofs.Common.{◌≡◌, ℕ, ◌+◌, ◌≤◌, ◌<◌, inl, inr, List, [], ◌++◌, length, take, drop, sym, subst, ◌∙◌, arith, append-nil}
 use Rattle.module_reader.proofs.Common.{cases_lt, take-append-drop, take-take, Form, SpellsWhole, SyntaxAt, TooDeepAt, Token}
 use Rattle.module_reader.proofs.Forms.{Begun}
@@ -30,7 +30,7 @@ module _ {A : Type 0} (form : ℕ → Form Token A) (depth : ℕ) (begun : (n : 
 
   -- ---- it is refused at one place
 
-  -- tokens behind a place of Syntax begin nothing
+  -- tokens after a place of Syntax begin nothing
   none_behind : (n k m : ℕ) → k < m → m ≤ length ts → SyntaxAt form depth ts k → (form n).begins (take m ts) → ⊥
   none_behind n k m less within stop h = stop.here (omega arith) (n, fewer n (k + 1) m (omega arith) h)
 

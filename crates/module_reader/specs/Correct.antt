@@ -10,7 +10,7 @@ use Rattle.abel_grammar.specs.Modules.{source}
 use Rattle.jedec_file.specs.CanonicalFile.{IsPlainName}
 use Rattle.module_reader.specs.Texts.{SpellsModule}
 
--- the name of a module that the tokens of a text spell can stand in a fuse file
+-- the name of a module that the tokens of a text spell can be in a fuse file
 abbrev pub ModuleNamesArePlain : Type 0
 ModuleNamesArePlain =
     (text : List ℕ) (tokens : List Token) (m : ModuleTree) → IsTokensOf text tokens → Spells source tokens m

@@ -38,7 +38,7 @@ pub record IsNotScanned (text : List ℕ) (f : ScanFault) : Type 0 where
   pub expands : IsExpanded text expanded
   pub fault : IsFirstFault expanded f
 
--- the tokens are refused, at the end of the text behind its last byte
+-- the tokens are refused, at the end of the text after its last byte
 abbrev pub IsNotParsed : List ℕ → ParseFault → Type 0
 IsNotParsed text f = HasTokens text (λ expanded tokens. IsRefused tokens (place_past first_place expanded) f)
 

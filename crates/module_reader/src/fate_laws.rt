@@ -2,12 +2,13 @@
 
 ghost use Rattle.module_reader.specs.Fates.{TextIsReadOrNot, TextHasOneRefusal, TextSpellsOneModule};
 
-/// A text that is read is refused for nothing but want of memory. Does nothing.
+/// A text that is read is refused only for lack of memory. Does nothing.
 pub fn a_text_is_read_or_refused()
     ensures { TextIsReadOrNot }
 {}
 
-/// The refusals of a text but want of memory are one: one phase, one cause and one place. Does nothing.
+/// The refusals of a text except lack of memory are one: one phase, one cause and one place. Does
+/// nothing.
 pub fn a_text_has_one_refusal()
     ensures { TextHasOneRefusal }
 {}

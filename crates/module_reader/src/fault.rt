@@ -12,7 +12,7 @@ use pld_base::OutOfMemory;
 use thiserror::Error;
 
 /// Why a text spells no module: the first of expanding, scanning and parsing that is refused. What it carries is
-/// never want of memory.
+/// never lack of memory.
 #[derive(Clone, Copy, Debug, PartialEq, Eq, Error)]
 pub enum ReadFault {
     /// A macro or a directive, or the length of the expanded text.

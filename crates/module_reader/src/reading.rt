@@ -14,7 +14,7 @@ use abel_tree::Module;
 use pld_base::Place;
 use std::alloc::Global;
 
-/// Where a text begins.
+/// The beginning of a text.
 const FIRST: Place = Place { line: 1, column: 1 };
 
 /// The one module that a text of at most 1,048,576 bytes spells: its macros and directives are expanded, the

@@ -3,7 +3,7 @@ use Rattle.std.proofs.Common.{◌≡◌, Bool, Option, Some, None, List, [], ◌
 use Rattle.name_uses.proofs.Common.{flat_map, flat_map-append, Sign, Tree, Statement, AnAssign, AWhen, AGroup, ADontCare, Otherwise, NoElse, AnElse, Statements, NoStatement, MoreStatements, Branch, AGoal, AnIf, ACase, OtherBranch, NoBranch, ABranch, Choices, NoChoice, MoreChoices, RowTree, StateTree, SectionTree, Declarations, Equations, ATable, ADiagram, SomeVectors, DontCareSection, PartTree, Target, Value, Read, Outputs, Registers, Entry, part, parts_in_branch, parts_in_choices, parts_in_else, parts_in_other, parts_in_row, parts_in_section, parts_in_state, parts_in_statement, parts_in_statements, parts_in_with, PartedSection, with_parts}
 use Rattle.abel_meaning.specs.Held.{ATarget, AValue, Part, branch_parts, branches_parts, choices_parts, else_parts, list_parts, other_parts, section_parts, sections_parts, statement_parts, statements_parts, states_parts, with_parts as parts_of_with}
 
--- each part of a section gives what the part that may hold a register does that it is, and nothing where it is none; the
+-- each part of a section gives what the part that may hold a register does that it is, and nothing if it isn't one; the
 -- registers of a diagram are asked apart
 pub record Follows {A : Type 0} (give : PartTree → List A) (go : Part → List A) : Type 0 where
   pub target : (sign : Sign) (t : Tree) → give (part (Target sign) t) ≡ go (ATarget t)

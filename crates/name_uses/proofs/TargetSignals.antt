@@ -3,7 +3,7 @@ use Rattle.std.proofs.Common.{◌≡◌, ℕ, Option, Some, None, List, [], ◌+
 use Rattle.name_uses.proofs.Common.{flat_map, append-nil, flat_map-append, Named, signals_of, signals_of_member, signals_of_members, signals_of_name, signals_of_names, range_names, Tree, ANumber, ASpecial, AName, ASet, AParen, AUnary, ABinary, SetMember, OneMember, SpanMember, Members, NoMember, MoreMembers, UsedName, targets_in, targets_in_member, targets_in_members}
 use Rattle.abel_tree.specs.declared.words.Word.{Word}
 
--- a name or a range that stands without extension
+-- a name or a range that is without extension
 abbrev pub plain : Word → Option Word → UsedName
 plain first last = record { first = first; last = last; extension = None }
 

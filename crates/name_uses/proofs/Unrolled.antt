@@ -1,4 +1,4 @@
--- Operators in a row: the names of their right sides stand behind those of the first operand.
+-- Operators in a row: the names of their right sides follow those of the first operand.
 use Rattle.std.proofs.Common.{◌≡◌, ℕ, ◌<◌, ◌≤◌, List, [], ◌∷◌, ◌++◌, Option, sym, ap, ◌∙◌, arith, rules, append_assoc, Bor}
 use Rattle.name_uses.proofs.Common.{append-nil, Place, Extension, Expr, size-Expr, the_lemmas, Tree, ABinary, SetMember, view, expr_layer, member_layer, UsedName, names_used}
 use Rattle.abel_tree.specs.declared.words.Binary.{Binary}
@@ -19,7 +19,7 @@ EachBelow n (e ∷ es) = (size-Expr e < n) × EachBelow n es
 abbrev pub expr_at : Bor Expr → Expr
 expr_at r = r.now
 
--- what is at hand and the right sides behind it are the whole
+-- what is at hand and the right sides after it are the whole
 pub record Unrolls (o : Option Extension) (e : Expr) (rights : List Expr) (whole : Expr) : Type 0 where
   pub same : names_used o (view e) ++ rights_used o rights ≡ names_used o (view whole)
   pub below : EachBelow (size-Expr whole) rights

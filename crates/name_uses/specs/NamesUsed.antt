@@ -1,5 +1,5 @@
 -- The names that an expression uses, from the left, each with the extension that counts for it (ABEL-HDL Reference Manual,
--- sets and dot extensions: an extension of its own comes before that of the set around it).
+-- sets and dot extensions: an extension of its own precedes that of the set around it).
 use Rattle.std.specs.Prelude.{Option, None, Some, List, [], ◌∷◌, ◌++◌}
 use Rattle.abel_tree.specs.declared.words.Extension.{Extension}
 use Rattle.abel_tree.specs.declared.words.Word.{Word}

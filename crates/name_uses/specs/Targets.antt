@@ -1,4 +1,4 @@
--- The names that an expression names where it is a target: up to parentheses and sets within sets, and none by what has an
+-- The names that an expression names if it is a target: up to parentheses and sets within sets, and none by what has an
 -- extension of its own (ABEL-HDL Reference Manual, equations).
 use Rattle.std.specs.Prelude.{Option, None, Some, List, [], ◌∷◌, ◌++◌}
 use Rattle.abel_tree.specs.Tree.{Tree, ANumber, ASpecial, AName, ASet, AParen, AUnary, ABinary, SetMember, OneMember, SpanMember, Members, NoMember, MoreMembers}

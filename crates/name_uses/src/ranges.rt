@@ -9,7 +9,7 @@ use abel_tree::Item;
 use pld_base::{OutOfMemory, put_decimal};
 use std::alloc::Global;
 
-/// How many digits stand at the end of a name.
+/// How many digits are at the end of a name.
 fn digits_at_end(name: &[u8]) -> usize
     ensures count { result ≡ length (last_digits name.now) }
     ensures within { result ≤ length name.now }
@@ -48,7 +48,7 @@ fn run_value(digits: &[u8]) -> Option<u32>
     }
 }
 
-/// What stands before the digits at the end of a name.
+/// What precedes the digits at the end of a name.
 fn stem_of(name: &[u8]) -> &[u8]
     ensures { result.now ≡ stem name.now }
 {
@@ -125,7 +125,7 @@ fn names_with(
     Ok(names)
 }
 
-/// All names from the first up or down to the last, where the ends of the range agree.
+/// All names from the first up or down to the last, if the ends of the range agree.
 pub fn names_of_range(
     alloc: Global,
     first: &[u8],
@@ -170,7 +170,7 @@ fn ends_in_run(name: &[u8]) -> bool
     end_value(name).is_some()
 }
 
-/// How many names an item of a declaration has, none where it is a range whose ends don't agree. Takes no memory.
+/// How many names an item of a declaration has, none if it is a range whose ends don't agree. Takes no memory.
 pub fn item_count(item: &Item) -> usize
     ensures { result ≡ length (item_names item.now) }
 {
@@ -180,7 +180,7 @@ pub fn item_count(item: &Item) -> usize
     }
 }
 
-/// How many names a range has, none where its ends don't agree.
+/// How many names a range has, none if its ends don't agree.
 fn range_count(first: &[u8], last: &[u8]) -> usize
     ensures { result ≡ length (range_names first.now last.now) }
 {
@@ -198,7 +198,7 @@ fn range_count(first: &[u8], last: &[u8]) -> usize
     }
 }
 
-/// The names of an item of a declaration, none where it is a range whose ends don't agree.
+/// The names of an item of a declaration, none if it is a range whose ends don't agree.
 pub fn item_list(alloc: Global, item: &Item) -> Result<Vec<Vec<u8>>, OutOfMemory>
     ensures { IfOk result (λ names. map name_items names.items ≡ item_names item.now) }
 {
@@ -218,7 +218,7 @@ fn one_name(alloc: Global, name: &[u8]) -> Result<Vec<Vec<u8>>, OutOfMemory>
 }
 
 #[tactic(auto, using(crate::proofs::Listed::listed, crate::proofs::Listed::none_listed))]
-/// All names from the first up or down to the last, none where the ends of the range don't agree.
+/// All names from the first up or down to the last, none if the ends of the range don't agree.
 pub fn range_list(alloc: Global, first: &[u8], last: &[u8]) -> Result<Vec<Vec<u8>>, OutOfMemory>
     ensures { IfOk result (λ names. map name_items names.items ≡ range_names first.now last.now) }
 {

@@ -1,4 +1,4 @@
-//! The names that expressions name where they are targets.
+//! The names that expressions name if they are targets.
 
 ghost use Rattle.std.specs.Prelude.{◌≡◌, ◌++◌, IfOk, OnOk, map};
 ghost use Rattle.abel_tree.specs.Assigned.{target_extension, without_extension};
@@ -12,7 +12,7 @@ use abel_tree::{Expr, Extension, Member};
 use pld_base::OutOfMemory;
 use std::alloc::Global;
 
-/// The extension of a target, which stands outside. Takes no memory.
+/// The extension of a target, which is outside. Takes no memory.
 pub fn target_extension(target: &Expr) -> Option<Extension>
     ensures { result ≡ target_extension (view target.now) }
 {
@@ -84,7 +84,7 @@ fn put_targets_in<'a>(uses: &mut Vec<NameUse<'a>>, member: &'a Member) -> Result
     }
 }
 
-/// The names that an expression names where it is a target, from the left.
+/// The names that an expression names if it is a target, from the left.
 pub fn targets_in(alloc: Global, expr: &Expr) -> Result<Vec<NameUse<'_>>, OutOfMemory>
     ensures { IfOk result (λ uses. map view_use uses.items ≡ targets_in (view expr.now)) }
 {

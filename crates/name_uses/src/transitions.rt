@@ -71,7 +71,7 @@ fn put_choice<'a>(
     put_arm(alloc, parts, &arm.result)
 }
 
-/// Appends the parts of a GOTO: its value and the statements behind WITH.
+/// Appends the parts of a GOTO: its value and the statements after WITH.
 fn put_goal<'a>(alloc: Global, parts: &mut Vec<Part<'a>>, goal: &'a Goal) -> Result<(), OutOfMemory>
     ensures { OnOk result (map view_part parts.new.items ≡ map view_part parts.old.items
         ++ part Read (view goal.now.value) ∷ parts_in_with (option_map (λ l. map view_stmt l) goal.now.with)) }

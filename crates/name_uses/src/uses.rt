@@ -13,7 +13,7 @@ use pld_base::OutOfMemory;
 use std::alloc::Global;
 
 /// Appends the names that an expression uses in a set with this extension. Calls go as deep as the nestings, however many
-/// operators stand in a row.
+/// operators are in a row.
 #[cycle(uses)]
 fn put_expr<'a>(
     alloc: Global,

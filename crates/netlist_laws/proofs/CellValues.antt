@@ -39,7 +39,7 @@ pub exact_value : (t : Table) (net : PlainNetlist) (fuses : List Bool) (f : Form
 exact_value t net fuses f row at is exact =
     both_ways (row_value t fuses at row) (formula_value at f) (λ on. exact.at_allowed at is (or_left (row_value t fuses at row) false on)) (λ on. sym (or_none (row_value t fuses at row)) ∙ exact.at_needed at is on)
 
--- a value that is needed where it can't be false, and there only where it may be true, is one that it may have
+-- a value that is needed if it can't be false, and there only if it may be true, is one that it may have
 may_have : (may : Bool → Bool) (v : Bool) → (not (may false) ≡ true → v ≡ true) → (v ≡ true → may true ≡ true) → may v ≡ true
 may_have may true needed allowed = allowed refl
 may_have may false needed allowed = by_cases (may false) needed

@@ -23,7 +23,7 @@ is_cell (Some other) c = other == c
 abbrev pub has_pin : ℕ → Cell → Bool
 has_pin pin cell = cell.pin == pin
 
--- where no first place is found, none passes
+-- if no first place is found, none passes
 pub none_passes : {X : Type 0} (p : X → Bool) (y : X) (xs : List X) (k i : ℕ) → position_from p k xs ≡ None → i < length xs → p (get_or xs i y) ≡ false
 none_passes p y [] k i none within = absurd (omega (arith, within))
 none_passes p y (x ∷ xs) k i none within =
@@ -55,7 +55,7 @@ module _ (t : Table) (laws : IsDevice t) where
   pub is_cell_on : (pin c : ℕ) → c < length t.cells → is_cell (cell_on t pin) c ≡ (pin == (cell_at t c).pin)
   is_cell_on pin c within = by_found pin c within (cell_on t pin) refl
 
-  -- the assigned signal is on the cell just where the cell is its own
+  -- the assigned signal is on the cell just if the cell is its own
   assigned_here : (c : ℕ) (x : Entry) (kind : Kind) → c < length t.cells → is_cell (cell_by t x kind) c ≡ (x.assigned && is_on_pin (cell_at t c).pin kind)
   assigned_here c x (APin pin negated) within = by x.assigned
     where

@@ -1,4 +1,4 @@
--- A prime row reads only what its function reads: where the function is told by known leaves, each pair that the row
+-- A prime row reads only what its function reads: if the function is given by known leaves, each pair that the row
 -- reads carries a known leaf.
 use Rattle.std.proofs.Common.{◌≡◌, ◌≢◌, ℕ, zero, suc, ◌*◌, ◌<◌, ◌≤◌, Bool, true, false, not, List, [], ◌∷◌, length, map, set, get_or, Some, slice_get, refl, ap, sym, ◌∙◌, subst, arith, inl, inr, length-set, get_or-set_same, get_or-set_other}
 use Rattle.netlist_laws.proofs.Common.{cases_Bool, eqb-true, eqb-false, and_parts, true≢false, get_or-map, slice_get-get_or, get_or_from_slice_get, slice_get_within, is_on, Levels, IsPoint, Carry, Table, cell_at, IsDevice, complement_if, pin_carried, connected_pairs, is_never_true, row_reads, stores, carried, pair_values, row_fuses, row_value, own_pins, pairs_apart, carry_in_range, Leaf, leaf_value, same_leaf, PlainNetlist, IsValuedFor, IsValuedOfFor, is_used, value_without, IsPrimeRow, netlist_waits, signal_count, IsSound, Ranked}
@@ -28,7 +28,7 @@ carried_leaf t fuses at (carry.Pin pin) = refl
 carried_leaf t fuses at (carry.Cell c) =
     elim (cases_Bool (stores t fuses c)) [ inl kept ↦ rw kept refl | inr plain ↦ rw plain refl ]
 
--- two pairs with one leaf stand for one pin
+-- two pairs with one leaf represent one pin
 pin_of_leaf : (t : Table) (b : Bool) (pin d : ℕ) → leaf.Pin pin ≡ leaf_by t b d → pin ≡ (cell_at t d).pin
 pin_of_leaf t true pin d e = absurd cc
 pin_of_leaf t false pin d e = cc

@@ -30,7 +30,7 @@ control_named x (Some f) l = names_exchanged x f l
 -- ---- values
 
 module _ (x : ℕ → Bool) (low : (c : ℕ) → x c ≡ true → c < 32) (at : Levels) (is : IsPoint at) where
-  -- a Q in the other sense where the cell is exchanged; past the end it isn't
+  -- a Q in the other sense if the cell is exchanged; past the end it isn't
   pub q_at : (c : ℕ) → is_on (exchanged_at x at).q c ≡ in_sense (x c) (is_on at.q c)
   q_at c = q_any x 0 c c at.q (omega arith) (λ on. subst (λ k. c < k) (sym is.q) (low c on))
 

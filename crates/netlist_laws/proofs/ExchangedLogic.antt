@@ -4,7 +4,7 @@ use Rattle.netlist_laws.proofs.Common.{option_map, cases_Bool, eqb-true, length-
 use Rattle.netlist_laws.proofs.ExchangedCells.{own_or_shared_exchanged, stores_exchanged, wanted_at_exchanged}
 use Rattle.netlist_laws.proofs.ExchangedFormulas.{function_value_exchanged, node_exchanged, q_at, value_exchanged}
 
--- the pin follows the complement of Q where it followed Q exchanged
+-- the pin follows the complement of Q if it followed Q exchanged
 sense_level : (x buffer q : Bool) → complement_if (not (in_sense x buffer)) q ≡ complement_if (not buffer) (in_sense x q)
 sense_level true true true = refl
 sense_level true true false = refl

@@ -1,4 +1,4 @@
--- A device can take an exchanged netlist where it can take the netlist.
+-- A device can take an exchanged netlist if it can take the netlist.
 use Rattle.std.proofs.Common.{◌≡◌, ◌≢◌, ℕ, zero, suc, ◌+◌, ◌-◌, ◌<◌, ◌≤◌, Bool, true, false, not, ◌&&◌, ◌||◌, List, [], ◌∷◌, length, map, Option, None, Some, refl, sym, ap, ap₂, ◌∙◌, subst, inl, inr, arith, if◌then◌else◌, nat_lt, find, get_or, AllPairs, ◌==◌}
 use Rattle.netlist_laws.proofs.Common.{list_any, option_map, cases_Bool, eq-eqb, ne_eqb, get_or-map, length-map, All-map, in_sense, Table, cell_at, HasNoLoop, HasNoPath, Leaf, Formula, Function, PlainNetlist, Wanted, node_at, wanted_at, cell_names, is_register_signal, netlist_names, netlist_passes, netlist_reads, netlist_reset_reads, netlist_waits, signal_count, signal_leaf, function_names, names_if_any, IsReadable, IsSound, IsSoundCell, IsSoundFormula, IsSoundFree, IsSoundFunction, IsSoundShared, ExchangedIsSound, MayExchangeIn, formula_exchanged, function_exchanged, netlist_exchanged, wanted_exchanged}
 use Rattle.pld_order.proofs.SameGraphs.{no_loop_same, no_path_same}

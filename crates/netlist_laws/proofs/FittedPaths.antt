@@ -12,7 +12,7 @@ use Rattle.netlist_laws.proofs.Valuing.{IsKnown, cell_named}
 use Rattle.netlist_laws.proofs.WantedCells.{sound_at, registers_wanted}
 
 module _ (t : Table) (laws : IsDevice t) (net : PlainNetlist) (sound : IsSound t net) (fuses : List Bool) (fitted : IsFitted t net fuses) (ranks : Ranked (signal_count t net) (netlist_waits t net)) where
-  -- the cell is read by a clean leaf; whether it is can't be told, so this is all that follows
+  -- the cell is read by a clean leaf; whether it is can't be reported, so this is all that follows
   abbrev MayBeClean : ℕ → Type 0
   MayBeClean d = (Clean t net (leaf_of t fuses (carry.Cell d)) → ⊥) → ⊥
 

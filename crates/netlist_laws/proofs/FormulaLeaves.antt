@@ -1,4 +1,4 @@
--- A formula is told by the leaves that it names.
+-- A formula is given by the leaves that it names.
 use Rattle.std.proofs.Common.{◌≡◌, Bool, true, not, refl, ap}
 use Rattle.netlist_laws.proofs.Common.{eq-eqb, or_left, or_right, Levels, Leaf, Formula, Const, Read, Not, And, Or, Xor, leaf_value, formula_value, same_leaf, names}
 use Rattle.bit_expr.specs.declared.node.Leaf.TheVariants as leaf

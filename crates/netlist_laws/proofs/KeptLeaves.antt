@@ -65,7 +65,7 @@ module _ (d : Design) (P : Leaf → Type 0) where
       data_kept c.signal c.extension (and_parts (c.signal == s) (is_data c.extension) to_it.0).1)
       cs all (Const false) (of_constant P false)
 
-  -- what may be anything, also where no don't-care block matches
+  -- what may be anything, also if no don't-care block matches
   of_or_no_match : (cs : List (Contribution Formula)) → EachKept cs → (s : ℕ) (any : Formula) → NamesOnly P any
       → NamesOnly P (if is_free_elsewhere cs s then (formulas d.context).either any ((formulas d.context).not (gives_some (formulas d.context) cs Match s)) else any)
   of_or_no_match cs all s any here = by (is_free_elsewhere cs s)

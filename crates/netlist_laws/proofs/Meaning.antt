@@ -13,12 +13,12 @@ raw_seen : {V W : Type 0} (h : V → W) (cs : List (Contribution V)) (s : ℕ) �
 raw_seen h [] s = refl
 raw_seen h (c ∷ cs) s = rw (raw_seen h cs s) refl
 
--- data are raw by formulas just where they are at a point
+-- data are raw by formulas just if they are at a point
 raw_value : (d : Design) (at : Levels) (s : ℕ) → is_raw_signal (given_formulas d) s ≡ is_raw_signal (given_at d at) s
 raw_value d at s =
     sym (raw_seen (formula_value at) (given_formulas d) s) ∙ ap (λ cs. is_raw_signal cs s) (formulas_have_values d at)
 
--- the value of the name where the next Q is this
+-- the value of the name if the next Q is this
 q_named : (raw negated buffer q : Bool) → (if raw then q else complement_if negated (complement_if (not buffer) q)) ≡ complement_if (if raw then false else complement_if negated (not buffer)) q
 q_named true negated buffer q = refl
 q_named false true true true = refl

@@ -90,7 +90,7 @@ module _ (t : Table) (m : ModuleTree) (fuses : List Bool) where
           ∙ (plain_same at is v plain
           ∙ sym (ap (λ b. if b then (chosen_logic t m fuses).allows_next at c (complement_if by_register v) else (chosen_logic t m fuses).allows_level at c (complement_if by_pin v)) here))
 
-      -- where the cell is a register just as its signal is, the OR may have the same values by both
+      -- if the cell is a register just as its signal is, the OR may have the same values by both
       pub same_or : wanted_at (netlist_of t m) c ≡ Some asked → stores t fuses c ≡ is_stored (name_at d.context s) → (at : Levels) → IsPoint at → (v : Bool)
           → or_may_be t fuses c (wanted_exchanged choice asked) at v ≡ or_allows t m fuses c at v
       same_or found kind at is v = by_kind at is found v (is_stored (name_at d.context s)) refl kind

@@ -9,9 +9,9 @@ use Rattle.abel_meaning.specs.Held.{Holds, holds_of}
 use Rattle.abel_meaning.specs.Kinds.{with_kinds, names_of}
 use Rattle.netlist_laws.proofs.NodesFound.{next_number, AreNumbered}
 
--- ---- a list behind another
+-- ---- a list after another
 
--- the number of the next node behind a list
+-- the number of the next node after a list
 abbrev number_after : ℕ → List Entry → ℕ
 number_after n [] = n
 number_after n (x ∷ xs) = number_after (next_number n x.kind) xs

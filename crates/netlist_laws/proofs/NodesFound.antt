@@ -64,7 +64,7 @@ longer a b =
       | inr more ↦ le-ltb (suc a) (suc b) (omega (arith, more)) ∙ sym (le-ltb a b more)
     ]
 
--- the element of a number is there just where the list is longer
+-- the element of a number is there just if the list is longer
 pub there : {X : Type 0} (xs : List X) (k : ℕ) → nat_lt k (length xs) ≡ is_some (slice_get xs k)
 there [] k = le-ltb k 0 (omega arith)
 there (x ∷ xs) zero = lt-ltb 0 (length (x ∷ xs)) (omega arith)

@@ -5,7 +5,7 @@ use Rattle.netlist_laws.proofs.Valuing.{valued, the_valued}
 use Rattle.netlist_laws.proofs.WantedCells.{same_kind}
 use Rattle.netlist_laws.proofs.CellValues.{same_enable, level_allowed, next_allowed, same_shared}
 
--- a level that is told allows one value
+-- a level that is reported allows one value
 one_level : (x : Bool) → AllowsOne (λ v. same_level v x)
 one_level true e = true≢false e
 one_level false e = true≢false (sym e)

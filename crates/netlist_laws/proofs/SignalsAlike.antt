@@ -42,7 +42,7 @@ module _ (d : Design) (laws : IsDevice d.context.device) (numbered : AreNumbered
   abbrev count : ℕ
   count = length d.context.device.cells
 
-  -- the module's signal behind a signal of the netlist
+  -- the module's signal after a signal of the netlist
   abbrev pub signal_of : ℕ → Option ℕ
   signal_of v = if nat_lt v count then signal_on d.context v else node_signal d.context (v - count)
 
@@ -136,13 +136,13 @@ module _ (d : Design) (laws : IsDevice d.context.device) (numbered : AreNumbered
         | inr node ↦ rw node (ap (λ k. leaf_by d.context (name_at d.context s) k) (node_kind (v - count) s (rw node at is)))
       ]
 
-  -- it is a register where that one is stored
+  -- it is a register if that one is stored
   pub register_alike : (v s : ℕ) → signal_of v ≡ Some s → is_register_signal d.context.device (gathered d) v ≡ true → is_stored_signal d.context s ≡ true
   register_alike v s is register =
       let parts = and_parts (nat_lt v count) (netlist_stores d.context.device (gathered d) v) register in
       sym (stored_as v s (ltb-true v count parts.0) (rw parts.0 at is)) ∙ parts.1
 
-  -- where it is none, it comes to rest by what it reads
+  -- if it isn't one, it settles by what it reads
   pub settles_alike : (v s : ℕ) → signal_of v ≡ Some s → is_register_signal d.context.device (gathered d) v ≡ false → settles (name_at d.context s) ≡ true
   settles_alike v s is other =
       elim (cases_Bool (nat_lt v count)) [

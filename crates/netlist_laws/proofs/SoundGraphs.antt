@@ -1,4 +1,4 @@
--- A gathered netlist has a loop, or a path from a reset to a register, only where its module has one.
+-- A gathered netlist has a loop, or a path from a reset to a register, only if its module has one.
 use Rattle.std.proofs.Common.{◌≡◌, ℕ, suc, ◌<◌, ◌≤◌, true, false, not, ◌==◌, nat_lt, List, [], ◌∷◌, ◌++◌, length, get_or, Option, Some, None, refl, sym, ap, ◌∙◌, subst, inl, inr, arith, if◌then◌else◌}
 use Rattle.netlist_laws.proofs.Common.{list_any, All, cases_Bool, and_parts, or_cases, eq-eqb, eqb-true, true≢false, not-true, All-head, All-tail, position-Some, IsDevice, cell_at, no_cell, has, IsChain, has_push, Ranked, ranked, no_loop_by_rank, Leaf, is_stored, is_on_pin, signal_on, control_of, control_if_stored, Design, name_at, formulas, Wanted, signal_count, signal_leaf, is_register_signal, netlist_names, netlist_reads, netlist_waits, netlist_passes, netlist_reset_reads, HasNoNetlistLoop, HasNoNetlistPath, given_formulas, names_if_any, signal_reads, HasNoSignalLoop, HasNoSignalPath, gathered, PinsApart}
 use Rattle.bit_expr.specs.declared.node.Leaf.TheVariants as leaf
@@ -72,7 +72,7 @@ module _ (d : Design) (laws : IsDevice d.context.device) (numbered : AreNumbered
       let on : is_on_pin (cell_at d.context.device v).pin (name_at d.context s).kind ≡ true = rw here.3 (eq-eqb here.1 (cell_at d.context.device v).pin (sym (eqb-true (cell_at d.context.device v).pin here.1 at.1))) in
       (s, of_cell v s parts.0 (assigned_on d laws numbered apart s v at.0 (and_parts (name_at d.context s).words.registered (name_at d.context s).assigned here.4).1 on))
 
-  -- the module's signals behind those of a chain to a register
+  -- the module's signals after those of a chain to a register
   record Behind (before : List ℕ) (last r : ℕ) : Type 0 where
     signals : List ℕ
     first : signal_of d laws numbered apart (get_or (before ++ last ∷ []) 0 0) ≡ Some (get_or (signals ++ r ∷ []) 0 0)

@@ -9,7 +9,7 @@ use Rattle.netlist_laws.proofs.NodesFound.{AreNumbered, function_here, node_foun
 
 -- ---- first places
 
--- where the only one that passes is this one, it is the first
+-- if the only one that passes is this one, it is the first
 pub only_place : {X : Type 0} (p : X → Bool) (y : X) (xs : List X) (i : ℕ) → i < length xs → p (get_or xs i y) ≡ true → ((j : ℕ) → p (get_or xs j y) ≡ true → j ≡ i) → position p xs ≡ Some i
 only_place p y xs i within hit only = by (position p xs) refl
   where
@@ -17,7 +17,7 @@ only_place p y xs i within hit only = by (position p xs) refl
     by None e = absurd (true≢false (sym hit ∙ none_passes p y xs 0 i (sym (first_place p xs) ∙ e) within))
     by (Some j) e = e ∙ ap (λ k. Some k) (only j (position-Some p xs j y e).1)
 
--- where some passes, there is a first
+-- if some passes, there is a first
 pub some_place : {X : Type 0} (p : X → Bool) (y : X) (xs : List X) (i : ℕ) → i < length xs → p (get_or xs i y) ≡ true → (j : ℕ) × (position p xs ≡ Some j)
 some_place p y xs i within hit = by (position p xs) refl
   where

@@ -1,4 +1,4 @@
--- Rows that are told by known leaves read known cells alone.
+-- Rows that are given by known leaves read known cells alone.
 use Rattle.std.proofs.Common.{◌≡◌, ℕ, ◌<◌, Bool, true, false, ◌==◌, List, [], ◌∷◌, length, Some, slice_get, refl}
 use Rattle.netlist_laws.proofs.Common.{list_any, eq-eqb, or_left, Levels, Carry, Table, cell_at, IsDataRow, IsDevice, data_rows, row_reads, row_value, has, row_reads_cell, any_at, Leaf, Formula, formula_value, Wanted, PlainNetlist, IsValuedFor, is_used, IsPrimeRow, IsExactRow, netlist_waits, signal_count, IsSoundFormula, IsSoundFunction, IsSound, or_may_be, IsFittedCell, Ranked}
 use Rattle.pld_device.specs.declared.carry.Carry.TheVariants as carry
@@ -6,7 +6,7 @@ use Rattle.device_logic.proofs.ReadCells.{row_reads_cell-pair}
 use Rattle.netlist_laws.proofs.Valuing.{AgreeOn, IsKnown, IsClosed, same_value}
 use Rattle.netlist_laws.proofs.CoverReads.{leaf_of, reads_known}
 
--- known leaves tell where the row may be true, and the row is true only there and prime
+-- known leaves say if the row may be true, and the row is true only there and prime
 pub record IsTold (t : Table) (net : PlainNetlist) (fuses : List Bool) (known : Leaf → Type 0) (row : ℕ) : Type 0 where
   pub within : row < t.rows
   pub allowed : Levels → Bool

@@ -1,5 +1,5 @@
--- Nodes without a loop can be valued at every point, in one way; and what is told by some leaves is the same at points
--- that agree on these.
+-- Nodes without a loop can be valued at every point, in one way; and what is given by some leaves is the same at
+-- points that agree on these.
 use Rattle.std.proofs.Common.{◌≡◌, ℕ, zero, suc, ◌+◌, ◌-◌, ◌<◌, ◌≤◌, Bool, true, false, not, ◌&&◌, nat_lt, length, map, refl, ap, sym, ◌∙◌, subst, arith, inl, inr}
 use Rattle.netlist_laws.proofs.Common.{range_with_len, cases_Bool, lt-ltb, ltb-true, ltb-false, or_left, is_on, Levels, IsPoint, complement_if, Table, IsTheValuedOf, netlist_logic, netlist_values, Leaf, Formula, leaf_value, formula_value, names, PlainNetlist, no_function, node_at, wanted_at, function_at, value_with_any_0, IsValuedFor, IsValuedOfFor, function_names, cell_names, netlist_names, signal_leaf, is_register_signal, netlist_waits, signal_count, IsReadable, IsSoundFormula, IsSoundFunction, IsSound, Ranked}
 use Rattle.std.proofs.lemmas.List.FromFn.{length-map-range_with_len, get_or-map-range_with_len}

@@ -1,4 +1,4 @@
--- What a sound netlist asks of a cell, and that fitted cells are registers where it asks so.
+-- What a sound netlist asks of a cell, and that fitted cells are registers if it asks so.
 use Rattle.std.proofs.Common.{◌≡◌, ℕ, ◌<◌, Bool, false, ◌==◌, List, [], ◌∷◌, length, Option, Some, None, refl, sym, subst, inl, inr, find}
 use Rattle.netlist_laws.proofs.Common.{All, cases_Bool, eqb-true, All-head, All-tail, same_Some, Kinds, Combinational, Registered, Either, says, stores_by, stores, Table, cell_at, registered_at, Wanted, PlainNetlist, wanted_at, registers_as, netlist_stores, MayRegister, IsSoundCell, IsSound, IsFittedCell, IsFittedAs, IsFitted}
 pub use Rattle.netlist_laws.proofs.FoundCells.{found}
@@ -31,6 +31,6 @@ module _ (t : Table) (net : PlainNetlist) (fuses : List Bool) (sound : IsSound t
   kind_as c None is cell = spare_kind (cell_at t c).kinds (says fuses (registered_at t c)) cell.kind
   kind_as c (Some w) is cell = registers_wanted c w is cell
 
-  -- a cell stores where the netlist has a register
+  -- a cell stores if the netlist has a register
   pub same_kind : IsFitted t net fuses → (c : ℕ) → c < length t.cells → stores t fuses c ≡ netlist_stores t net c
   same_kind fitted c within = kind_as c (wanted_at net c) refl (fitted.cells c within)

@@ -7,7 +7,7 @@ use Rattle.abel_meaning.specs.AtPoints.{given_at, truth_at}
 use Rattle.netlist_laws.specs.RowCovers.{is_used, value_without}
 use Rattle.netlist_laws.specs.ModuleCovers.{IsValuedPoint, chosen_logic}
 
--- the row has the value, no literal of it can be left out, and it is all 0 where the value is constantly 0
+-- the row has the value, no literal of it can be left out, and it is all 0 if the value is constantly 0
 pub record IsRowOf (t : Table) (m : ModuleTree) (fuses : List Bool) (value : Levels → Bool) (row : ℕ) : Type 0 where
   pub same : (at : Levels) → IsValuedPoint t m fuses at → row_value t fuses at row ≡ value at
   pub prime : is_used t fuses row ≡ true → (column : ℕ) → column < t.columns → is_on (row_fuses t fuses row) column ≡ false

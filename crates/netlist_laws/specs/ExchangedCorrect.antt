@@ -12,11 +12,11 @@ pub record MeansExchanged (t : Table) (net : PlainNetlist) (x : ℕ → Bool) : 
 abbrev pub ExchangedMeansSo : Type 0
 ExchangedMeansSo = (t : Table) (net : PlainNetlist) (x : ℕ → Bool) → IsDevice t → MayExchangeIn t net x → MeansExchanged t net x
 
--- and a device can take it where it can take the netlist
+-- and a device can take it if it can take the netlist
 abbrev pub ExchangedIsSound : Type 0
 ExchangedIsSound = (t : Table) (net : PlainNetlist) (x : ℕ → Bool) → IsSound t net → MayExchangeIn t net x → IsSound t (netlist_exchanged x net)
 
--- the registers that a netlist leaves free may be exchanged, where a device can take it
+-- the registers that a netlist leaves free may be exchanged, if a device can take it
 abbrev pub FreeMayExchange : Type 0
 FreeMayExchange =
     (t : Table) (net : PlainNetlist) (x : ℕ → Bool) → IsSound t net → ((c : ℕ) → x c ≡ true → is_free_wanted (wanted_at net c) ≡ true)

@@ -22,7 +22,7 @@ formula_exchanged x (Xor f g) = Xor (formula_exchanged x f) (formula_exchanged x
 abbrev pub function_exchanged : (ℕ → Bool) → Function Formula → Function Formula
 function_exchanged x f = record { one = formula_exchanged x f.one; any = formula_exchanged x f.any; complement = f.complement }
 
--- a cell: its pin follows Q where it followed the complement, if it is one of these
+-- a cell: its pin follows Q if it followed the complement, if it is one of these
 abbrev pub wanted_exchanged : (ℕ → Bool) → Wanted → Wanted
 wanted_exchanged x w =
     record {
@@ -69,7 +69,7 @@ shown t fuses net c = is_free_wanted (wanted_at net c) && is_inverted t fuses c
 abbrev pub netlist_shown : Table → (fuses : List Bool) → PlainNetlist → PlainNetlist
 netlist_shown t fuses net = netlist_exchanged (shown t fuses net) net
 
--- what the netlist says under it, and the values that stand for its nodes
+-- what the netlist says under it, and the values that represent its nodes
 abbrev pub logic_shown : Table → (fuses : List Bool) → PlainNetlist → Logic
 logic_shown t fuses net = exchanged (shown t fuses net) (netlist_logic t net)
 

@@ -6,7 +6,7 @@ use Rattle.device_logic.specs.CellReads.{cell_reads}
 use Rattle.device_logic.specs.ResetPaths.{HasNoResetPath}
 use Rattle.netlist_laws.specs.Fitting.{IsFitted}
 
--- no chain of cells, each of which reads the next while the device comes to rest, returns
+-- no chain of cells, each of which reads the next while the device settles, returns
 abbrev pub FittedHasNoLoop : Type 0
 FittedHasNoLoop =
     (t : Table) (net : PlainNetlist) (fuses : List Bool) → IsDevice t → IsSound t net → IsFitted t net fuses → HasNoLoop (length t.cells) (cell_reads t fuses)

@@ -5,9 +5,9 @@ use Rattle.netlist_laws.specs.Prelude.{DoesTheSame, RefinesValued, SameValues, R
 use Rattle.netlist_laws.specs.ExchangedNets.{is_free_wanted, logic_shown, netlist_shown, values_shown}
 use Rattle.netlist_laws.specs.Fitting.{IsFitted}
 
--- the device with these fuses comes to rest in exactly one way from every state, and drives, releases and stores, from
--- power-up and for every list of outside levels, what a run of the module does under the choice that the fuses show, with
--- its nodes valued with any as 0; and where the module has no don't-care, it has that run alone under this choice
+-- the device with these fuses settles in exactly one way from every state, and drives, releases and stores, from power-up
+-- and for every list of outside levels, what a run of the module does under the choice that the fuses show, with its nodes
+-- valued with any as 0; and if the module has no don't-care, it has that run alone under this choice
 abbrev pub DoesWhatItSays : Table → ModuleTree → (fuses : List Bool) → Type 0
 DoesWhatItSays t m fuses =
     DoesTheSame (device_logic t fuses) (source_logic_under t m (is_inverted t fuses)) (source_values_under t m (is_inverted t fuses))

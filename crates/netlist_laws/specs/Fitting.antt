@@ -25,8 +25,8 @@ abbrev pub IsFittedEnable : Table → PlainNetlist → List Bool → Formula →
 IsFittedEnable t net fuses f (Row row) = IsExactRow t net fuses f row
 IsFittedEnable t net fuses f (PinLow pin) = Unit {0}
 
--- an assigned cell: it is a register as it is asked to be, and follows Q or its complement; its enable row has
--- the enable's value; and its data rows cover its function: where the OR can't be 0, and only where it may be 1
+-- an assigned cell: it is a register as it is asked to be, and follows Q or its complement; its enable row has the
+-- enable's value; and its data rows cover its function: if the OR can't be 0, and only if it may be 1
 pub record IsFittedCell (t : Table) (net : PlainNetlist) (fuses : List Bool) (c : ℕ) (w : Wanted) : Type 0 where
   pub kind : (cell_at t c).kinds ≡ Either → says fuses (registered_at t c) ≡ w.registered
   pub polarity : w.registered ≡ true → t.flip ≡ AfterRegister → is_inverted t fuses c ≡ not w.buffer
@@ -34,7 +34,7 @@ pub record IsFittedCell (t : Table) (net : PlainNetlist) (fuses : List Bool) (c 
   pub rows : IsPrimeCover t net fuses (data_rows t c)
       (λ at. not (or_may_be t fuses c w at false)) (λ at. or_may_be t fuses c w at true)
 
--- a cell that is assigned nothing: combinational where it may be, inverted, and all its rows are 0
+-- a cell that is assigned nothing: combinational if it may be, inverted, and all its rows are 0
 pub record IsSpareCell (t : Table) (fuses : List Bool) (c : ℕ) : Type 0 where
   pub kind : (cell_at t c).kinds ≡ Either → says fuses (registered_at t c) ≡ false
   pub polarity : t.flip ≢ Always → is_inverted t fuses c ≡ true
@@ -59,7 +59,7 @@ AreShared t net own =
     (c : ℕ) (w : Wanted) (f : Formula) → wanted_at net c ≡ Some w → own w ≡ Some f
     → (at : Levels) → IsValuedFor t net at → formula_value at f ≡ formula_value at (shared_function own net)
 
--- the fuses of the netlist. Rows are switched on exactly where they aren't all 0, and every fuse past the array that
+-- the fuses of the netlist. Rows are switched on exactly if they aren't all 0, and every fuse past the array that
 -- controls nothing is 0
 pub record IsFitted (t : Table) (net : PlainNetlist) (fuses : List Bool) : Type 0 where
   pub size : length fuses ≡ t.fuses

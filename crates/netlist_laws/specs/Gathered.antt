@@ -6,7 +6,7 @@ use Rattle.abel_tree.specs.declared.words.Extension.TheVariants as extension
 
 -- ---- cells
 
--- an enable of its own, where the cell's enable is a row; none where a pin enables it
+-- an enable of its own, if the cell's enable is a row; none if a pin enables it
 abbrev pub by_row : Enable → Option Formula → Option Formula
 by_row (Row row) f = f
 by_row (PinLow pin) f = None

@@ -4,12 +4,12 @@ use Rattle.netlist_laws.specs.FittedCorrect.{MeansTheSame}
 use Rattle.netlist_laws.specs.Gathered.{netlist_of}
 use Rattle.netlist_laws.specs.Takeable.{RegistersHaveCells, IsTakeable}
 
--- where each register is on a cell, the netlist of a module and the module allow the same at every point, and value
+-- if each register is on a cell, the netlist of a module and the module allow the same at every point, and value
 -- the nodes alike
 abbrev pub GatheredMeansTheSame : Type 0
 GatheredMeansTheSame =
     (t : Table) (m : ModuleTree) → IsDevice t → RegistersHaveCells (design_of t m).context → MeansTheSame t m (netlist_of t m)
 
--- where nothing is refused, the device can take the netlist of a module
+-- if nothing is refused, the device can take the netlist of a module
 abbrev pub GatheredIsSound : Type 0
 GatheredIsSound = (t : Table) (m : ModuleTree) → IsDevice t → IsTakeable (design_of t m) → IsSound t (netlist_of t m)

@@ -12,7 +12,7 @@ use Rattle.abel_tree.specs.Tree as tree
 abbrev pub anywhere : Place
 anywhere = record { line = 1; column = 1 }
 
--- a signal, whose pin follows Q where it is a register
+-- a signal, whose pin follows Q if it is a register
 abbrev pub signal : List ℕ → Kind → (registered assigned : Bool) → Entry
 signal name kind registered assigned =
     record {
@@ -54,7 +54,7 @@ example_design =
           ∷ []) ∷ [];
     }
 
--- R, which comes first, and Q; the node is said by its complement
+-- R, which is first, and Q; the node is said by its complement
 abbrev pub example_netlist : PlainNetlist
 example_netlist =
     record {

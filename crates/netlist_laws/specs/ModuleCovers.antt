@@ -24,7 +24,7 @@ module _ (t : Table) (m : ModuleTree) (fuses : List Bool) (c : ℕ) where
   abbrev pub is_needed : Levels → Bool
   is_needed at = not (or_allows at false)
 
-  -- no literal can be left out of the row: it would be true where the OR may not be 1
+  -- no literal can be left out of the row: it would be true if the OR may not be 1
   abbrev pub NoLiteralIsLeft : ℕ → Type 0
   NoLiteralIsLeft row =
       (column : ℕ) → column < t.columns → is_on (row_fuses t fuses row) column ≡ false
@@ -35,8 +35,8 @@ module _ (t : Table) (m : ModuleTree) (fuses : List Bool) (c : ℕ) where
   IsNotLeft row =
       ((at : Levels) → IsValuedPoint t m fuses at → is_needed at ≡ true → any_other t fuses at (data_rows t c) row ≡ true) → ⊥
 
-  -- the cell's rows are true wherever the OR must be 1 and only where it may be; and of those in use no literal can be
-  -- left out, and none of them as a whole
+  -- the cell's rows are true wherever the OR must be 1 and only if it may be; and of those in use no literal can be left
+  -- out, and none of them as a whole
   pub record HasPrimeRows : Type 0 where
     pub at_needed : (at : Levels) → IsValuedPoint t m fuses at → is_needed at ≡ true → list_any (row_value t fuses at) (data_rows t c) ≡ true
     pub at_allowed : (at : Levels) → IsValuedPoint t m fuses at → list_any (row_value t fuses at) (data_rows t c) ≡ true → or_allows at true ≡ true

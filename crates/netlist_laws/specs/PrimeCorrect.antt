@@ -24,13 +24,13 @@ FittedRowsArePrime =
     (t : Table) (m : ModuleTree) (net : PlainNetlist) (fuses : List Bool) → IsDevice t → net ≡ netlist_of t m → IsSound t net
     → IsFitted t (netlist_shown t fuses net) fuses → (c : ℕ) → c < length t.cells → IsAssignedCell (design_of t m).context c → HasPrimeRows t m fuses c
 
--- the rows of a cell that nothing assigns are all 0, and it is inverted and combinational where the device leaves the choice
+-- the rows of a cell that nothing assigns are all 0, and it is inverted and combinational if the device leaves the choice
 abbrev pub FittedSparesAreUnused : Type 0
 FittedSparesAreUnused =
     (t : Table) (m : ModuleTree) (net : PlainNetlist) (fuses : List Bool) → IsDevice t → net ≡ netlist_of t m
     → IsFitted t (netlist_shown t fuses net) fuses → (c : ℕ) → c < length t.cells → IsUnassignedCell (design_of t m).context c → IsSpareCell t fuses c
 
--- where each register is on a cell too, the rows of the controls are those of the module's own
+-- if each register is on a cell too, the rows of the controls are those of the module's own
 abbrev pub FittedControlsAreOwn : Type 0
 FittedControlsAreOwn =
     (t : Table) (m : ModuleTree) (net : PlainNetlist) (fuses : List Bool) → IsDevice t → RegistersHaveCells (design_of t m).context → net ≡ netlist_of t m

@@ -27,7 +27,7 @@ IsPrimeRow t net fuses allowed row =
     (column : ℕ) → column < t.columns → is_on (row_fuses t fuses row) column ≡ false
     → ((at : Levels) → IsValuedFor t net at → value_without t fuses at row column ≡ true → allowed at ≡ true) → ⊥
 
--- some row of the list, but for this one, is true
+-- some row of the list, except for this one, is true
 abbrev pub any_other : Table → List Bool → Levels → List ℕ → ℕ → Bool
 any_other t fuses at rows row = list_any (λ other. not (other == row) && row_value t fuses at other) rows
 

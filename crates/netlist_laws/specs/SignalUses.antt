@@ -6,7 +6,7 @@ use Rattle.abel_meaning.specs.Sections.{contributions}
 use Rattle.abel_meaning.specs.Sources.{Source, Zero, LeafRead, source_of}
 use Rattle.abel_meaning.specs.Terms.{Term, Terms, Number, X, Pulse, Release, Read, Set, UnaryOf, BinaryOf, NoTerm, Before}
 
--- a signal where an expression reads it, with what is asked of it
+-- a signal if an expression reads it, with what is asked of it
 pub record SignalUse : Type 0 where
   pub signal : ℕ
   pub extension : Option Extension

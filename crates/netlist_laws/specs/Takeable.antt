@@ -1,4 +1,4 @@
--- When a device can take the netlist of a module: what holds where nothing is refused (this project's rule, over the
+-- When a device can take the netlist of a module: what holds if nothing is refused (this project's rule, over the
 -- devices' datasheets).
 use Rattle.std.specs.Prelude.{◌≡◌, ℕ, ◌<◌, Bool, true, false, Option, None, Some, IsSome, List, length, slice_get}
 use Rattle.pld_device.specs.declared.carry.Carry.TheVariants as carry
@@ -66,12 +66,12 @@ ReadsHaveColumns d =
 
 -- ---- what cells are asked to be
 
--- each assigned cell may have its signal's kind, and no register follows Q where the device can't complement behind it
+-- each assigned cell may have its signal's kind, and no register follows Q if the device can't complement after it
 pub record IsAllowedOn (d : Context) (s c : ℕ) : Type 0 where
   pub kind : MayRegister (cell_at d.device c).kinds (is_stored (name_at d s))
   pub buffer : is_stored (name_at d s) ≡ true → follows_q (name_at d s) ≡ true → d.device.flip ≡ AfterRegister
 
--- an equation for this control is there only where the device has such a row
+-- an equation for this control is there only if the device has such a row
 abbrev pub ControlIsThere : Design → Extension → (row : Option ℕ) → Type 0
 ControlIsThere d e row =
     (s : ℕ) (f : Formula) → control_of (formulas d.context) (given_formulas d) s e ≡ Some f → IsSome row
@@ -80,7 +80,7 @@ ControlIsThere d e row =
 abbrev pub HasNoEquation : Design → Extension → Type 0
 HasNoEquation d e = (s : ℕ) → control_of (formulas d.context) (given_formulas d) s e ≡ None
 
--- a free register has data that are its name's, the device complements behind the register, and none is reset or preset
+-- a free register has data that are its name's, the device complements after the register, and none is reset or preset
 pub record MayChoose (d : Design) (s : ℕ) : Type 0 where
   pub named : is_raw_signal (given_formulas d) s ≡ false
   pub behind : d.context.device.flip ≡ AfterRegister

@@ -9,9 +9,9 @@ pub fn fitted_values()
     ensures { FittedRefines }
 {}
 
-/// A device with the fuses of a sound netlist does what the netlist says: it comes to rest and runs in exactly one
-/// way, and each of its runs is one of the netlist's. One with the fuses of the netlist under the choice that they show
-/// does so under this choice. Does nothing.
+/// A device with the fuses of a sound netlist does what the netlist says: it settles and runs in exactly one way, and
+/// each of its runs is one of the netlist's. One with the fuses of the netlist under the choice that they show does so
+/// under this choice. Does nothing.
 pub fn fitted_runs()
     ensures same { FittedDoesTheSame }
     ensures chosen { FittedDoesTheChosen }

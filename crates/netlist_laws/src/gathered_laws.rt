@@ -8,8 +8,8 @@ pub fn netlist_means_the_same()
     ensures { GatheredMeansTheSame }
 {}
 
-/// Where nothing is refused that a device can't take, the netlist of a module is sound for the device: what it reads
-/// has columns, each cell is one that the device can have and stands once, no signal waits for itself, and no reset
+/// If nothing is refused that a device can't take, the netlist of a module is sound for the device: what it reads
+/// has columns, each cell is one that the device can have and is once, no signal waits for itself, and no reset
 /// reads a register. Does nothing.
 pub fn netlist_is_sound()
     ensures { GatheredIsSound }

@@ -16,7 +16,7 @@ pub fn fitted_spares_are_unused()
     ensures { FittedSparesAreUnused }
 {}
 
-/// In the fuses of a module's netlist the rows of the controls are those of the module's own, all 0 where these are. Does
+/// In the fuses of a module's netlist the rows of the controls are those of the module's own, all 0 if these are. Does
 /// nothing.
 pub fn fitted_controls_are_own()
     ensures { FittedControlsAreOwn }

@@ -25,7 +25,7 @@ fn are_same(here: &Point, there: &Point) -> bool {
     here.pins == there.pins && here.q == there.q
 }
 
-/// Whether both come to rest alike, and step alike as the clock's pin changes.
+/// Whether both settle alike, and step alike as the clock's pin changes.
 fn turn_alike<A: Logic, B: Logic>(left: &A, right: &B, outside: u32, stored: u32) -> bool
     requires left { IsOrdered (A.meaning left.now) }
     requires right { IsOrdered (B.meaning right.now) }

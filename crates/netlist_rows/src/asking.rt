@@ -39,7 +39,7 @@ fn ask_row(alloc: Global, section: &str, names: &Found, row: &Row, report: &mut 
     report.row(row.number, wanted.as_bytes(), &found)
 }
 
-/// The report on a section of rows. A row `names ..` has what stands before the text of the rows behind it, and a row that
+/// The report on a section of rows. A row `names ..` has what precedes the text of the rows after it, and a row that
 /// begins with a blank goes on with that.
 fn report_rows(alloc: Global, section: &Section) -> Found {
     let mut report = Report::new(alloc, section.name);

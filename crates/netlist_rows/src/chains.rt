@@ -43,7 +43,7 @@ pub(crate) fn put_loop(alloc: Global, text: &str, found: &mut Found) -> Option<(
     Some(())
 }
 
-/// The path to a register from the leaves that stand before the links.
+/// The path to a register from the leaves that precede the links.
 pub(crate) fn put_path(alloc: Global, text: &str, found: &mut Found) -> Option<()> {
     let (from, links) = text.split_once(": ")?;
     let from = reads_of(from)?;

@@ -49,7 +49,7 @@ pub(crate) fn names_of<D: Device>(alloc: Global, source: &Module) -> Option<Name
     }
 }
 
-/// The names with the signals that each stands for.
+/// The names with the signals that each represents.
 pub(crate) fn scope_of<D: Device>(
     alloc: Global,
     names: &Names,
@@ -74,7 +74,7 @@ fn sections_of<D: Device>(alloc: Global, source: &Module, names: &Names) -> Opti
     }
 }
 
-/// A module with what is found of it, where nothing is refused of its names and its sections.
+/// A module with what is found of it, if nothing is refused of its names and its sections.
 pub(crate) fn draw<D: Device>(alloc: Global, source: Module) -> Option<Drawn>
     ensures drawn { IfSome result (IsDrawn D.table) }
     ensures few { IfSome result (λ d. length d.vectors.items ≤ 9999) }
@@ -101,7 +101,7 @@ pub(crate) struct ModuleNet {
     pub(crate) net: Netlist,
 }
 
-/// A module with its netlist, which the device can take, and the test vectors, where nothing is refused of the design.
+/// A module with its netlist, which the device can take, and the test vectors, if nothing is refused of the design.
 pub(crate) fn gathered<D: Device>(alloc: Global, drawn: Drawn) -> Option<(ModuleNet, Vec<Vector>)>
     requires drawn { IsDrawn D.table drawn }
     requires few { length drawn.vectors.items ≤ 9999 }

@@ -57,7 +57,7 @@ fn put_mismatches<D: Device>(alloc: Global, file: &FuseFile, found: &mut Found) 
     Some(())
 }
 
-/// The cells and the fuses of a source that fits; whether the device does as its module, where that is asked; and how
+/// The cells and the fuses of a source that fits; whether the device does as its module, if that is asked; and how
 /// often it disagrees with the vectors.
 fn put_fit<D: Device>(
     alloc: Global,
@@ -85,7 +85,7 @@ fn put_fit<D: Device>(
     put_mismatches::<D>(alloc, &file, found)
 }
 
-/// What a block says: lines of a source, and behind `=> ` its cells, and its fuses, of which the blanks don't count.
+/// What a block says: lines of a source, and after `=> ` its cells, and its fuses, of which the blanks don't count.
 #[derive(Drop)]
 struct Block {
     source: Found,

@@ -44,7 +44,7 @@ pub(crate) fn reads_of(words: &str) -> Option<Reads> {
     Some(reads)
 }
 
-/// A signal with no leaf, `-`, or a leaf; behind `<` stands what it reads. The Q of a cell is that of a register.
+/// A signal with no leaf, `-`, or a leaf; after `<` is what it reads. The Q of a cell is that of a register.
 fn link_of(word: &str) -> Option<Link>
     ensures { IfSome result HasLeaf }
 {

@@ -1,4 +1,4 @@
-//! How a module of the sample device comes to rest and steps, with any as 0.
+//! How a module of the sample device settles and steps, with any as 0.
 
 ghost use Rattle.std.specs.Prelude.{◌≡◌};
 ghost use Rattle.netlist_rows.specs.Prelude.{sample, ModuleTree, plain_netlist, IsSoundNetlist, MeansTheSame, netlist_of};
@@ -35,7 +35,7 @@ fn put_point(at: &Point, driven: u32, found: &mut Found) {
     found.text(";")
 }
 
-/// The levels of the pins, or cells, whose numbers stand between blanks.
+/// The levels of the pins, or cells, whose numbers are between blanks.
 fn levels_of(text: &str) -> Option<u32> {
     let mut levels = 0u32;
     for word in text.split_whitespace() {
@@ -57,8 +57,8 @@ fn steps_of(alloc: Global, text: &str) -> Option<Vec<u32>> {
     Some(steps)
 }
 
-/// The points of a module with the free registers of these cells inverted: at rest with low pins and stored Qs that are 1, and
-/// then behind each step.
+/// The points of a module with the free registers of these cells inverted: at rest with low pins and stored Qs that are 1,
+/// and then after each step.
 fn put_steps(
     alloc: Global,
     made: &ModuleNet,
@@ -83,8 +83,8 @@ fn put_steps(
     Some(())
 }
 
-/// The points of the one module of the names, at rest and behind steps to the levels of a text; before a colon stand the cells
-/// that invert, where any do.
+/// The points of the one module of the names, at rest and after steps to the levels of a text; before a colon are the cells
+/// that invert, if any do.
 pub(crate) fn put_run(alloc: Global, names: &Found, text: &str, found: &mut Found) -> Option<()> {
     let module = row_module(alloc, names, "", "", "")?;
     let (made, _vectors) = gathered::<Sample>(alloc, draw::<Sample>(alloc, module)?)?;

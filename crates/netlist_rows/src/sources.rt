@@ -5,7 +5,7 @@ use module_reader::read_module;
 use std::alloc::Global;
 use test_rows::Found;
 
-/// The line of a source on which the text of a row stands, from its first column on.
+/// The line of a source on which the text of a row is, from its first column on.
 pub(crate) const ROW: u32 = 4;
 
 /// More bytes than any source of a row has.
@@ -19,7 +19,7 @@ fn read(alloc: Global, text: &[u8]) -> Option<Module> {
     read_module(alloc, text).ok()
 }
 
-/// The module that these bytes spell behind MODULE and before END.
+/// The module that these bytes spell after MODULE and before END.
 pub(crate) fn module_of(alloc: Global, inner: &[u8]) -> Option<Module> {
     let mut source = Found::new(alloc);
     source.text("module m\n");

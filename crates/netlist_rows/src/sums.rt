@@ -72,7 +72,7 @@ const UNMATCHED: Contribution = Contribution {
 
 const FREE: [Contribution; 1] = [UNMATCHED];
 
-// Behind the table, Y.D = 1.
+// After the table, Y.D = 1.
 const FIXED: [Contribution; 2] = [
     UNMATCHED,
     Contribution {
@@ -106,7 +106,7 @@ const LOOSE: [Contribution; 2] = [
     },
 ];
 
-// Behind the table, a diagram that is don't-care for Y has !Y in it, and never matches.
+// After the table, a diagram that is don't-care for Y has !Y in it, and never matches.
 const BOTH_FREE: [Contribution; 2] = [
     UNMATCHED,
     Contribution {

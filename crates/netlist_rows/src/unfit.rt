@@ -10,7 +10,7 @@ use pld_device::Device;
 use std::alloc::Global;
 use test_rows::Found;
 
-/// How many rows a cover has, `-` where there is none.
+/// How many rows a cover has, `-` if there isn't one.
 fn put_count(cover: &Option<Vec<Cube>>, found: &mut Found) {
     match cover {
         Some(rows) => put_number(rows.len(), found),

@@ -4,7 +4,7 @@ use Rattle.pin_matching.proofs.Common.{true≢false, cases_lt, and_parts, or_cas
 use Rattle.pin_matching.proofs.Lists.{has_at}
 use Rattle.pin_matching.proofs.Narrowed.{length_narrowed, fits_fixed, fits_later}
 
--- what stands before what a list has at a place
+-- what precedes what a list has at a place
 pub stands_at : (xs : List ℕ) (better k : ℕ) → k < length xs → stands_before xs better (get_or xs k 0) ≡ true → (j : ℕ) × (j < k) × (get_or xs j 0 ≡ better)
 stands_at [] better k low found = absurd (true≢false (sym found))
 stands_at (x ∷ xs) better zero low found = absurd (true≢false (sym (and_parts (not (eqb x x)) (eqb better x || stands_before xs better x) found).0 ∙ rw (eqb_same x) refl))

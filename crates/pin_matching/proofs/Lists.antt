@@ -6,7 +6,7 @@ use Rattle.std.proofs.lemmas.List.Elements.{recursion_from_All}
 pub has_at : (xs : List ℕ) (i : ℕ) → i < length xs → has xs (get_or xs i 0) ≡ true
 has_at xs i low = list_any_at (eqb (get_or xs i 0)) xs i 0 low (eqb_same (get_or xs i 0))
 
--- equal numbers of a list that has each once stand at one place
+-- equal numbers of a list that has each once are at one place
 pub same_place : (xs : List ℕ) (i j : ℕ) → IsDistinct eqb xs → i < length xs → j < length xs → get_or xs i 0 ≡ get_or xs j 0 → i ≡ j
 same_place xs i j once i_in j_in same =
     elim (cases_lt i j) [
@@ -28,7 +28,7 @@ once_by_places xs same = IsDistinct-from_apart eqb xs (λ i j d less j_in.
 pub fewer : (xs ys : List ℕ) → IsDistinct eqb xs → ((v : ℕ) → has xs v ≡ true → has ys v ≡ true) → length xs ≤ length ys
 fewer xs ys once inside = length-le_from_is_member nat_eq_equiv xs ys once inside
 
--- and where they are as many, they are all that it has
+-- and if they are as many, they are all that it has
 pub all_of : (xs ys : List ℕ) → IsDistinct eqb xs → ((v : ℕ) → has xs v ≡ true → has ys v ≡ true) → length ys ≤ length xs → (v : ℕ) → has ys v ≡ true → has xs v ≡ true
 all_of xs ys once inside long v found =
     elim (cases_Bool (has xs v)) [
@@ -75,7 +75,7 @@ unique_once (x ∷ xs) =
 
 -- ---- a list without a number
 
--- the numbers but for one
+-- the numbers except for one
 abbrev pub without : ℕ → List ℕ → List ℕ
 without k xs = filter (λ s. not (eqb s k)) xs
 

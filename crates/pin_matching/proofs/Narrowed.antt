@@ -1,4 +1,4 @@
--- Wishes cut short, and wishes where the first signals have pins already.
+-- Wishes cut short, and wishes if the first signals have pins already.
 use Rattle.std.proofs.Common.{◌≡◌, ℕ, ◌-◌, ◌<◌, ◌≤◌, Bool, true, false, ◌||◌, eqb, List, [], ◌∷◌, length, get_or, take, drop, map, refl, ap, sym, ◌∙◌, arith, length-append, length-drop}
 use Rattle.pin_matching.proofs.Common.{IsDistinct, get_or-map, get_or-take, get_or-drop, get_or_append_left, get_or-append_right, length-map, length-take, has, wish_of, fits, IsAssignment, narrowed}
 use Rattle.pin_matching.proofs.Lists.{once_by_places, same_place}

@@ -4,7 +4,7 @@ use Rattle.pin_matching.proofs.Common.{IsStrictlySortedBy, true≢false, cases_e
 use Rattle.std.specs.Ordering.{nat_cmp}
 use Rattle.pin_matching.proofs.Narrowed.{front}
 
--- of two numbers that a list has, one stands before the other
+-- of two numbers that a list has, one precedes the other
 one_before : (xs : List ℕ) (a b : ℕ) → has xs a ≡ true → has xs b ≡ true → (a ≡ b → ⊥) → (stands_before xs a b ≡ true) ⊎ (stands_before xs b a ≡ true)
 one_before [] a b a_in b_in apart = absurd (true≢false (sym a_in))
 one_before (x ∷ xs) a b a_in b_in apart =
@@ -80,7 +80,7 @@ same_first wishes m n first second =
           ]
     ]
 
--- numbers that rise are the same where each list has those of the other
+-- numbers that rise are the same if each list has those of the other
 rise_more : (x : ℕ) (xs : List ℕ) → IsStrictlySortedBy nat_cmp (x ∷ xs) → (s : ℕ) → has xs s ≡ true → x < s
 rise_more x xs rising s there =
     let place = place_of xs s there in

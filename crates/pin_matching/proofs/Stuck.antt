@@ -1,4 +1,4 @@
--- Where the next signal reaches no free pin, the signals that it reaches are the least crowded set.
+-- If the next signal reaches no free pin, the signals that it reaches are the least crowded set.
 use Rattle.std.proofs.Common.{◌≡◌, ℕ, zero, suc, ◌<◌, ◌≤◌, true, false, not, eqb, List, [], ◌∷◌, length, get_or, take, refl, ap, sym, ◌∙◌, subst, arith, inl, inr, eqb-true}
 use Rattle.pin_matching.proofs.Common.{IsDistinct, distinct_count, IsPermutation, IsStrictlyIncreasing, true≢false, cases_Bool, cases_eq, or_cases, or_right, and_parts, length-take, list_any-IsPermutation, IsDistinct-tail, has, fits, places, IsCrowded, IsKept, AreReached, AreStuck, IsBegun, IsClosed, NoneIsFree, eqb_same, place_of}
 use Rattle.pin_matching.proofs.Hall.{fitting, has_fitting, fits_member, member_fitted, places_le, le_places, full_places, same_fitting, same_places, pins_of, pins_once, length_pins_of, signal_of, has_pin_of, assigned_fit, not_crowded}
@@ -105,7 +105,7 @@ module _ (wishes : List (List ℕ)) (pins : List ℕ) (begun : IsBegun wishes pi
           fewer = rw (same out) crowded.fewer;
         }
 
-    -- its members but for the next signal
+    -- its members except for the next signal
     abbrev placed : List ℕ
     placed = without (length pins) others
 

@@ -14,7 +14,7 @@ wish_of wishes signal = get_or wishes signal []
 abbrev pub fits : List (List ℕ) → (signal pin : ℕ) → Bool
 fits wishes signal pin = has (wish_of wishes signal) pin
 
--- each signal has a pin that fits it, no two the same; pins stand in the order of the signals
+-- each signal has a pin that fits it, no two the same; pins are in the order of the signals
 pub record IsAssignment (wishes : List (List ℕ)) (pins : List ℕ) : Type 0 where
   pub each : length pins ≡ length wishes
   pub fit : (s : ℕ) → s < length wishes → fits wishes s (get_or pins s 0) ≡ true
@@ -28,13 +28,13 @@ CanPlace wishes = (pins : List ℕ) × IsAssignment wishes pins
 abbrev pub CannotPlace : List (List ℕ) → Type 0
 CannotPlace wishes = (pins : List ℕ) → IsAssignment wishes pins → ⊥
 
--- the first number stands in the list, and before the first place of the second
+-- the first number is in the list, and before the first place of the second
 abbrev pub stands_before : List ℕ → (first second : ℕ) → Bool
 stands_before [] first second = false
 stands_before (x ∷ xs) first second = not (x == second) && ((first == x) || stands_before xs first second)
 
--- the assignment that is taken: no signal prefers a pin to its own with which, where the signals before it keep theirs,
--- it and all later ones can still be placed
+-- the assignment that is taken: no signal prefers a pin to its own with which, if the signals before it keep theirs, it
+-- and all later ones can still be placed
 pub record IsTaken (wishes : List (List ℕ)) (pins : List ℕ) : Type 0 where
   pub is_assignment : IsAssignment wishes pins
   pub first : (s better : ℕ) → s < length wishes

@@ -5,7 +5,7 @@ use Rattle.std.specs.Global.{Vec}
 use Rattle.pld_order.specs.Graphs.{has}
 use Rattle.pin_matching.specs.Assignments.{fits, IsAssignment}
 
--- the wishes where the first signals have pins already
+-- the wishes if the first signals have pins already
 abbrev pub narrowed : List (List ℕ) → List ℕ → List (List ℕ)
 narrowed wishes fixed = map (λ p. p ∷ []) fixed ++ drop (length fixed) wishes
 
@@ -14,7 +14,7 @@ pub record IsBegun (wishes : List (List ℕ)) (pins : List ℕ) : Type 0 where
   pub more : length pins < length wishes
   pub placed : IsAssignment (take (length pins) wishes) pins
 
--- the pin of each of these, up to a place of the list and but for the first, fits one that stands before it
+-- the pin of each of these, up to a place of the list and except for the first, fits one that precedes it
 abbrev pub AreLed : List (List ℕ) → (pins reached : List ℕ) → ℕ → Type 0
 AreLed wishes pins reached last =
     (i : ℕ) → 0 < i → i ≤ last → i < length reached

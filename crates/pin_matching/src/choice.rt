@@ -13,7 +13,7 @@ use crate::wishes::Wish;
 use pld_base::OutOfMemory;
 use std::alloc::Global;
 
-/// Whether all signals can be placed where the first have these pins.
+/// Whether all signals can be placed if the first have these pins.
 fn can_place(alloc: Global, wishes: &[Wish], fixed: &[u32]) -> Result<bool, OutOfMemory>
     requires { length fixed.now ≤ length wishes.now }
     ensures { IfOk result (AnswersWhether (narrowed wishes.now fixed.now)) }
@@ -42,7 +42,7 @@ fn choose_next(alloc: Global, wishes: &[Wish], pins: &mut Vec<u32>) -> Result<()
     unreachable!()
 }
 
-/// The assignment that is taken, or why there is none.
+/// The assignment that is taken, or why there isn't one.
 pub fn first_assignment(alloc: Global, wishes: &[Wish]) -> Result<Vec<u32>, Unplaced>
     ensures taken { IfOk result (λ pins. IsTaken wishes.now pins.items) }
     ensures refused { IfErr result (IsRefusal wishes.now) }

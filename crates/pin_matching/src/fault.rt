@@ -7,7 +7,7 @@ use thiserror::Error;
 /// Why signals can't all be placed.
 #[derive(Drop, Error)]
 pub enum Unplaced {
-    /// Too few pins fit these signals, which stand in rising order; `places` is how many fit some of them.
+    /// Too few pins fit these signals, which are in rising order; `places` is how many fit some of them.
     #[error("too few pins")]
     NoPlacement { signals: Vec<usize>, places: usize },
     /// Memory ran out.

@@ -1,4 +1,4 @@
-//! An assignment of pins to signals, one signal after the other: where no pin that fits the next signal is
+//! An assignment of pins to signals, one signal after the other: if no pin that fits the next signal is
 //! free, some of those placed before it move to others of their pins (augmenting paths; Kuhn's method).
 
 ghost use Rattle.std.specs.Prelude.{◌≡◌, ℕ, suc, ◌<◌, ◌≤◌, IfOk, IfErr, OnOk, IfNone, IfSome, get_or, length, take};
@@ -43,7 +43,7 @@ fn shift(
     Ok(())
 }
 
-/// Places the next signal, or answers the signals that it reaches where none of them has a free pin.
+/// Places the next signal, or answers the signals that it reaches if none of them has a free pin.
 fn place_next(
     alloc: Global,
     wishes: &[Wish],
@@ -64,7 +64,7 @@ fn place_next(
     }
 }
 
-/// What is kept where the next signal can't be placed together with those before it.
+/// What is kept if the next signal can't be placed together with those before it.
 fn kept(
     wishes: &[Wish],
     fixed: &[u32],
@@ -83,7 +83,7 @@ fn kept(
     })
 }
 
-/// An assignment where the first signals have these pins, or why there is none.
+/// An assignment if the first signals have these pins, or why there isn't one.
 pub(crate) fn matching(alloc: Global, wishes: &[Wish], fixed: &[u32]) -> Result<Vec<u32>, Unplaced>
     requires fixed { length fixed.now ≤ length wishes.now }
     ensures ok { IfOk result (λ pins. IsAssignment (narrowed wishes.now fixed.now) pins.items) }

@@ -49,7 +49,7 @@ pub(crate) fn is_among(list: &[u32], number: u32) -> bool
     false
 }
 
-/// Whether the pin fits the signal, where the first signals have pins already.
+/// Whether the pin fits the signal, if the first signals have pins already.
 pub(crate) fn is_fit(wishes: &[Wish], fixed: &[u32], signal: usize, pin: u32) -> bool
     requires fixed { length fixed.now ≤ length wishes.now }
     requires inside { signal < length wishes.now }
@@ -75,7 +75,7 @@ fn one_outside(list: &[u32], pins: &[u32]) -> Option<u32>
     None
 }
 
-/// A free pin that fits the signal, where the first signals have pins already.
+/// A free pin that fits the signal, if the first signals have pins already.
 pub(crate) fn free_pin(wishes: &[Wish], fixed: &[u32], pins: &[u32], signal: usize) -> Option<u32>
     requires fixed { length fixed.now ≤ length wishes.now }
     requires inside { signal < length wishes.now }

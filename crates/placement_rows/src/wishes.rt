@@ -66,8 +66,8 @@ pub(crate) fn put_answer(alloc: Global, text: &str, found: &mut Found) -> Option
     Some(())
 }
 
-/// The same where a text has the number of signals and the one wish of all of them: how many pins they are given, or how
-/// many signals are too many.
+/// The same if a text has the number of signals and the one wish of all of them: how many pins they are given, or how many
+/// signals are too many.
 pub(crate) fn put_sizes(alloc: Global, text: &str, found: &mut Found) -> Option<()> {
     let (count, wish) = text.split_once('|')?;
     let wishes = equal_wishes(alloc, count.trim().parse::<usize>().ok()?, wish)?;

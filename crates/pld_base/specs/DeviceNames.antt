@@ -5,7 +5,7 @@ use Rattle.std.specs.Str.{str_to_ascii_lowercase}
 use Rattle.pld_base.specs.declared.device_name.DeviceName.{DeviceName}
 use Rattle.pld_base.specs.declared.device_name.DeviceName.TheVariants.{P16L8, P16R4, P16R6, P16R8, GAL22V10, GAL16V8C, GAL16V8R4, GAL16V8R6, GAL16V8R8}
 
--- the bytes of a device's name, as it stands in fuse files and reports
+-- the bytes of a device's name, as it is in fuse files and reports
 abbrev pub device_text : DeviceName → List ℕ
 device_text P16L8 = codes "P16L8"
 device_text P16R4 = codes "P16R4"

@@ -1,4 +1,4 @@
--- Texts by where they lie.
+-- Texts by their places.
 use Rattle.std.specs.Prelude.{ℕ, ◌≤◌, List, take}
 use Rattle.pld_base.specs.declared.name_text.Text.{Text}
 use Rattle.pld_base.specs.declared.name_text.Text.TheVariants.{Short, Long}

@@ -18,7 +18,7 @@ pub enum DeviceName {
 }
 
 impl DeviceName {
-    /// The name as it stands in fuse files and reports.
+    /// The name as it is in fuse files and reports.
     pub fn text(&self) -> &'static str
         ensures { result.now ≡ device_text self.now }
     {

@@ -42,7 +42,7 @@ fn hex(digit: u8) -> u8
     }
 }
 
-/// Appends a number as four hexadecimal digits in upper case, as sums stand in fuse files and reports.
+/// Appends a number as four hexadecimal digits in upper case, as sums are in fuse files and reports.
 pub fn put_hex(out: &mut Vec<u8>, number: u16) -> Result<(), OutOfMemory>
     ensures { OnOk result (out.new.items ≡ out.old.items ++ four_hex number) }
 {

@@ -12,19 +12,19 @@ const SHORT: usize = 14;
 
 /// A name or another piece of a source, seen by contracts as its bytes.
 ///
-/// It takes 16 bytes, and memory beyond them only where it is longer than 14: a token or a tree of short
+/// It takes 16 bytes, and memory beyond them only if it is longer than 14: a token or a tree of short
 /// names takes no more memory than itself.
 #[derive(Drop)]
 pub struct NameText {
     text: Text,
 }
 
-/// A text by where it lies.
+/// A text by its place.
 #[derive(Drop)]
 enum Text {
     /// The first `length` of these bytes.
     Short { length: u8, bytes: [u8; SHORT] },
-    /// The bytes on the heap, behind one pointer.
+    /// The bytes on the heap, after one pointer.
     Long(Box<Vec<u8>>),
 }
 

@@ -17,7 +17,7 @@ pub struct Trace {
     pub level: u32,
 }
 
-/// A test vector: the character of pin p stands at p - 1 (JESD3-C, test vector field).
+/// A test vector: the character of pin p is at p - 1 (JESD3-C, test vector field).
 #[derive(Clone, Copy, PartialEq, Eq)]
 pub struct Vector {
     pub chars: [u8; 24],

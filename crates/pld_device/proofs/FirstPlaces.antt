@@ -20,7 +20,7 @@ module _ {X : Type 0} (p : X → Bool) (y : X) (xs : List X) where
   pub place_later : (k : ℕ) → k < length xs → p (get_or xs k y) ≡ false → position_from p k (drop k xs) ≡ position_from p (k + 1) (drop (k + 1) xs)
   place_later k within miss = from_here k within ∙ ap (λ b. cond b (Some k) (position_from p (k + 1) (drop (k + 1) xs))) miss
 
-  -- there is none
+  -- there isn't one
   pub place_none : (k : ℕ) → length xs ≤ k → position_from p k (drop k xs) ≡ None
   place_none k past = ap (λ ys. position_from p k ys) (drop_all k xs past)
 

@@ -1,4 +1,4 @@
--- Each cell of a device has a pin of its own, and no two of its pairs stand for one pin.
+-- Each cell of a device has a pin of its own, and no two of its pairs represent one pin.
 use Rattle.std.proofs.Common.{◌≡◌, ℕ, zero, suc, ◌<◌, List, [], ◌∷◌, length, map, get_or, slice_get, Some, refl, ap, sym, ◌∙◌, arith, inl, inr}
 use Rattle.pld_device.proofs.Common.{cases_lt, Carry, Table, cell_at, no_cell, HasOwnPins, PairsApart, pin_carried, HasPairs, IsPair, IsDevice}
 use Rattle.pld_device.specs.declared.carry.Carry.TheVariants as carry

@@ -1,4 +1,4 @@
--- A row has the same value at points where each pair that it reads has the same value.
+-- A row has the same value at points at which each pair that it reads has the same value.
 use Rattle.std.proofs.Common.{◌≡◌, ℕ, suc, ◌+◌, ◌*◌, ◌-◌, ◌≤◌, Bool, true, false, not, ◌&&◌, ◌||◌, List, [], ◌∷◌, length, drop, refl, ap, sym, ◌∙◌, arith, inl, inr}
 use Rattle.pld_device.proofs.Common.{cases_Bool, length-map, length-take, is_on, Table, carried, columns_of, pair_values, row_fuses, row_is_true, is_switched_on, row_value, has_whole_pair, connected_pairs, is_never_true, row_reads}
 use Rattle.pld_base.specs.Points.{Levels}
@@ -31,7 +31,7 @@ two_columns true true v w r s same rest = rest
 two_columns true false v w r s same rest = rw (same refl, rest) refl
 two_columns false higher v w r s same rest = rw (same refl, rest) refl
 
--- without such a pair the row is told by the pairs that have a column connected
+-- without such a pair the row is given by the pairs that have a column connected
 connected_same : (fuses values others : List Bool) → length values ≡ length others → ((pair : ℕ) → is_on (connected_pairs fuses) pair ≡ true → is_on values pair ≡ is_on others pair) → row_is_true fuses (columns_of values) ≡ row_is_true fuses (columns_of others)
 connected_same [] values others long same = refl
 connected_same (lower ∷ fuses) [] [] long same = refl
@@ -61,7 +61,7 @@ never_true t fuses row at wide never =
     off true false value either down = absurd cc
     off false whole value either down = refl
 
--- a row is told by the pairs that it reads
+-- a row is given by the pairs that it reads
 pub row_same : (t : Table) (fuses : List Bool) (row : ℕ) (a b : Levels) → t.columns ≤ 2 * length t.pairs → ((pair : ℕ) → row_reads t fuses row pair ≡ true → is_on (pair_values t fuses a) pair ≡ is_on (pair_values t fuses b) pair) → row_value t fuses a row ≡ row_value t fuses b row
 row_same t fuses row a b wide same =
     elim (cases_Bool (is_never_true t fuses row)) [

@@ -1,4 +1,4 @@
--- Where a row is true, column by column, and where its fuses stand.
+-- When a row is true, column by column, and the places of its fuses.
 use Rattle.std.proofs.Common.{◌≡◌, ◌↔◌, zero, suc, Bool, true, false, ◌||◌, List, [], ◌∷◌, refl, arith}
 use Rattle.pld_device.proofs.Common.{and_parts, true≢false, row_is_true, CarriesAll}
 

@@ -1,4 +1,4 @@
--- What the cells of a device do not change while they come to rest (this project's rule).
+-- What the cells of a device do not change while they settle (this project's rule).
 use Rattle.std.specs.Prelude.{◌≡◌, ℕ, ◌<◌, Bool, true, false, not, ◌||◌, ◌==◌, None, Some, List, length, slice_get}
 use Rattle.std.specs.List.{list_any}
 use Rattle.pld_device.specs.declared.carry.Carry.{Carry}

@@ -1,5 +1,5 @@
 -- Tests that compute over a table, one a law, and that show its laws (this project's rule). Their
--- proofs stand here and not in proofs/, since a device's `ghost` law reaches only specs/.
+-- proofs are here and not in proofs/, since a device's `ghost` law reaches only specs/.
 pub mod Cells
 pub mod Controls
 pub mod FuseLists

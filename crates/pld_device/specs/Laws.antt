@@ -18,7 +18,7 @@ pub data Use : Type 0 where
   Resets : Use
   Presets : Use
 
--- a use that there is where the test passes
+-- a use that there is if the test passes
 abbrev pub use_if : Bool → Use → List Use
 use_if true purpose = purpose ∷ []
 use_if false purpose = []
@@ -69,8 +69,8 @@ pub record IsSignalPin (t : Table) (pin : ℕ) : Type 0 where
   pub high : pin < t.pins
   pub not_ground : pin ≢ t.ground_pin
 
--- a cell: its pin is no clock and enables no cell, its rows are in the array, and there is a clock where it may
--- be a register. A pin that enables it is one for signals, and then it always is a register
+-- a cell: its pin is no clock and enables no cell, its rows are in the array, and there is a clock if it may be a
+-- register. A pin that enables it is one for signals, and then it always is a register
 pub record IsCell (t : Table) (cell : Cell) : Type 0 where
   pub pin : IsSignalPin t cell.pin
   pub not_clock : cell.pin ≢ t.clock
@@ -133,6 +133,6 @@ pub record IsDevice (t : Table) : Type 0 where
   pub registered_end : length t.registered ≤ length t.cells
   pub switches_end : length t.row_switches ≤ t.rows
   pub few_fixed : length t.fixed ≤ 16
-  -- a fuse says inverted unless the device always complements, and one says registered where a cell may be either
+  -- a fuse says inverted unless the device always complements, and one says registered if a cell may be either
   pub inverted : EachIndex t.cells (λ c. IsSome (inverted_at t c) ↔ (t.flip ≢ Always))
   pub registered : EachIndex t.cells (λ c. IsSome (registered_at t c) ↔ ((cell_at t c).kinds ≡ Either))

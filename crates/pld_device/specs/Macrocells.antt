@@ -30,7 +30,7 @@ enabled_by t fuses at (PinLow pin) = not (is_on at.pins pin)
 abbrev pub is_enabled : Table → List Bool → Levels → ℕ → Bool
 is_enabled t fuses at c = enabled_by t fuses at (cell_at t c).enable
 
--- the complement where the first is 1, else the value itself
+-- the complement if the first is 1, else the value itself
 abbrev pub complement_if : Bool → Bool → Bool
 complement_if true value = not value
 complement_if false value = value
@@ -41,7 +41,7 @@ pin_complements Always is_register inverted = true
 pin_complements AfterRegister is_register inverted = inverted
 pin_complements BeforeRegister is_register inverted = is_register || inverted
 
--- what stands at the cell's output: Q where it stores, else the OR
+-- what is at the cell's output: Q if it stores, else the OR
 abbrev pub output_value : Table → List Bool → Levels → ℕ → Bool
 output_value t fuses at c = if stores t fuses c then is_on at.q c else or_value t fuses at c
 

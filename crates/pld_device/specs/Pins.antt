@@ -35,7 +35,7 @@ IsPairOf t pin pair = slice_get (pair_pins t) pair ≡ Some pin
 abbrev pub IsCellOf : Table → (pin c : ℕ) → Type 0
 IsCellOf t pin c = slice_get (cell_pins t) c ≡ Some pin
 
--- no two pairs stand for one pin
+-- no two pairs represent one pin
 abbrev pub PairsApart : Table → Type 0
 PairsApart t = (pin p q : ℕ) → IsPairOf t pin p → IsPairOf t pin q → p ≡ q
 

@@ -17,7 +17,7 @@ ReadsSame t fuses row a b =
     (pair : ℕ) → row_reads t fuses row pair ≡ true
     → is_on (pair_values t fuses a) pair ≡ is_on (pair_values t fuses b) pair
 
--- at points where it reads the same, a row has the same value
+-- at points at which it reads the same, a row has the same value
 abbrev pub AreToldByReads : Table → Type 0
 AreToldByReads t =
     (fuses : List Bool) (row : ℕ) (a b : Levels) → ReadsSame t fuses row a b

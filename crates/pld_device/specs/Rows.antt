@@ -1,4 +1,4 @@
--- What the columns carry at a point, and where a row of the array is true (the devices' datasheets, logic
+-- What the columns carry at a point, and if a row of the array is true (the devices' datasheets, logic
 -- diagrams; what a row's switch does is this project's rule).
 use Rattle.std.specs.Prelude.{ℕ, ◌+◌, ◌*◌, Bool, true, not, ◌&&◌, ◌||◌, if◌then◌else◌, Option, None, Some, List, [], ◌∷◌, map, slice_get, slice_range}
 use Rattle.pld_base.specs.Bits.{is_on}
@@ -8,7 +8,7 @@ use Rattle.pld_device.specs.declared.carry.Carry.TheVariants as carry
 use Rattle.pld_device.specs.Table.{Table, cell_at}
 use Rattle.pld_device.specs.Registers.{stores}
 
--- what a cell feeds back: the complement of Q where it stores, else its pin's level
+-- what a cell feeds back: the complement of Q if it stores, else its pin's level
 abbrev pub feedback : Table → List Bool → Levels → ℕ → Bool
 feedback t fuses at c = if stores t fuses c then not (is_on at.q c) else is_on at.pins (cell_at t c).pin
 

@@ -1,5 +1,5 @@
--- A device's table: everything that tells one device from another (this project's rule, over the
--- logic diagrams and control fuses of the devices' datasheets).
+-- A device's table: everything that distinguishes one device from another (this project's rule,
+-- over the logic diagrams and control fuses of the devices' datasheets).
 use Rattle.std.specs.Prelude.{ℕ, ◌+◌, ◌<◌, ◌≤◌, Option, List, None, get_or, length}
 use Rattle.pld_base.specs.declared.device_name.DeviceName.{DeviceName}
 use Rattle.pld_device.specs.declared.carry.Carry.{Carry}
@@ -23,12 +23,12 @@ pub record Table : Type 0 where
   -- the array: row r has its fuses from columns * r on
   pub columns : ℕ
   pub rows : ℕ
-  -- the clock's pin, 0 where there is none
+  -- the clock's pin, 0 if there isn't one
   pub clock : ℕ
   -- the row that resets every register, and the one that presets it
   pub reset : Option ℕ
   pub preset : Option ℕ
-  -- where the device complements
+  -- if the device complements
   pub flip : Flip
   -- the cells, and what each pair of columns carries
   pub cells : List Cell
@@ -41,7 +41,7 @@ pub record Table : Type 0 where
   -- the fuses whose level is the same in every design
   pub fixed : List FuseBit
 
--- its numbers, as a device's type tells them
+-- its numbers, as a device's type gives them
 abbrev pub chip_of : Table → Chip
 chip_of t = record {
   name = t.name;
@@ -58,7 +58,7 @@ chip_of t = record {
   flip = t.flip;
 }
 
--- what stands for a cell past the last one
+-- what represents a cell past the last one
 abbrev pub no_cell : Cell
 no_cell = record { pin = 0; enable = Row 0; first = 0; room = 0; kinds = Combinational }
 

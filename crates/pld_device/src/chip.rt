@@ -3,7 +3,7 @@
 use crate::flip::Flip;
 use pld_base::DeviceName;
 
-/// What a device's type tells of the whole device.
+/// What a device's type says of the whole device.
 #[derive(Clone, Copy, PartialEq, Eq)]
 pub struct Chip {
     /// The device's name.
@@ -22,12 +22,12 @@ pub struct Chip {
     pub rows: u16,
     /// The number of cells.
     pub cells: u8,
-    /// The clock's pin, 0 where there is none.
+    /// The clock's pin, 0 if there isn't one.
     pub clock: u8,
     /// The row that resets every register.
     pub reset: Option<u16>,
     /// The row that presets every register.
     pub preset: Option<u16>,
-    /// Where the device complements.
+    /// If the device complements.
     pub flip: Flip,
 }

@@ -6,7 +6,7 @@ use crate::flip::Flip;
 use crate::fuse_bit::FuseBit;
 use pld_base::DeviceName;
 
-/// A device, as a type. Code for all devices knows of one only what stands here; what its crate writes of it is `Part`.
+/// A device, as a type. Code for all devices knows of one only what is here; what its crate writes of it is `Part`.
 pub trait Device {
     ghost use Rattle.std.specs.Prelude.{◌≡◌, ◌<◌, ℕ, Option, Some, slice_get, length};
     ghost use Rattle.pld_base.specs.declared.device_name.DeviceName.{DeviceName};
@@ -38,7 +38,7 @@ pub trait Device {
     /// The number of cells.
     const CELLS: u8;
 
-    /// The clock's pin, 0 where there is none.
+    /// The clock's pin, 0 if there isn't one.
     const CLOCK: u8;
 
     /// The row that resets every register.
@@ -47,7 +47,7 @@ pub trait Device {
     /// The row that presets every register.
     const PRESET: Option<u16>;
 
-    /// Where the device complements.
+    /// If the device complements.
     const FLIP: Flip;
 
     ghost NAME: { DeviceName };

@@ -1,7 +1,7 @@
-//! Where a device complements between its rows and its pins.
+//! If a device complements between its rows and its pins.
 
-/// Always at the pin, or where a control fuse says so: after the register, at the pin, or before
-/// it, at its data.
+/// Always at the pin, or if a control fuse says so: after the register, at the pin, or before it,
+/// at its data.
 #[derive(Clone, Copy, PartialEq, Eq)]
 pub enum Flip {
     Always,

@@ -12,7 +12,7 @@ ghost use Rattle.pld_device.specs.SampleTable.{twice_carried};
 ghost use Rattle.pld_device.specs.Table.{Table};
 ghost use Rattle.pld_device.specs.LawTests.{Passes};
 
-/// A row is true exactly where each of its connected columns carries 1, and what it reads tells its
+/// A row is true exactly if each of its connected columns carries 1, and what it reads gives its
 /// value. Does nothing.
 pub fn rows()
     ensures columns { (fs cs : List Bool) → (row_is_true fs cs ≡ true) ↔ CarriesAll fs cs }

@@ -1,4 +1,4 @@
-//! Where a device's pins and cells stand in its table.
+//! The places of a device's pins and cells in its table.
 
 ghost use Rattle.std.specs.Prelude.{◌≡◌, ◌<◌, ◌==◌, ℕ, IfSome, Some, length, position, slice_get};
 ghost use Rattle.pld_device.specs.Pins.{carries_cell, cell_on, pair_pins};

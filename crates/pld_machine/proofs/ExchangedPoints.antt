@@ -37,7 +37,7 @@ point_exchanged x at is = record { pins = is.pins; q = length_from x 0 at.q ∙ 
 pub point_back : (x : ℕ → Bool) (at : Levels) → IsPoint (exchanged_at x at) → IsPoint at
 point_back x at is = record { pins = is.pins; q = sym (length_from x 0 at.q) ∙ is.q; nodes = is.nodes }
 
--- a Q of the exchanged list, past its end too, where no cell is exchanged
+-- a Q of the exchanged list, past its end too, if no cell is exchanged
 pub q_any : (x : ℕ → Bool) (c k d : ℕ) (qs : List Bool) → d ≡ c + k → (x d ≡ true → k < length qs) → is_on (exchanged_from x c qs) k ≡ in_sense (x d) (is_on qs k)
 q_any x c k d [] at low =
     elim (cases_Bool (x d)) [

@@ -5,7 +5,7 @@ use Rattle.pld_machine.proofs.ExchangedRests.{rest_to}
 use Rattle.pld_machine.proofs.ExchangedPoints.{length_from, q_exchanged}
 
 module _ (x : ℕ → Bool) (m : Logic) (may : MayExchange x m) where
-  -- a Q behind the clock's edge is one that the logic allows in the other sense, since no reset or preset holds
+  -- a Q after the clock's edge is one that the logic allows in the other sense, since no reset or preset holds
   edge_to : (at : Levels) (c : ℕ) (q : Bool) → allows_q (exchanged x m) at c q ≡ true → allows_q m (exchanged_at x at) c (in_sense (x c) q) ≡ true
   edge_to at c q allowed =
       elim (cases_Bool (x c)) [

@@ -17,7 +17,7 @@ one_of_both : (f g : Bool → Bool) → ((v : Bool) → f v ≡ true → g v ≡
 one_of_both f g more less one same = one (sym (same_test f g more less true) ∙ (same ∙ same_test f g more less false))
 
 module _ (s r : Logic) (down : Refines s r) (up : Refines r s) where
-  -- where the second has no don't-care, neither has the first
+  -- if the second has no don't-care, neither has the first
   exact_too : HasNoDontCare r → HasNoDontCare s
   exact_too exact = record {
     level = λ at is c within on.
@@ -33,7 +33,7 @@ module _ (s r : Logic) (down : Refines s r) (up : Refines r s) where
   }
 
   module _ (values others : NodeValues) (agree : SameValues s values others) where
-    -- a point is valued in one where it is in the other
+    -- a point is valued in one if it is in the other
     valued_too : (at valued : Levels) → IsValuedOf s values at valued → IsValuedOf r others at valued
     valued_too at valued v = record {
       pins = v.pins;

@@ -1,4 +1,4 @@
--- Two logics that allow no more than each other rest and run the same, so where one has exactly one rest or
+-- Two logics that allow no more than each other rest and run the same, so if one has exactly one rest or
 -- run the other has it too.
 use Rattle.pld_machine.proofs.Common.{Logic, Refines, RestsOnce, RunsOnce}
 use Rattle.pld_machine.proofs.Refined.{rest_refines, run_refines}

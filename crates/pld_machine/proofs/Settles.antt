@@ -1,4 +1,5 @@
--- Slots that are settled one after another leave a point where each has its value, and the only one.
+-- Slots that are settled one after another leave a point at which each has its value, and the only
+-- one.
 use Rattle.std.proofs.Common.{◌≡◌, ◌≢◌, ◌⊎◌, ℕ, ◌<◌, Bool, true, false, ◌||◌, ◌==◌, if◌then◌else◌, List, [], ◌∷◌, length, refl, ap, sym, ◌∙◌, subst, inl, inr, length-set, get_or-set_same, get_or-set_other}
 use Rattle.pld_machine.proofs.Common.{cases_Bool, or_parts, cond-true, cond-false, true≢false, eqb-false, eqb-true, eq-eqb, is_on, Levels, IsPoint, Lookups, sets_pin, sets_node, DifferOnlyIn, SameAt, ReadsNone, with_pin, settle_slot, settle, Slot, Cell, Node}
 
@@ -56,7 +57,7 @@ slot_point m at (Cell c) is = by_cases (cases_Bool (m.enable at c))
     by_cases (inl e) = rw e (let p : IsPoint (with_pin at (m.pin c) (m.level at c)) = record { pins = length-set at.pins (m.pin c) (m.level at c) ∙ is.pins; q = is.q; nodes = is.nodes } in p)
     by_cases (inr e) = rw e is
 
--- the part of `||` behind a slot
+-- the part of `||` after a slot
 pub free_pin : (m : Lookups) (slot : Slot) (slots : List Slot) (k : ℕ) → sets_pin m (slot ∷ slots) k ≡ false → sets_pin m slots k ≡ false
 free_pin m (Cell c) slots k free = (or_parts _ _ free).1
 free_pin m (Node n) slots k free = free
@@ -142,7 +143,7 @@ settles m outside at (Node n ∷ slots) order is from = (here, settles m outside
         ∙ (get_or-set_same at.nodes n (m.node at n) false (subst (λ l. n < l) (sym is.nodes) order.1.1)
         ∙ order.0 at (settle m at (Node n ∷ slots)) (differ_sym m (Node n ∷ slots) (settle m at (Node n ∷ slots)) at (unchanged m at (Node n ∷ slots))))
 
--- two points in which each slot has its value are the same, where they are the same elsewhere
+-- two points in which each slot has its value are the same, if they are the same elsewhere
 pub only : (m : Lookups) (outside : List Bool) (a b : Levels) (slots : List Slot) → InOrder m slots → AllSettled m outside a slots → AllSettled m outside b slots → DifferOnlyIn m slots a b → DifferOnlyIn m [] a b
 only m outside a b [] order x y d = d
 only m outside a b (Cell c ∷ slots) order x y d = only m outside a b slots order.2 x.1 y.1 (record { pins = pins; q = d.q; nodes = d.nodes })

@@ -1,4 +1,4 @@
--- Where neither logic has nodes, a point with its nodes valued is the point itself.
+-- If neither logic has nodes, a point with its nodes valued is the point itself.
 use Rattle.std.proofs.Common.{◌≡◌, ◌<◌, Bool, List, [], ◌∷◌, refl, sym, ◌∙◌, subst, inl, inr, ◌==◌}
 use Rattle.pld_machine.proofs.Common.{cases_Bool, MatchBool-at_true, MatchBool-at_false, Levels, Logic, same_levels, NodeValues, HasNoNodes, IsShownAs, DoesTheSame, HasRunsOf, AtRest, ClockedStep, Step, Steps, Run, power_up, AreSeen}
 use Rattle.pld_machine.proofs.OneRest.{levels_equal}

@@ -6,7 +6,7 @@ use Rattle.pld_machine.specs.Steps.{Run, RestsOnce, RunsOnce}
 
 -- ---- points whose nodes are valued (any as 0)
 
--- the value that stands for each node, which may depend on the others
+-- the value that represents each node, which may depend on the others
 abbrev pub NodeValues : Type 0
 NodeValues = Levels → ℕ → Bool
 
@@ -73,10 +73,10 @@ pub record HasNoDontCare (m : Logic) : Type 0 where
   pub node : (at : Levels) → IsPoint at → (n : ℕ) → n < 128 → m.is_node n ≡ true → AllowsOne (m.allows_node at n)
   pub next : (at : Levels) → IsPoint at → (c : ℕ) → c < m.cells → m.stores c ≡ true → AllowsOne (m.allows_next at c)
 
--- both have the same cells. From all outside levels and stored Qs the device comes to rest in exactly one way, and
--- it has exactly one run for every list of outside levels that isn't empty; with the source's nodes valued, for
--- which there is one way, that is a run of the source, with the same cells enabled at each point; and where the
--- source has no don't-care, it has that run alone
+-- both have the same cells. From all outside levels and stored Qs the device settles in exactly one way, and it
+-- has exactly one run for every list of outside levels that isn't empty; with the source's nodes valued, for which
+-- there is one way, that is a run of the source, with the same cells enabled at each point; and if the source has
+-- no don't-care, it has that run alone
 pub record DoesTheSame (device source : Logic) (values : NodeValues) : Type 0 where
   pub same_cells : SameCells device source
   pub one_rest : RestsOnce device

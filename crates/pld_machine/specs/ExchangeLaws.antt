@@ -33,7 +33,7 @@ all_exchanged x (at ∷ points) = exchanged_at x at ∷ all_exchanged x points
 abbrev pub ExchangedRefines : Type 0
 ExchangedRefines = (x : ℕ → Bool) (d s : Logic) → Refines d s → Refines (exchanged x d) (exchanged x s)
 
--- so do values that stand for nodes
+-- so do values that represent nodes
 abbrev pub ExchangedValues : Type 0
 ExchangedValues =
     (x : ℕ → Bool) (m : Logic) (values others : NodeValues) → SameValues m values others

@@ -1,4 +1,4 @@
--- Logics some of whose registers store the complement of what they stand for (this project's rule).
+-- Logics some of whose registers store the complement of what they represent (this project's rule).
 use Rattle.std.specs.Prelude.{ℕ, suc, Bool, true, false, not, List, [], ◌∷◌}
 use Rattle.pld_machine.specs.Prelude.{Levels, Logic}
 use Rattle.pld_machine.specs.Comparison.{NodeValues}
@@ -9,7 +9,7 @@ abbrev pub in_sense : (other : Bool) → Bool → Bool
 in_sense true q = not q
 in_sense false q = q
 
--- the Qs from cell c on, complemented at the cells that are told
+-- the Qs from cell c on, complemented at the cells that are reported
 abbrev pub exchanged_from : (ℕ → Bool) → (c : ℕ) → List Bool → List Bool
 exchanged_from x c [] = []
 exchanged_from x c (q ∷ qs) = in_sense (x c) q ∷ exchanged_from x (suc c) qs
@@ -39,7 +39,7 @@ exchanged x m =
       allows_next = λ at c q. m.allows_next (exchanged_at x at) c (in_sense (x c) q);
     }
 
--- the values that stand for its nodes
+-- the values that represent its nodes
 abbrev pub exchanged_values : (ℕ → Bool) → NodeValues → NodeValues
 exchanged_values x values at n = values (exchanged_at x at) n
 

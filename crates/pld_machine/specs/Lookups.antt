@@ -5,8 +5,8 @@ use Rattle.pld_machine.specs.declared.logic.Slot.{Slot}
 use Rattle.pld_machine.specs.declared.logic.Slot.TheVariants.{Cell, Node}
 
 -- cells with their pins, which of them store, the clock's pin (0: none), the slots in which cells and
--- nodes come to rest; and at each point a cell's enable, its pin's level while enabled, a node's value,
--- and a cell's reset, preset and next Q
+-- nodes settle; and at each point a cell's enable, its pin's level while enabled, a node's value, and a
+-- cell's reset, preset and next Q
 pub record Lookups : Type 0 where
   pub cells : ℕ
   pub pin : ℕ → ℕ

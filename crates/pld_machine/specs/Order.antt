@@ -12,7 +12,7 @@ pub record DifferOnlyIn (m : Lookups) (slots : List Slot) (a b : Levels) : Type 
   pub q : a.q ≡ b.q
   pub nodes : (n : ℕ) → sets_node slots n ≡ false → is_on a.nodes n ≡ is_on b.nodes n
 
--- the slot asks the same at both points: a cell's enable, and its level where it is enabled, or a
+-- the slot asks the same at both points: a cell's enable, and its level at which it is enabled, or a
 -- node's value
 abbrev pub SameAt : Lookups → Slot → Levels → Levels → Type 0
 SameAt m (Cell c) a b =
@@ -38,7 +38,7 @@ pub record HasPins (m : Lookups) : Type 0 where
   pub apart : (c d : ℕ) → c < m.cells → d < m.cells → m.pin c ≡ m.pin d → c ≡ d
   pub clock : m.clock < 32
 
--- each cell stands in exactly one slot, each node in at most one
+-- each cell is in exactly one slot, each node in at most one
 pub record HasSlots (m : Lookups) : Type 0 where
   pub range : (i : ℕ) (slot : Slot) → slice_get m.slots i ≡ Some slot → InRange m slot
   pub each : (c : ℕ) → c < m.cells → sets_pin m m.slots (m.pin c) ≡ true

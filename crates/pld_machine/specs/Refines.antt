@@ -44,7 +44,7 @@ AllowsValues m values =
 abbrev pub HasNoNodes : Logic → Type 0
 HasNoNodes m = (n : ℕ) → n < 128 → m.is_node n ≡ false
 
--- at every point the same values stand for the nodes
+-- at every point the same values represent the nodes
 abbrev pub SameValues : Logic → NodeValues → NodeValues → Type 0
 SameValues m values others =
     (at : Levels) → IsPoint at → (n : ℕ) → n < 128 → m.is_node n ≡ true → values at n ≡ others at n

@@ -2,7 +2,7 @@
 use Rattle.std.specs.Prelude.{◌≡◌, ◌≢◌, ℕ, ◌<◌, Bool, false, ◌&&◌, List}
 use Rattle.pld_machine.specs.Prelude.{is_on, Levels, Logic}
 
--- a cell's pin is driven where the cell is enabled, no other pin is, and a level is shown at driven
+-- a cell's pin is driven if the cell is enabled, no other pin is, and a level is shown at driven
 -- pins alone
 pub record Shows (m : Logic) (at : Levels) (driven level : List Bool) : Type 0 where
   pub cells : (c : ℕ) → c < m.cells → is_on driven (m.pin c) ≡ m.enabled at c

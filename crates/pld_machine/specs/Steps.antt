@@ -1,6 +1,6 @@
--- Steps from a point to new outside levels, and runs from power-up (this project's rule: the clock's
--- edge comes after all other pins have changed, so that data see the clock's old level); and what it is for a logic to have
--- exactly one point at rest, one step and one run.
+-- Steps from a point to new outside levels, and runs from power-up (this project's rule: the clock's edge follows all other
+-- pins have changed, so that data see the clock's old level); and what it is for a logic to have exactly one point at rest,
+-- one step and one run.
 use Rattle.std.specs.Prelude.{◌≡◌, ℕ, ◌<◌, Bool, true, false, not, ◌&&◌, ◌==◌, if◌then◌else◌, List, [], ◌∷◌, length, set, replicate, MatchBool, ◌≢◌}
 use Rattle.pld_machine.specs.Prelude.{All, is_on, Levels, Logic, is_register}
 use Rattle.pld_machine.specs.Rest.{AtRest}
@@ -21,9 +21,8 @@ allows_q m at c q =
     then (if m.reset at c then not q else (if m.preset at c then q else m.allows_next at c q))
     else not q
 
--- a step of a logic with a clock: all pins but the clock change and the logic comes to rest, between the
--- two points; the Qs change there if the clock rises; then the clock has its new level and the logic
--- comes to rest
+-- a step of a logic with a clock: all pins but the clock change and the logic settles, between the two points; the Qs
+-- change there if the clock rises; then the clock has its new level and the logic settles
 pub record ClockedStep (m : Logic) (before : Levels) (outside : List Bool) (after : Levels) : Type 0 where
   pub between : Levels
   pub first : AtRest m (clock_held m before outside) before.q between
@@ -34,7 +33,7 @@ pub record ClockedStep (m : Logic) (before : Levels) (outside : List Bool) (afte
   pub no_edge : rises m before outside ≡ false → q ≡ between.q
   pub last : AtRest m outside q after
 
--- a step from a point to new outside levels; a logic without a clock only comes to rest
+-- a step from a point to new outside levels; a logic without a clock only settles
 abbrev pub Step : Logic → Levels → List Bool → Levels → Type 0
 Step m before outside after =
     MatchBool (m.clock == 0) (AtRest m outside before.q after) (ClockedStep m before outside after)
@@ -95,7 +94,7 @@ RunsOnce m =
     (outsides : List (List Bool)) → outsides ≢ [] → All IsWide outsides
     → (points : List Levels) × IsTheRun m outsides points
 
--- it comes to rest, steps and runs in exactly one way, from every state
+-- it settles, steps and runs in exactly one way, from every state
 pub record IsDetermined (m : Logic) : Type 0 where
   pub rests : RestsOnce m
   pub steps : StepsOnce m

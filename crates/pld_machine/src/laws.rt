@@ -8,13 +8,13 @@ ghost use Rattle.pld_machine.specs.Lookups.{Lookups, logic_of};
 ghost use Rattle.pld_machine.specs.Order.{IsOrdered};
 ghost use Rattle.pld_machine.specs.Steps.{IsDetermined, RestsOnce, RunsOnce};
 
-/// A logic in order comes to rest, steps and runs in exactly one way, from every state. Does nothing.
+/// A logic in order settles, steps and runs in exactly one way, from every state. Does nothing.
 pub fn one_run()
     ensures { (m : Lookups) → IsOrdered m → IsDetermined (logic_of m) }
 {}
 
-/// What a logic does that allows no more than another, the other does too; where each allows no more
-/// than the other and one rests once, or runs once, so does the other. Does nothing.
+/// What a logic does that allows no more than another, the other does too; if each allows no more than the other and one
+/// rests once, or runs once, so does the other. Does nothing.
 pub fn refined_run()
     ensures rests { (d s : Logic) → Refines d s → HasRestsOf s d }
     ensures steps { (d s : Logic) → Refines d s → HasStepsOf s d }
@@ -23,9 +23,9 @@ pub fn refined_run()
     ensures one_run { (d s : Logic) → Refines d s → Refines s d → RunsOnce s → RunsOnce d }
 {}
 
-/// A device does what a source says that allows at each point, with its nodes valued there, what the
-/// device does. Where neither has nodes, its runs are the source's as they are; and it does what any
-/// other source says that allows the same. Does nothing.
+/// A device does what a source says that allows at each point, with its nodes valued there, what the device does. If
+/// neither has nodes, its runs are the source's as they are; and it does what any other source says that allows the
+/// same. Does nothing.
 pub fn valued_run()
     ensures same { (d s : Logic) (values : NodeValues)
         → RefinesValued d s values → RestsOnce d → RunsOnce d → DoesTheSame d s values }
@@ -35,8 +35,8 @@ pub fn valued_run()
         → SameValues s values others → DoesTheSame d s values → DoesTheSame d r others }
 {}
 
-/// What allows no more than another still does so where the same registers of both store the complement; look-ups in
-/// order stay so. Does nothing.
+/// What allows no more than another still does so if the same registers of both store the complement; look-ups in order
+/// stay so. Does nothing.
 pub fn exchanged_logics()
     ensures refines { ExchangedRefines }
     ensures values { ExchangedValues }

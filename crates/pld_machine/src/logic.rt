@@ -6,7 +6,7 @@ ghost use Rattle.pld_machine.specs.Lookups.{Lookups, sets_node};
 
 use pld_base::Point;
 
-/// What comes to rest in one turn: a cell's pin, or a node.
+/// What settles in one turn: a cell's pin, or a node.
 #[derive(Clone, Copy, PartialEq, Eq)]
 pub enum Slot {
     Cell(u8),
@@ -33,7 +33,7 @@ pub trait Logic {
         requires { cell < (meaning self.now).cells }
         ensures { result ≡ (meaning self.now).stores cell };
 
-    /// The clock's pin, 0 where there is none.
+    /// The clock's pin, 0 if there isn't one.
     fn clock(&self) -> u8
         ensures { result ≡ (meaning self.now).clock };
 
@@ -41,7 +41,7 @@ pub trait Logic {
     fn slots(&self) -> u16
         ensures { result ≡ length (meaning self.now).slots };
 
-    /// The slot that comes to rest at this turn.
+    /// The slot that settles at this turn.
     fn slot(&self, index: u16) -> Slot
         requires { index < length (meaning self.now).slots }
         ensures { slice_get (meaning self.now).slots index ≡ Some result };

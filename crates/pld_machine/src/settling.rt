@@ -1,4 +1,4 @@
-//! Pins and nodes come to rest, one slot after another, while the Qs stand still.
+//! Pins and nodes settle, one slot after another, while the Qs don't change.
 
 ghost use Rattle.std.specs.Prelude.{◌≡◌, ◌<◌, length, slice_get, IfSome};
 ghost use Rattle.pld_machine.specs.Prelude.{bits, levels_of};

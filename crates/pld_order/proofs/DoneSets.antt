@@ -35,7 +35,7 @@ module _ (sets : List (List Bool)) (order : List ℕ) (done : List Bool) (few : 
     met = λ w low reads. sym (is.vertices w low) ∙ ready.met w (omega (arith, low, few)) reads;
   }
 
-  -- where no test finds a number that is read and not done, all are
+  -- if no test finds a number that is read and not done, all are
   within_of : (xs : List Bool) → ((v : ℕ) → v < 256 → (is_on xs v && not (is_on done v)) ≡ false) → IsWithin xs done
   within_of xs none v low on =
       elim (and_cases (is_on xs v) (not (is_on done v)) (none v low)) [ inl off ↦ absurd (true≢false (sym on ∙ off)) | inr there ↦ not-false (is_on done v) there ]

@@ -90,7 +90,7 @@ module _ (count : ℕ) (reads : ℕ → ℕ → Bool) (ends : ℕ → Bool) (lis
   }
 
   module _ (start : ℕ) (path : List ℕ) (place : ℕ) (walk : IsFollowed reads list start path place) where
-    -- where it stands is new
+    -- its place is new
     is_new : has path (get_or list place 0) ≡ false
     is_new = false_from_ne_true (has path (get_or list place 0)) (λ found.
         let there = walk.behind (get_or list place 0) found in
@@ -136,7 +136,7 @@ module _ (count : ℕ) (reads : ℕ → ℕ → Bool) (ends : ℕ → Bool) (lis
     pub path_once : IsDistinct eqb (path ++ get_or list place 0 ∷ [])
     path_once = once_more
 
-    -- where it is no end, it reads an earlier one
+    -- if it is no end, it reads an earlier one
     pub reads_earlier : ends (get_or list place 0) ≡ false → (j : ℕ) × (j < place) × (reads (get_or list place 0) (get_or list j 0) ≡ true)
     reads_earlier no_end =
         elim (leading.lead place walk.within) [

@@ -49,7 +49,7 @@ inside_push xs count v inside low x found = elim (has_push xs v x found) [ inl i
 pub once_push : (xs : List ℕ) (v : ℕ) → IsDistinct eqb xs → has xs v ≡ false → IsDistinct eqb (xs ++ v ∷ [])
 once_push xs v once new = IsDistinct-push nat_eq_equiv xs v once new
 
--- vertices that stand once in a list stand once in a later part of it
+-- vertices that are once in a list are once in a later part of it
 pub once_drop : (xs : List ℕ) (i : ℕ) → IsDistinct eqb xs → IsDistinct eqb (drop i xs)
 once_drop xs zero once = once
 once_drop [] (suc i) once = once

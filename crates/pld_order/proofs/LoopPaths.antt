@@ -1,4 +1,4 @@
--- A path from what a vertex reads back to it is a loop, and where there is no such path the vertex is on no loop.
+-- A path from what a vertex reads back to it is a loop, and if there is no such path the vertex is on no loop.
 use Rattle.std.proofs.Common.{◌≡◌, ℕ, ◌-◌, ◌<◌, Bool, true, eqb, List, [], ◌∷◌, ◌++◌, length, take, drop, get_or, refl, ap, sym, ◌∙◌, subst, arith, inl, inr, add-zero, get_or-drop, length-drop}
 use Rattle.pld_order.proofs.Common.{IsDistinct, true≢false, false_from_ne_true, or_left, or_right, length_push, get_or_append_left, IsPermutation-append_comm, list_any-IsPermutation, IsDistinct-IsPermutation, has, IsChain, IsLoop, IsPath, HasNoPath, HasLoop, IsOnNoLoop}
 use Rattle.std.proofs.Math.Seq.{take-append_seam, get_or-append_seam}
@@ -6,7 +6,7 @@ use Rattle.pld_order.proofs.Lists.{eqb_same, eqb_flips, has_push, place_of}
 use Rattle.pld_order.proofs.Turns.{loop_turn}
 
 module _ (count : ℕ) (reads : ℕ → ℕ → Bool) (v : ℕ) where
-  -- the path turned so that its last comes first
+  -- the path turned so that its last is first
   turned : (before : List ℕ) → IsDistinct eqb (before ++ v ∷ []) → ((x : ℕ) → has (before ++ v ∷ []) x ≡ true → x < count) → IsChain reads before v → reads v (get_or (before ++ v ∷ []) 0 0) ≡ true → IsLoop count reads (v ∷ before)
   turned before once inside leads begins = record {
     some = λ e. cc;
@@ -35,7 +35,7 @@ module _ (count : ℕ) (reads : ℕ → ℕ → Bool) (v : ℕ) where
   pub path_some : (starts ends : ℕ → Bool) (path : List ℕ) → IsPath count reads starts ends path → 0 < length path
   path_some starts ends path is = omega (arith, ap length is.is, length_push is.before is.last)
 
-  -- a loop that begins with v is a path behind it
+  -- a loop that begins with v is a path after it
   behind : (ends : ℕ → Bool) (rest : List ℕ) → ends v ≡ true → IsLoop count reads (v ∷ rest) → IsPath count reads (reads v) ends (rest ++ v ∷ [])
   behind ends rest end is = record {
     before = rest;
@@ -62,7 +62,7 @@ module _ (count : ℕ) (reads : ℕ → ℕ → Bool) (v : ℕ) where
       let first : get_or (drop there.0 chain ++ take there.0 chain) 0 0 ≡ v = get_or_append_left (drop there.0 chain) (take there.0 chain) 0 0 some ∙ (get_or-drop there.0 chain 0 0 ∙ (ap (λ k. get_or chain k 0) (add-zero there.0) ∙ there.2)) in
       begun ends (drop there.0 chain ++ take there.0 chain) end first (loop_turn count reads chain there.0 there.1 is) none)
 
--- where no vertex is on a loop there is none
+-- if no vertex is on a loop there isn't one
 pub no_loop_at_all : (count : ℕ) (reads : ℕ → ℕ → Bool) → ((v : ℕ) → v < count → IsOnNoLoop count reads v) → HasLoop count reads → ⊥
 no_loop_at_all count reads none loop = by_first loop.0 loop.1
   where

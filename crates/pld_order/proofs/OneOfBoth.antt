@@ -49,7 +49,7 @@ not_both count reads order (c ∷ cs) ordered is =
     let there = place_of order c (ordered.each c (is.inside c here)) in
     none_before count reads order (c ∷ cs) ordered is (length order) there.0 (omega arith) there.1 (subst (λ y. has (c ∷ cs) y ≡ true) (sym there.2) here)
 
--- a number below n that passes a test, or there is none
+-- a number below n that passes a test, or there isn't one
 pub search_below : (test : ℕ → Bool) (n : ℕ) → ((v : ℕ) × (v < n) × (test v ≡ true)) ⊎ ((v : ℕ) → v < n → test v ≡ false)
 search_below test zero = inr (λ v low. absurd (omega (arith, low)))
 search_below test (suc n) =
@@ -84,13 +84,13 @@ ready_or_stuck count reads done (suc n) low =
       ]
     ]
 
--- the loop of a walk that has come back
+-- the loop of a walk that has returned
 returned : (count : ℕ) (reads : ℕ → ℕ → Bool) (done path : List ℕ) (v : ℕ) → IsWalk count reads done path v → has path v ≡ true → HasLoop count reads
 returned count reads done path v walk back =
     let there = place_of path v back in
     (drop there.0 path, loop_at count reads path there.0 v there.1 there.2 walk.inside walk.once walk.leads)
 
--- a walk among waiting vertices comes back before `fuel` steps more
+-- a walk among waiting vertices returns before `fuel` steps more
 walk_returns : (fuel count : ℕ) (reads : ℕ → ℕ → Bool) (done path : List ℕ) (v : ℕ) → IsStuck count reads done → IsWalk count reads done path v → count ≤ fuel + length path → HasLoop count reads
 walk_returns zero count reads done path v stuck walk enough =
     elim (cases_Bool (has path v)) [
@@ -105,7 +105,7 @@ walk_returns (suc fuel) count reads done path v stuck walk enough =
           walk_returns fuel count reads done (path ++ v ∷ []) next.0 stuck (walk_more count reads done path v next.0 walk new next.1 next.2 next.3) (omega (arith, enough, length_push path v))
     ]
 
--- where none is ready and one waits, there is a loop
+-- if none is ready and one waits, there is a loop
 loop_of_waiting : (count : ℕ) (reads : ℕ → ℕ → Bool) (order : List ℕ) (v : ℕ) → IsStuck count reads order → v < count → not (has order v) ≡ true → HasLoop count reads
 loop_of_waiting count reads order v stuck low waits = walk_returns count count reads order [] v stuck (walk_none count reads order v low (not-true (has order v) waits)) (omega arith)
 
@@ -116,7 +116,7 @@ stuck_loop count reads order stuck some =
       | inr none ↦ absurd (some (λ v low. not-false (has order v) (none v low)))
     ]
 
--- where none is ready: the order of all, or a loop
+-- if none is ready: the order of all, or a loop
 ended : (count : ℕ) (reads : ℕ → ℕ → Bool) (order : List ℕ) → IsOrderSoFar count reads order → IsStuck count reads order → HasOrder count reads ⊎ HasLoop count reads
 ended count reads order so_far stuck =
     elim (search_below (λ v. not (has order v)) count) [

@@ -1,4 +1,4 @@
--- Where there is no loop, each vertex has a rank above those that it reads; and where there are ranks, there is no loop.
+-- If there is no loop, each vertex has a rank above those that it reads; and if there are ranks, there is no loop.
 use Rattle.std.proofs.Common.{◌≡◌, ◌≤◌, ℕ, suc, ◌<◌, Bool, true, false, ◌==◌, if◌then◌else◌, List, [], ◌∷◌, length, get_or, refl, sym, ◌∙◌, subst, arith, inl, inr}
 use Rattle.pld_order.proofs.Common.{cases_Bool, cases_lt, eqb-true, or_cases, or_left, or_right, true≢false, has, IsChain, IsOrder, HasNoLoop}
 use Rattle.pld_order.proofs.Lists.{eqb_same, few}
@@ -12,7 +12,7 @@ pub record Ranked (count : ℕ) (reads : ℕ → ℕ → Bool) : Type 0 where
   pub below : (v : ℕ) → v < count → rank v < top
   pub falls : (v w : ℕ) → v < count → w < count → reads v w ≡ true → rank w < rank v
 
--- the place of a number in a list, past its end where it isn't there
+-- the place of a number in a list, past its end if it isn't there
 place_in : List ℕ → ℕ → ℕ
 place_in [] v = 0
 place_in (x ∷ xs) v = if v == x then 0 else suc (place_in xs v)

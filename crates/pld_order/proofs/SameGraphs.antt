@@ -66,7 +66,7 @@ module _ (count : ℕ) (f g : ℕ → ℕ → Bool) (same : (v w : ℕ) → v < 
       first : has path (get_or path 0 0) ≡ true
       first = at_in path 0 some
 
--- where one has no loop, or no path, neither has the other
+-- if one has no loop, or no path, neither has the other
 pub no_loop_same : (count : ℕ) (f g : ℕ → ℕ → Bool) → ((v w : ℕ) → v < count → w < count → f v w ≡ g v w) → HasNoLoop count f → HasNoLoop count g
 no_loop_same count f g same none chain is = none chain (loop_same count g f (λ v w v_in w_in. sym (same v w v_in w_in)) chain is)
 

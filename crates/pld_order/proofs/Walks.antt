@@ -1,4 +1,4 @@
--- Walks: where a list of vertices leads, and the loop that one has made which comes back.
+-- Walks: the end to which a list of vertices leads, and the loop that one has made which returns.
 use Rattle.std.proofs.Common.{◌≡◌, ℕ, zero, suc, ◌+◌, ◌<◌, ◌≤◌, Bool, true, false, eqb, List, [], ◌∷◌, ◌++◌, length, drop, get_or, ap, sym, ◌∙◌, subst, arith, add-zero, get_or-drop, length-drop}
 use Rattle.pld_order.proofs.Common.{IsDistinct, true≢false, length_push, has, IsChain, IsLoop}
 use Rattle.pld_order.proofs.Lists.{has_drop, few, inside_push, once_push, once_drop}
@@ -14,7 +14,7 @@ chain_drop reads xs zero v leads = leads
 chain_drop reads [] (suc i) v leads = leads
 chain_drop reads (x ∷ xs) (suc i) v leads = chain_drop reads xs i v leads.1
 
--- the walk that has come back to the vertex at i
+-- the walk that has returned to the vertex at i
 pub loop_at : (count : ℕ) (reads : ℕ → ℕ → Bool) (path : List ℕ) (i v : ℕ) → i < length path → get_or path i 0 ≡ v → ((x : ℕ) → has path x ≡ true → x < count) → IsDistinct eqb path → IsChain reads path v → IsLoop count reads (drop i path)
 loop_at count reads path i v within here inside once leads = record {
   some = λ e. no_length path i within (ap length e);

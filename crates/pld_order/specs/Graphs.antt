@@ -7,7 +7,7 @@ use Rattle.std.specs.List.{list_any, IsDistinct}
 abbrev pub has : List ℕ → ℕ → Bool
 has xs v = list_any (λ x. v == x) xs
 
--- all vertices, each once, none of which reads itself or one that stands behind it
+-- all vertices, each once, none of which reads itself or one that follows it
 pub record IsOrder (count : ℕ) (reads : ℕ → ℕ → Bool) (order : List ℕ) : Type 0 where
   pub inside : (v : ℕ) → has order v ≡ true → v < count
   pub each : (v : ℕ) → v < count → has order v ≡ true

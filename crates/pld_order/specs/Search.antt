@@ -5,7 +5,7 @@ use Rattle.pld_base.specs.Bits.{is_on}
 use Rattle.pld_order.specs.Graphs.{has, IsLoop}
 use Rattle.pld_order.specs.Sets.{IsWithin, AreApart}
 
--- some vertices, each once and behind all that it reads
+-- some vertices, each once and after all that it reads
 pub record IsOrderSoFar (count : ℕ) (reads : ℕ → ℕ → Bool) (order : List ℕ) : Type 0 where
   pub inside : (v : ℕ) → has order v ≡ true → v < count
   pub once : IsDistinct eqb order

@@ -2,7 +2,7 @@
 use Rattle.std.specs.Prelude.{◌≡◌, ℕ, ◌<◌, Bool, true, ◌||◌, ◌==◌, List, [], ◌++◌, get_or}
 use Rattle.pld_base.specs.Bits.{bits, is_on}
 
--- the truth values of two numbers of 128 bits, one behind the other
+-- the truth values of two numbers of 128 bits, one after the other
 abbrev pub members : (low high : ℕ) → List Bool
 members low high = bits 128 low ++ bits 128 high
 
@@ -18,6 +18,6 @@ IsWithin xs ys = (v : ℕ) → v < 256 → is_on xs v ≡ true → is_on ys v �
 abbrev pub AreApart : List Bool → List Bool → Type 0
 AreApart xs ys = (v : ℕ) → v < 256 → is_on xs v ≡ true → is_on ys v ≡ true → ⊥
 
--- whether one vertex reads another, where each reads the set at its place
+-- whether one vertex reads another, if each reads the set at its place
 abbrev pub reads_of : List (List Bool) → ℕ → ℕ → Bool
 reads_of sets from to = is_on (get_or sets from []) to

@@ -26,7 +26,7 @@ fn next_leading(reads: &[VertexSet], ends: &VertexSet, leading: &VertexSet) -> O
     None
 }
 
-/// The vertices that lead to ends, each behind one that it reads or an end itself.
+/// The vertices that lead to ends, each after one that it reads or an end itself.
 pub fn leading(reads: &[VertexSet], ends: &VertexSet) -> ArrayVec<u8, 256>
     requires { length reads.now ≤ 256 }
     ensures lead { AreLeading (length reads.now) (reads_of reads.now) (is_on ends.now) result.items }

@@ -1,8 +1,8 @@
 //! The order of a graph's vertices: repeatedly append a vertex all of whose reads are in the list.
-//! Where none is left that can be appended and some vertex waits, each that waits reads another that
+//! If none is left that can be appended and some vertex waits, each that waits reads another that
 //! waits, so that some lie on a loop.
 //!
-//! `order` is the list, `done` the set of its vertices and of all numbers that are none.
+//! `order` is the list, `done` the set of its vertices and of all numbers that aren't one.
 
 ghost use Rattle.std.specs.Prelude.{◌≡◌, ◌↔◌, ◌≤◌, ◌<◌, ℕ, [], true, IfOk, IfErr, IfSome, IfNone, length};
 ghost use Rattle.pld_base.specs.Bits.{is_on};
@@ -57,8 +57,8 @@ fn all_done(count: usize, done: &VertexSet) -> bool
 /// the least vertex on any.
 ///
 /// A vertex is the place of the set that it reads; other numbers count for nothing. Takes no memory.
-/// The time is of the square of the number of vertices where there is an order, and at most of its
-/// cube where there is a loop.
+/// The time is of the square of the number of vertices if there is an order, and at most of its cube
+/// if there is a loop.
 pub fn order(reads: &[VertexSet]) -> Result<ArrayVec<u8, 256>, LoopFound>
     requires { length reads.now ≤ 256 }
     ensures ok { IfOk result (λ order. IsOrder (length reads.now) (reads_of reads.now) order.items) }

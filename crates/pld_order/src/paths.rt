@@ -1,7 +1,7 @@
 //! Paths: from the first start among the vertices that lead to ends, go to the first of them that is
-//! read, until an end comes. Each step goes to an earlier place, so no vertex comes twice.
+//! read, until an end occurs. Each step goes to an earlier place, so no vertex occurs twice.
 //!
-//! `leading` is the list of the vertices that lead to ends, `place` where the walk stands in it.
+//! `leading` is the list of the vertices that lead to ends, `place` the place of the walk in it.
 
 ghost use Rattle.std.specs.Prelude.{◌≤◌, ◌<◌, eqb, IfSome, IfNone, length, get_or};
 ghost use Rattle.std.specs.List.{IsDistinct};

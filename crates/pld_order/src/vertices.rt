@@ -6,7 +6,7 @@ ghost use Rattle.pld_order.specs.Search.{IsFirstIn, HasNoneOf};
 use crate::VertexSet;
 use arrayvec::ArrayVec;
 
-/// Where the first vertex of the list stands that is in the set.
+/// The place of the first vertex of the list that is in the set.
 pub fn place_in(list: &[u8], set: &VertexSet) -> Option<usize>
     ensures found { IfSome result (IsFirstIn list.now set.now) }
     ensures none { IfNone result (HasNoneOf list.now set.now) }

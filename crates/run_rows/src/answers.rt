@@ -53,7 +53,7 @@ fn has_lines(text: &[u8], lines: &str, between: char) -> bool {
     next.is_none()
 }
 
-/// Appends the lines, where the file of what was compiled has them in this order; else the whole file.
+/// Appends the lines, if the file of what was compiled has them in this order; else the whole file.
 pub fn put_held(found: &mut Found, made: &Compiled, lines: &str, between: char) {
     if has_lines(&made.file, lines, between) {
         found.text(lines)

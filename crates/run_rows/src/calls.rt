@@ -29,13 +29,13 @@ fn command_of<'a>(row: &'a str, source: &'a [u8], file: &'a [u8]) -> Option<Comm
     Some(Command { line, text, names })
 }
 
-/// Appends what a run came to: the status, the report, what stands under out, and whether f is another.
+/// Appends what a run gave: the status, the report, what is under out, and whether f is another.
 fn put_outcome(found: &mut Found, command: &Command<'_>, done: &Finished) {
     put_ending(found, done);
     put_files(found, command, done)
 }
 
-/// Appends what stands under out after a run, and whether f is another.
+/// Appends what is under out after a run, and whether f is another.
 fn put_files(found: &mut Found, command: &Command<'_>, done: &Finished) {
     if let Some(out) = done.files.get("out") {
         found.text(" out ");
@@ -46,7 +46,7 @@ fn put_files(found: &mut Found, command: &Command<'_>, done: &Finished) {
     }
 }
 
-/// What a command comes to, where the calls of these numbers fail.
+/// What a command amounts to, if the calls of these numbers fail.
 fn outcome(alloc: Global, command: &Command<'_>, calls: (u32, u32)) -> Found {
     let mut found = Found::new(alloc);
     match run_line(alloc, command.line, ("f", command.text), calls) {
@@ -56,7 +56,8 @@ fn outcome(alloc: Global, command: &Command<'_>, calls: (u32, u32)) -> Found {
     found
 }
 
-/// Each call of the files that fails is told with its name, and nothing is written; a call that is not made changes nothing.
+/// Each call of the files that fails is reported with its name, and nothing is written; a call that is not made changes
+/// nothing.
 fn try_files_calls(alloc: Global, command: &Command<'_>, number: usize, report: &mut Report<'_>) {
     let whole = outcome(alloc, command, (0, 0));
     let mut names = command.names.split_whitespace();
@@ -74,8 +75,8 @@ fn try_files_calls(alloc: Global, command: &Command<'_>, number: usize, report: 
     }
 }
 
-/// The first call of the report that fails takes nothing but the report, and no other is made. Where a call of the files fails too,
-/// nothing is written.
+/// The first call of the report that fails takes nothing but the report, and no other is made. If a call of the files fails
+/// too, nothing is written.
 fn try_report_calls(alloc: Global, command: &Command<'_>, number: usize, report: &mut Report<'_>) {
     let Ok(done) = run_line(alloc, command.line, ("f", command.text), (0, 0)) else {
         return report.unread(number);

@@ -5,7 +5,7 @@ use crate::texts::{lines_of, number_of};
 use std::alloc::{AllocError, Global};
 use test_rows::{Found, Report, Row, Section, unescaped};
 
-/// What a block tells of its source, and the source.
+/// What a block says of its source, and the source.
 fn told_and_source(
     alloc: Global,
     block: &[Row<'_>],
@@ -21,7 +21,7 @@ fn told_and_source(
     }
 }
 
-/// The summary of a source, and the lines of its file that are told of.
+/// The summary of a source, and the lines of its file that are reported of.
 fn case_found(alloc: Global, told: &str, source: &str) -> Found {
     let mut found = Found::new(alloc);
     match compiled(alloc, source.as_bytes()) {

@@ -19,7 +19,7 @@ fn usage_found(alloc: Global, line: &str) -> Found {
     found
 }
 
-/// Each row below the usage text is a command line behind `abel`, which is answered with that text and status 1.
+/// Each row below the usage text is a command line after `abel`, which is answered with that text and status 1.
 pub fn try_usage(
     alloc: Global,
     section: &Section<'_>,

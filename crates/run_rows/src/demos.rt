@@ -70,7 +70,7 @@ pub fn try_demos(
 /// The first demo's file with a level in its last vector for pin 23. A file with another level than its own has no sum.
 fn file_with(alloc: Global, level: u8) -> Option<Vec<u8>> {
     let mut file = demo_file(alloc, 1)?;
-    // The character of pin 23 stands before the one of pin 24, `*`, a line's end, ETX and the sum.
+    // The character of pin 23 precedes the one of pin 24, `*`, a line's end, ETX and the sum.
     let size = file.len();
     if size < 10 || file[size - 10] != b'L' {
         return None;
@@ -83,7 +83,7 @@ fn file_with(alloc: Global, level: u8) -> Option<Vec<u8>> {
     Some(file)
 }
 
-/// The level of a row, and what is told of the file with it.
+/// The level of a row, and what is reported of the file with it.
 fn level_of(row: &str) -> Option<(u8, &str)> {
     let (level, told) = row.split_once('|')?;
     let byte = level.as_bytes().first()?;

@@ -42,7 +42,7 @@ fn size_of(command: &str) -> (&'static str, usize) {
     }
 }
 
-/// The fuse file of a command, with its rows and what stands behind them.
+/// The fuse file of a command, with its rows and what follows them.
 pub fn file_of(alloc: Global, command: &str, rows: &str, rest: &str) -> Found {
     let (fuses, columns) = size_of(command);
     let mut text = Found::new(alloc);
@@ -76,7 +76,7 @@ fn device_found(alloc: Global, command: &str, file: &Found) -> Result<Found, All
     Ok(found)
 }
 
-/// Each block is what it shows, a command, the rows of its file, what stands behind them, and the status with the report.
+/// Each block is what it shows, a command, the rows of its file, what follows them, and the status with the report.
 pub fn try_devices(
     alloc: Global,
     section: &Section<'_>,

@@ -5,14 +5,14 @@ use crate::texts::{bytes_of, lines_of};
 use std::alloc::{AllocError, Global};
 use test_rows::{Found, Report, Section};
 
-/// A source, which stands under y1, and its fuse file.
+/// A source, which is under y1, and its fuse file.
 #[derive(Clone, Copy)]
 struct Design<'a> {
     source: &'a [u8],
     file: &'a [u8],
 }
 
-/// The name that the fuse file stands under.
+/// The name that the fuse file is under.
 fn holder(done: &Finished, design: &Design<'_>) -> &'static str {
     let y1 = done.files.get("y1").unwrap_or(&[]);
     let out = done.files.get("out").unwrap_or(&[]);
@@ -36,14 +36,14 @@ fn calls_of(text: &str) -> Option<(u32, u32)> {
     }
 }
 
-/// The command of a row, the calls that fail, and what is told of its run.
+/// The command of a row, the calls that fail, and what is reported of its run.
 fn fault_of(row: &str) -> Option<(&str, (u32, u32), &str)> {
     let (command, rest) = row.split_once('|')?;
     let (calls, told) = rest.split_once('|')?;
     Some((command, calls_of(calls)?, told))
 }
 
-/// The name that the fuse file stands under after a run, its status and its report.
+/// The name that the fuse file is under after a run, its status and its report.
 fn fault_found(alloc: Global, command: &str, calls: (u32, u32), design: &Design<'_>) -> Found {
     let mut found = Found::new(alloc);
     match run_line(alloc, command, ("y1", design.source), calls) {
@@ -57,8 +57,8 @@ fn fault_found(alloc: Global, command: &str, calls: (u32, u32), design: &Design<
     found
 }
 
-/// Each row below the source and its fuse file is a command, the calls that fail, the name that the file stands under afterwards,
-/// the status and the report.
+/// Each row below the source and its fuse file is a command, the calls that fail, the name that the file is under
+/// afterwards, the status and the report.
 pub fn try_faults(
     alloc: Global,
     section: &Section<'_>,

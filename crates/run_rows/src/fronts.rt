@@ -28,13 +28,13 @@ pub fn try_fronts(
     Ok(())
 }
 
-// Where the end of the text stands in the fuse file; its sum stands behind.
+// The place of the end of the text in the fuse file; its sum follows.
 const END: usize = 178;
 
-/// How the report begins on the file with another byte at a place, before what stood behind it.
+/// How the report begins on the file with another byte at a place, before what followed it.
 ///
-/// Every change of one byte changes the sum of the file. It is accepted nowhere but where an end of the text takes the place of
-/// the L of L0000: the four digits behind stand for a sum that was not computed, and no fuse needs to be listed behind F0.
+/// Every change of one byte changes the sum of the file. It is accepted only if an end of the text takes the place of the L
+/// of L0000: the four digits after represent a sum that was not computed, and no fuse needs to be listed after F0.
 fn told_of(place: usize, byte: u8, behind: &[u8]) -> &'static str {
     let has_sum = behind.len() >= 4 && behind.iter().take(4).all(|digit| digit.is_ascii_hexdigit());
     if place == 0 {
@@ -50,7 +50,8 @@ fn told_of(place: usize, byte: u8, behind: &[u8]) -> &'static str {
     }
 }
 
-/// What the report on a changed file begins with, where it does and the status says so; else the place, the status and the report.
+/// What the report on a changed file begins with, if it does and the status says so; else the place, the status and the
+/// report.
 fn change_found(alloc: Global, place: usize, file: &[u8], told: &str) -> Found {
     let mut found = Found::new(alloc);
     let Ok(done) = run_line(alloc, "check P16L8 f", ("f", file), (0, 0)) else {

@@ -5,7 +5,7 @@ use crate::texts::lines_of;
 use std::alloc::{AllocError, Global};
 use test_rows::{Report, Section, unescaped};
 
-/// Each row below the command and the front of its file is what stands behind it, with escapes, the status and the report.
+/// Each row below the command and the front of its file is what follows it, with escapes, the status and the report.
 pub fn try_fuse_files(
     alloc: Global,
     section: &Section<'_>,

@@ -1,5 +1,5 @@
-//! Sources with the fuse files that `compile` makes of them, or with the lines on why it makes none; and runs of the program's
-//! top call over files in memory. Its rows stand in `stdin`.
+//! Sources with the fuse files that `compile` makes of them, or with the lines on why it makes none; and runs of the
+//! program's top call over files in memory. Its rows are in `stdin`.
 #![tactic(auto)]
 
 mod answers;

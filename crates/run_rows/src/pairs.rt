@@ -27,7 +27,7 @@ fn pair_found(
     Ok(found)
 }
 
-/// Each block is what it shows, a command, the rows of the first file, what stands behind them, the same of the second file, and
+/// Each block is what it shows, a command, the rows of the first file, what follows them, the same of the second file, and
 /// the status with the report.
 pub fn try_pairs(
     alloc: Global,

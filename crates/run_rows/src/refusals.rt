@@ -1,4 +1,4 @@
-//! Sources that are refused: a block each, behind what all blocks of a section share.
+//! Sources that are refused: a block each, after what all blocks of a section share.
 
 use crate::answers::{compiled, put_fault};
 use crate::texts::{lines_of, number_of};
@@ -40,7 +40,7 @@ pub fn refusal_found(alloc: Global, source: &str, phase: Phase) -> Found {
     found
 }
 
-/// A block's lines behind a front, with escapes, as a source.
+/// A block's lines after a front, with escapes, as a source.
 fn source_of(alloc: Global, front: &str, block: &[Row<'_>]) -> Result<Option<String>, AllocError> {
     let lines = lines_of(alloc, block)?;
     let source = format!(in alloc; "module m\n{front}{lines}end\n")?;
@@ -50,8 +50,8 @@ fn source_of(alloc: Global, front: &str, block: &[Row<'_>]) -> Result<Option<Str
     }
 }
 
-/// Each block that begins with `error` is the line on its refusal and its source's lines. Another block stands in front of those
-/// below it.
+/// Each block that begins with `error` is the line on its refusal and its source's lines. Another block precedes those below
+/// it.
 pub fn try_refusals(
     alloc: Global,
     section: &Section<'_>,
@@ -76,7 +76,7 @@ pub fn try_refusals(
     Ok(())
 }
 
-/// What a block that begins with `error` tells, and the lines below.
+/// What a block that begins with `error` reports, and the lines below.
 fn told_and_lines<'a, 'b>(block: &'b [Row<'a>]) -> Option<(&'a str, &'b [Row<'a>])> {
     let (first, lines) = block.split_first()?;
     let told = first.text.strip_prefix("error ")?;

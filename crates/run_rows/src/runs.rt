@@ -7,7 +7,7 @@ use pld_base::OutOfMemory;
 use std::alloc::{AllocError, Global};
 use test_rows::{Found, Report, Section, unescaped};
 
-/// What a run came to: its status, its report, and the files after it.
+/// The result of a run: its status, its report, and the files after it.
 #[derive(Drop)]
 pub struct Finished {
     pub status: u8,
@@ -26,7 +26,8 @@ fn words_of(alloc: Global, line: &str) -> Result<Vec<String>, OutOfMemory> {
     Ok(words)
 }
 
-/// Runs a command line over files. The call of the files and the call of the report of these numbers fail, where they are not 0.
+/// Runs a command line over files. The call of the files and the call of the report of these numbers fail, if they are not
+/// 0.
 pub fn run_over(
     alloc: Global,
     line: &str,
@@ -59,7 +60,7 @@ pub fn run_line(
     run_over(alloc, line, &[input], calls)
 }
 
-/// Appends a status, and the lines of a report behind bars.
+/// Appends a status, and the lines of a report after bars.
 pub fn put_ending(found: &mut Found, done: &Finished) {
     found.number(usize::from(done.status));
     found.text("|");
@@ -76,7 +77,7 @@ pub fn ending_found(alloc: Global, line: &str, input: (&str, &[u8])) -> Found {
     found
 }
 
-/// The status and the report of a command line over the source, and below them what stands under `out.jed` then.
+/// The status and the report of a command line over the source, and below them what is under `out.jed` then.
 fn run_found(alloc: Global, line: &str, source: &[u8]) -> Found {
     let mut found = Found::new(alloc);
     match run_line(alloc, line, ("in.abl", source), (0, 0)) {
@@ -92,7 +93,7 @@ fn run_found(alloc: Global, line: &str, source: &[u8]) -> Found {
     found
 }
 
-/// The command of a block; what is told of its run; and the source. With escapes.
+/// The command of a block; what is reported of its run; and the source. With escapes.
 fn parts(text: &str) -> Option<(&str, &str, &str)> {
     let (command, rest) = text.split_once('|')?;
     let (told, _) = rest.split_once("\nmodule ")?;
@@ -100,8 +101,8 @@ fn parts(text: &str) -> Option<(&str, &str, &str)> {
     Some((command, told, source.strip_suffix('\n')?))
 }
 
-/// Each block is a command with its status and its report; the lines under `out.jed` afterwards; and the lines under `in.abl`, the
-/// last of which has an end where it is written.
+/// Each block is a command with its status and its report; the lines under `out.jed` afterwards; and the lines under
+/// `in.abl`, the last of which has an end if it is written.
 pub fn try_runs(
     alloc: Global,
     section: &Section<'_>,

@@ -1,4 +1,4 @@
-//! Statements behind what all rows of a section share: a row each.
+//! Statements after what all rows of a section share: a row each.
 
 use crate::answers::{compiled, put_fault, put_held};
 use crate::refusals::{Phase, refusal_found};
@@ -6,12 +6,12 @@ use crate::texts::lines_of;
 use std::alloc::{AllocError, Global};
 use test_rows::{Found, Report, Section};
 
-/// The source of a statement behind a front.
+/// The source of a statement after a front.
 fn source_of(alloc: Global, front: &str, statement: &str) -> Result<String, AllocError> {
     format!(in alloc; "module m\n{front}{statement}\nend\n")
 }
 
-/// The lines with bars between them, where the file of a source has them in this order; else what it has.
+/// The lines with bars between them, if the file of a source has them in this order; else what it has.
 fn lines_found(alloc: Global, source: &str, lines: &str) -> Found {
     let mut found = Found::new(alloc);
     match compiled(alloc, source.as_bytes()) {
@@ -21,7 +21,7 @@ fn lines_found(alloc: Global, source: &str, lines: &str) -> Found {
     found
 }
 
-/// Each row below the front is a statement, and lines of its file behind bars.
+/// Each row below the front is a statement, and lines of its file after bars.
 pub fn try_statements(
     alloc: Global,
     section: &Section<'_>,
@@ -46,7 +46,7 @@ pub fn try_statements(
     Ok(())
 }
 
-/// Each row below the front and the lines that all files have is a statement; a bar alone is none.
+/// Each row below the front and the lines that all files have is a statement; a bar alone isn't one.
 pub fn try_spellings(
     alloc: Global,
     section: &Section<'_>,
@@ -73,7 +73,7 @@ pub fn try_spellings(
     Ok(())
 }
 
-/// Each row below the front is a statement, and the line on its refusal behind a bar.
+/// Each row below the front is a statement, and the line on its refusal after a bar.
 pub fn try_refused_statements(
     alloc: Global,
     section: &Section<'_>,

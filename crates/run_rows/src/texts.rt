@@ -13,7 +13,7 @@ pub fn lines_of(alloc: Global, rows: &[Row<'_>]) -> Result<String, AllocError> {
     Ok(text)
 }
 
-/// Where a block begins.
+/// The beginning of a block.
 pub fn number_of(rows: &[Row<'_>]) -> usize {
     match rows.first() {
         Some(row) => row.number,

@@ -11,7 +11,7 @@ last_bare (a ∷ b ∷ more) s e =
     let next : length (a ∷ b ∷ more) - 1 ≡ suc (length (b ∷ more) - 1) = omega arith in
     last_bare (b ∷ more) s (subst (λ n. slice_get (a ∷ b ∷ more) n ≡ Some s) next e)
 
--- no transition is seen where there is none
+-- no transition is seen if there isn't one
 pub none_seen : (xs : List Arm) → (length xs == 0) ≡ is_empty (map view_arm xs)
 none_seen [] = refl
 none_seen (x ∷ xs) = grind (arith, nat_tests)

@@ -1,4 +1,4 @@
--- Where one reading stops, so does another that stops with it.
+-- If one reading stops, so does another that stops with it.
 use Rattle.std.proofs.Common.{◌≡◌, Result, Err}
 use Rattle.section_parsers.proofs.Common.{Stop, Syntax, TooDeep}
 use Rattle.abel_lexer.specs.declared.token.Token.{Token}

@@ -44,7 +44,7 @@ fn bare_target<'a>(
     }
 }
 
-/// A `!` and a target, where the `!` may open a nesting.
+/// A `!` and a target, if the `!` may open a nesting.
 #[tactic(auto, unfolding(abel_grammar::specs::StatementReaders::read_complemented_at))]
 fn complemented<'a>(
     alloc: Global,
@@ -66,7 +66,7 @@ fn complemented<'a>(
     Ok(((true, target), rest))
 }
 
-/// A target, and whether a `!` stands before it.
+/// A target, and whether a `!` precedes it.
 #[tactic(auto, unfolding(abel_grammar::specs::StatementReaders::read_target))]
 fn target<'a>(
     alloc: Global,

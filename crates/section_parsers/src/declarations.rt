@@ -38,7 +38,7 @@ fn bare_name(item: &Item) -> Option<&Word>
     }
 }
 
-/// The name, where there is one alone.
+/// The name, if there is one alone.
 fn only_name(names: &[Item]) -> Option<&Word>
     ensures { option_copied result ≡ only_name names.now }
 {
@@ -54,7 +54,7 @@ fn only_name(names: &[Item]) -> Option<&Word>
     }
 }
 
-/// The names, where none is negated or a range.
+/// The names, if none is negated or a range.
 fn bare_names(alloc: Global, names: &[Item]) -> Result<Option<Vec<Word>>, OutOfMemory>
     ensures { IfOk result (λ o. option_map (λ v. v.items) o ≡ bare_names names.now) }
 {
@@ -68,7 +68,7 @@ fn bare_names(alloc: Global, names: &[Item]) -> Result<Option<Vec<Word>>, OutOfM
     Ok(Some(list))
 }
 
-/// DEVICE and its string, behind a name that stands alone.
+/// DEVICE and its string, after a name that is alone.
 fn device<'a>(
     alloc: Global,
     name: Option<&Word>,
@@ -132,7 +132,7 @@ fn list_or_none<T: Drop>(alloc: Global, list: Option<Vec<T>>) -> ListOf<T>
     }
 }
 
-/// PIN, behind its names.
+/// PIN, after its names.
 fn pins<'a>(
     alloc: Global,
     names: Vec<Item>,
@@ -152,7 +152,7 @@ fn pins<'a>(
     ))
 }
 
-/// NODE, behind its names.
+/// NODE, after its names.
 fn nodes<'a>(
     alloc: Global,
     names: Vec<Item>,
@@ -172,7 +172,7 @@ fn nodes<'a>(
     ))
 }
 
-/// ISTYPE, behind its names.
+/// ISTYPE, after its names.
 fn attributes<'a>(
     alloc: Global,
     names: Vec<Item>,
@@ -246,7 +246,7 @@ fn values_for<'a>(
     }
 }
 
-/// `=` and the values of constants, behind names that are neither negated nor ranges.
+/// `=` and the values of constants, after names that are neither negated nor ranges.
 fn constants<'a>(
     alloc: Global,
     names: Option<Vec<Word>>,
@@ -357,7 +357,7 @@ pub fn other_decl<'a>(
     }
 }
 
-/// As many declarations as stand there.
+/// As many declarations as are there.
 pub fn decls<'a>(
     alloc: Global,
     tokens: &'a [Token],

@@ -14,7 +14,7 @@ use std::alloc::Global;
 
 const TRANS_STARTS: [Terminal; 3] = [Terminal::Goto, Terminal::If, Terminal::Case];
 
-/// As many transitions as stand there.
+/// As many transitions as are there.
 fn transitions<'a>(
     alloc: Global,
     tokens: &'a [Token],
@@ -59,7 +59,7 @@ fn state<'a>(
     ))
 }
 
-/// As many states as stand there.
+/// As many states as are there.
 fn states<'a>(
     alloc: Global,
     tokens: &'a [Token],

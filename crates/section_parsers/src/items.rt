@@ -9,7 +9,7 @@ use abel_tree::{Item, Span, Word};
 use expr_parser::{maybe, name, number, text};
 use std::alloc::Global;
 
-/// A name or a range of names, and whether a `!` stands before it.
+/// A name or a range of names, and whether a `!` precedes it.
 #[tactic(auto, unfolding(abel_grammar::specs::DeclarationReaders::read_item))]
 fn item<'a>(alloc: Global, tokens: &'a [Token]) -> Result<(Item, &'a [Token]), Halt<'a>>
     ensures { Gives (λ x. (x.0, x.1.now)) result (read_item tokens.now) }

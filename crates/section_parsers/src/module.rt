@@ -52,7 +52,7 @@ fn some_title<'a>(
     Ok((Some(word), rest))
 }
 
-/// The strings of all options that stand there.
+/// The strings of all options that are there.
 #[tactic(auto, unfolding(abel_grammar::specs::ModuleReaders::read_options))]
 fn options<'a>(alloc: Global, tokens: &'a [Token]) -> Result<(Vec<Word>, &'a [Token]), Halt<'a>>
     ensures { Gives (λ x. (x.0.items, x.1.now)) result (read_options tokens.now) }
@@ -67,7 +67,7 @@ fn options<'a>(alloc: Global, tokens: &'a [Token]) -> Result<(Vec<Word>, &'a [To
     Ok((list, rest))
 }
 
-/// The declarations behind the options; the first is no option.
+/// The declarations after the options; the first is no option.
 #[tactic(auto, unfolding(abel_grammar::specs::ModuleReaders::read_first_decls))]
 fn first_decls<'a>(
     alloc: Global,
@@ -110,7 +110,7 @@ fn ending<'a>(
     Ok(((sections, (end, (name, stop))), rest))
 }
 
-/// What stands behind the module's name and title.
+/// What follows the module's name and title.
 fn body<'a>(
     alloc: Global,
     tokens: &'a [Token],

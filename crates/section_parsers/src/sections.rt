@@ -84,7 +84,7 @@ fn last_is_bare(states: &[State]) -> bool
     }
 }
 
-/// Whether a `@DCSET` behind the section is one of its declarations or statements.
+/// Whether a `@DCSET` after the section is one of its declarations or statements.
 fn takes_dont_care(section: &Section) -> bool
     ensures { result ≡ takes_dont_care (view_section section.now) }
 {
@@ -107,7 +107,7 @@ fn dont_care_section<'a>(tokens: &'a [Token]) -> Result<(Section, &'a [Token]), 
     Ok((Section::DontCare(dc), rest))
 }
 
-/// As many `@DCSET` and `@ONSET` as stand there.
+/// As many `@DCSET` and `@ONSET` as are there.
 fn dont_cares<'a>(
     alloc: Global,
     tokens: &'a [Token],
@@ -141,7 +141,7 @@ fn free_dont_cares<'a>(
     dont_cares(alloc, tokens)
 }
 
-/// A section, and the `@DCSET` and `@ONSET` behind it that it doesn't take.
+/// A section, and the `@DCSET` and `@ONSET` after it that it doesn't take.
 fn group<'a>(
     alloc: Global,
     tokens: &'a [Token],

@@ -35,7 +35,7 @@ fn last_side<'a>(
     Ok(((outputs, end), rest))
 }
 
-/// An arrow, and what stands behind it up to an end.
+/// An arrow, and what follows it up to an end.
 fn arrow_side<'a>(
     alloc: Global,
     tokens: &'a [Token],

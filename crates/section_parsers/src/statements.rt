@@ -30,7 +30,7 @@ const STMT_STARTS: [Terminal; 6] = [
     Terminal::BraceOpen,
 ];
 
-/// Whether an ELSE behind the statement would belong to a WHEN in it.
+/// Whether an ELSE after the statement would belong to a WHEN in it.
 fn is_open(stmt: &Stmt) -> bool
     ensures { result ≡ is_open (view_stmt stmt.now) }
 {
@@ -43,7 +43,7 @@ fn is_open(stmt: &Stmt) -> bool
     }
 }
 
-/// An ELSE and its statement, unless there is none or the WHEN before it is not done.
+/// An ELSE and its statement, unless there isn't one or the WHEN before it is not done.
 #[cycle(stmt)]
 fn else_part<'a>(
     alloc: Global,
@@ -108,7 +108,7 @@ fn when<'a>(alloc: Global, tokens: &'a [Token], depth: u8) -> Result<(Stmt, &'a 
     }
 }
 
-/// As many statements as stand there.
+/// As many statements as are there.
 #[cycle(stmt)]
 pub fn stmts<'a>(
     alloc: Global,
@@ -142,7 +142,7 @@ fn group<'a>(alloc: Global, tokens: &'a [Token], depth: u8) -> Result<(Stmt, &'a
     Ok((Stmt::Group(packed(list)), rest))
 }
 
-/// A statement that is no group, where no nesting may be opened.
+/// A statement that is no group, if no nesting may be opened.
 #[tactic(auto, unfolding(abel_grammar::specs::StatementReaders::read_plain_stmt))]
 fn flat_plain<'a>(alloc: Global, tokens: &'a [Token]) -> Result<(Stmt, &'a [Token]), Halt<'a>>
     ensures { Gives (λ x. (view_stmt x.0, x.1.now)) result (read_plain_stmt 0 tokens.now) }
@@ -180,7 +180,7 @@ pub fn plain<'a>(
     }
 }
 
-/// A statement, where no nesting may be opened.
+/// A statement, if no nesting may be opened.
 #[tactic(auto, unfolding(abel_grammar::specs::StatementReaders::read_stmt, abel_grammar::specs::StatementReaders::read_plain_stmt))]
 fn flat_stmt<'a>(alloc: Global, tokens: &'a [Token]) -> Result<(Stmt, &'a [Token]), Halt<'a>>
     ensures { Gives (λ x. (view_stmt x.0, x.1.now)) result (read_stmt 0 tokens.now) }

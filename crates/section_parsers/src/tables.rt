@@ -83,7 +83,7 @@ fn header<'a>(alloc: Global, tokens: &'a [Token], depth: u8) -> Result<(Row, &'a
     ))
 }
 
-/// As many rows as stand there.
+/// As many rows as are there.
 fn rows<'a>(
     alloc: Global,
     tokens: &'a [Token],

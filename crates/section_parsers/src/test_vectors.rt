@@ -78,7 +78,7 @@ fn vector_header<'a>(
     ))
 }
 
-/// As many rows of test vectors as stand there.
+/// As many rows of test vectors as are there.
 fn vector_rows<'a>(
     alloc: Global,
     tokens: &'a [Token],

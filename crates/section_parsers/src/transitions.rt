@@ -33,7 +33,7 @@ const GOAL_STARTS: [Terminal; 8] = [
     Terminal::Special,
 ];
 
-/// Whether an ELSE behind the arm would belong to an IF in it.
+/// Whether an ELSE after the arm would belong to an IF in it.
 fn is_open(arm: &Arm) -> bool
     ensures { result ≡ is_open_arm (view_arm arm.now) }
 {
@@ -94,7 +94,7 @@ fn make_choice(condition: Expr, colon: Place, branch: Arm) -> CaseArm
     }
 }
 
-/// ELSE and its arm, unless there is none or the IF before it is not done.
+/// ELSE and its arm, unless there isn't one or the IF before it is not done.
 #[cycle(arm)]
 fn else_arm<'a>(
     alloc: Global,
@@ -118,7 +118,7 @@ fn else_arm<'a>(
     Ok((Some((word, other)), rest))
 }
 
-/// IF, its arm and its ELSE, and the `;` behind.
+/// IF, its arm and its ELSE, and the `;` after it.
 #[cycle(arm)]
 #[tactic(auto, unfolding(abel_grammar::specs::DiagramReaders::read_if))]
 fn if_arm<'a>(
@@ -169,7 +169,7 @@ fn choice<'a>(
     }
 }
 
-/// As many choices as stand there.
+/// As many choices as are there.
 #[cycle(arm)]
 fn choices<'a>(
     alloc: Global,
@@ -189,7 +189,7 @@ fn choices<'a>(
     Ok((list, rest))
 }
 
-/// CASE, its choices, and the `;` behind ENDCASE.
+/// CASE, its choices, and the `;` after ENDCASE.
 #[cycle(arm)]
 #[tactic(auto, unfolding(abel_grammar::specs::DiagramReaders::read_case))]
 fn case_arm<'a>(
@@ -208,7 +208,7 @@ fn case_arm<'a>(
     Ok(((make_case(place, arms), end), rest))
 }
 
-/// An arm, where no nesting may be opened, and the `;` behind.
+/// An arm, if no nesting may be opened, and the `;` after it.
 #[tactic(auto, unfolding(abel_grammar::specs::DiagramReaders::read_arm))]
 fn flat_arm<'a>(
     alloc: Global,
@@ -228,7 +228,7 @@ fn flat_arm<'a>(
     }
 }
 
-/// An arm, and the `;` behind.
+/// An arm, and the `;` after it.
 #[cycle(arm)]
 #[tactic(auto, unfolding(abel_grammar::specs::DiagramReaders::read_arm))]
 fn arm<'a>(
@@ -251,7 +251,7 @@ fn arm<'a>(
     }
 }
 
-/// GOTO, IF or CASE, and the `;` behind.
+/// GOTO, IF or CASE, and the `;` after it.
 #[tactic(auto, unfolding(abel_grammar::specs::DiagramReaders::read_leading))]
 fn leading<'a>(
     alloc: Global,
@@ -280,7 +280,7 @@ fn leading<'a>(
     }
 }
 
-/// A transition, whose `;` may be missing behind ENDWITH, ENDCASE or `}`.
+/// A transition, whose `;` may be missing after ENDWITH, ENDCASE or `}`.
 #[tactic(auto, unfolding(abel_grammar::specs::DiagramReaders::read_trans))]
 pub fn trans<'a>(
     alloc: Global,

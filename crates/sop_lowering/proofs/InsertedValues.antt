@@ -1,4 +1,4 @@
--- Lists that are joined by insertion are true where the sum, and the product, of the two is.
+-- Lists that are joined by insertion are true if the sum, and the product, of the two is.
 use Rattle.std.proofs.Common.{◌≡◌, ℕ, ◌≤◌, inl, inr, Bool, true, false, cond, ◌&&◌, ◌||◌, nat_lt, List, [], ◌∷◌, ◌++◌, length, Some, None, refl, sym, ap, ◌∙◌, subst, not}
 use Rattle.sop_lowering.proofs.Common.{or_lt, Cube, AsksBelow, has_point, covers, is_empty, lies_in, union, empty_has_none, lies_in_points, union_points, Products, adds_nothing, others, insert_one, insert_all, insert_unions, insert_products, product_of, sum_of, HasValue}
 use Rattle.std.specs.List.{AllByRecursion, list_any, filter}
@@ -30,7 +30,7 @@ spread_left false true false true = refl
 spread_left false true false false = refl
 spread_left false false d e = refl
 
--- a second that is true only where the first is adds nothing
+-- a second that is true only if the first is adds nothing
 or_same : (a b : Bool) → (b ≡ true → a ≡ true) → (a || b) ≡ a
 or_same true b f = refl
 or_same false true f = sym (f refl)
@@ -83,7 +83,7 @@ module _ (p : List Bool) (few : length p ≤ 32) where
   abbrev Below : Cube → Type 0
   Below c = AsksBelow (length p) c
 
-  -- where nothing is added, there is nothing to add
+  -- if nothing is added, there is nothing to add
   nothing_new : (rows : List Cube) (c : Cube) → Below c → adds_nothing rows c ≡ true → (covers rows p || has_point c p) ≡ covers rows p
   nothing_new rows c low adds =
       or_same (covers rows p) (has_point c p) (λ is. elim (or_cases (is_empty c) (list_any (lies_in c) rows) adds) [

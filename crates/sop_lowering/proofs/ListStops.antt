@@ -1,4 +1,4 @@
--- A list that is none stays none.
+-- A list that isn't one stays none.
 use Rattle.std.proofs.Common.{◌≡◌, ℕ, ◌+◌, ◌<◌, List, [], ◌∷◌, length, drop, get_or, None, Result, Err, refl}
 use Rattle.sop_lowering.proofs.Common.{Cube, union, Fails, IsList, Products, insert_one, insert_all, insert_unions, insert_products}
 use Rattle.std.proofs.lemmas.List.{drop_more}
@@ -17,7 +17,7 @@ none_products : (cs ds : List Cube) → insert_products None cs ds ≡ None
 none_products [] ds = refl
 none_products (c ∷ cs) ds = rw (none_unions c ds) (none_products cs ds)
 
--- where one list on the way is none, so is the last; want of memory tells nothing
+-- if one list on the way isn't one, so is the last; lack of memory says nothing
 stops_with : (e : LowerFault) (one all : Products) → (one ≡ None → all ≡ None) → Fails e one → Fails e all
 stops_with fault.TooWide one all f h = f h
 stops_with fault.OutOfMemory one all f h = tt

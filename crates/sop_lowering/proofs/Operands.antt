@@ -1,4 +1,4 @@
--- The operands of a bit that can be lowered can be lowered, and the bit is too wide where one of them is.
+-- The operands of a bit that can be lowered can be lowered, and the bit is too wide if one of them is.
 use Rattle.std.proofs.Common.{◌≡◌, ℕ, ◌<◌, ◌⊎◌, inl, inr, Bool, true, false, not, List, [], ◌∷◌, ◌++◌, length, slice_get, Option, None, Some, IfSome, refl, subst, sym, ◌∙◌, arith}
 use Rattle.sop_lowering.proofs.Common.{complement_if, Function, Netlist, Leaf, arena, formula_at, Formula, Read, Not, And, Or, Xor, SignedBit, Leads, StepsLead, bit_of, signed_list, CanLower, HasPair, Products, product_of, sum_of, Reaches, ReachesThrough, leaf_list, list_of, node_list}
 use Rattle.std.proofs.lemmas.List.Elements.{All-pop, All-push}
@@ -8,7 +8,7 @@ use Rattle.sop_lowering.specs.declared.walking.Step.{Step}
 use Rattle.sop_lowering.specs.declared.walking.Step.TheVariants.{Make, Walk}
 use Rattle.sop_lowering.proofs.Turns.{function_reaches_all, function_written}
 
--- ---- lists that are made of one that is none
+-- ---- lists that are made of one that isn't one
 
 sum_left : (x y : Products) → x ≡ None → sum_of x y ≡ None
 sum_left x y e = rw e refl
@@ -62,7 +62,7 @@ module _ (net : Netlist) (bit : SignedBit) (can : CanLower net bit.id) where
   abbrev leaves : Leaf → Bool → Products
   leaves = leaf_list net (node_list net (length net.nodes))
 
-  -- the formula of the bit, where it is known
+  -- the formula of the bit, if it is known
   reaches : (f : Formula) → f ≡ At bit.id → Reaches net (HasPair net) f
   reaches f is = subst (Reaches net (HasPair net)) (sym is) can.1
 

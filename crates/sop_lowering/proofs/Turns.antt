@@ -78,7 +78,7 @@ node_reaches_all net P (suc turns) n most through =
     let e : turns + rest ≡ length net.nodes = omega (arith, most) in
     (through.0, through.1, each_more P (ReachesThrough net P turns) (ReachesThrough net P (length net.nodes)) (λ m below. rw (e) at (through_more net P turns rest m below)) (node_formula net n) through.2)
 
--- ---- the same where the function was looked up
+-- ---- the same if the function was looked up
 
 function_there : (net : Netlist) (n : ℕ) (f : Function) → slice_get net.nodes n ≡ Some f → function_of_node net n ≡ f
 function_there net n f there = get_or_from_slice_get net.nodes n f (record { one = record { 0 = 0 }; any = record { 0 = 0 }; complement = false }) there

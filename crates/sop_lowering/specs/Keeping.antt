@@ -54,7 +54,7 @@ CanReach net turns id =
     × (turns ≤ length net.nodes)
     × EachLeaf (OfLeaf (HasPair net) (ReachesThrough net (HasPair net) turns)) (formula_at (arena net.exprs) id)
 
--- the list of the first is made of that of the second, which can be lowered: where this one is too wide, so is the first
+-- the list of the first is made of that of the second, which can be lowered: if this one is too wide, so is the first
 abbrev pub Leads : Netlist → (bit operand : SignedBit) → Type 0
 Leads net bit operand = CanLower net operand.id × (signed_list net operand ≡ None → signed_list net bit ≡ None)
 

@@ -18,12 +18,12 @@ HasPair net (leaf.Node n) = Unit {0}
 abbrev pub CanLower : Netlist → ExprId → Type 0
 CanLower net id = (id.0 < length (arena net.exprs)) × Reaches net (HasPair net) (formula_at (arena net.exprs) id)
 
--- TooWide comes just where a list on the way would pass 1,024 products; want of memory tells nothing
+-- TooWide is answered just if a list on the way would pass 1,024 products; lack of memory says nothing
 abbrev pub Fails : LowerFault → Products → Type 0
 Fails fault.TooWide list = list ≡ None
 Fails fault.OutOfMemory list = Unit {0}
 
--- an answer is the list, or says that there is none
+-- an answer is the list, or says that there isn't one
 abbrev pub IsList : {A : Type 0} → (A → List Cube) → Result A LowerFault → Products → Type 0
 IsList rows (Ok r) list = list ≡ Some (rows r)
 IsList rows (Err e) list = Fails e list

@@ -3,7 +3,7 @@
 use Rattle.std.specs.Prelude.{Bool, not, ◌||◌, nat_lt, if◌then◌else◌, List, [], ◌∷◌, ◌++◌, length, filter, Option, Some, None}
 use Rattle.sop_lowering.specs.Prelude.{list_any, Cube, is_empty, lies_in, union}
 
--- a list of products; none where it or a list on the way to it would pass 1,024
+-- a list of products; none if it or a list on the way to it would pass 1,024
 abbrev pub Products : Type 0
 Products = Option (List Cube)
 
@@ -15,7 +15,7 @@ adds_nothing rows c = is_empty c || list_any (lies_in c) rows
 abbrev pub others : List Cube → Cube → List Cube
 others rows c = filter (λ d. not (lies_in d c)) rows
 
--- the list with one more at its end; none where that is the 1,025th
+-- the list with one more at its end; none if that is the 1,025th
 abbrev pub appended : List Cube → Cube → Products
 appended rows c = if nat_lt (length rows) 1024 then Some (rows ++ c ∷ []) else None
 

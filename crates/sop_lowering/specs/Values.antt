@@ -22,7 +22,7 @@ pub record Carries (net : Netlist) (at : Levels) (pairs : List Bool) (f : Formul
   pub leaves : Reaches net (CarriesLeaf net at pairs) f
   pub nodes : AreNodesValued net at
 
--- where there is a list, its products ask no variable past the levels, and some product is true just where the value is 1
+-- if there is a list, its products ask no variable past the levels, and some product is true just if the value is 1
 abbrev pub HasValue : Products → (pairs : List Bool) → Bool → Type 0
 HasValue None pairs value = Unit {0}
 HasValue (Some rows) pairs value = AllByRecursion (AsksBelow (length pairs)) rows × (covers rows pairs ≡ value)

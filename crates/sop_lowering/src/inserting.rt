@@ -62,8 +62,8 @@ fn insert_unions(rows: &mut Vec<Cube>, cube: Cube, list: &[Cube]) -> Result<(), 
     Ok(())
 }
 
-/// The list of a sum, by the lists of the two: the first, with each product of the second inserted. TooWide comes where
-/// that would be a 1,025th.
+/// The list of a sum, by the lists of the two: the first, with each product of the second inserted. TooWide is answered
+/// if that would be a 1,025th.
 pub fn sum_list(first: Vec<Cube>, second: &[Cube]) -> Result<Vec<Cube>, LowerFault>
     ensures list { IsList (λ r. r.items) result (sum_of (Some first.items) (Some second.now)) }
     ensures few { IfOk result (λ r. vec_len first ≤ 1024 → vec_len r ≤ 1024) }
@@ -75,8 +75,8 @@ pub fn sum_list(first: Vec<Cube>, second: &[Cube]) -> Result<Vec<Cube>, LowerFau
     Ok(rows)
 }
 
-/// The list of a product, by the lists of the two: the unions of each of the first with each of the second, inserted in
-/// turn. TooWide comes where one would be the 1,025th.
+/// The list of a product, by the lists of the two: the unions the first of each of with each of the second, inserted in
+/// turn. TooWide is answered if one would be the 1,025th.
 pub fn product_list(alloc: Global, first: &[Cube], second: &[Cube]) -> Result<Vec<Cube>, LowerFault>
     ensures list { IsList (λ r. r.items) result (product_of (Some first.now) (Some second.now)) }
     ensures few { IfOk result (λ r. vec_len r ≤ 1024) }

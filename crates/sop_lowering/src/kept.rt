@@ -22,7 +22,7 @@ pub(crate) fn signed(id: ExprId, positive: bool) -> SignedBit
     SignedBit { id, positive }
 }
 
-/// For each id the list of the bit, and that of its complement, where they are kept.
+/// For each id the list of the bit, and that of its complement, if they are kept.
 #[derive(Drop)]
 pub(crate) struct Kept {
     positive: Vec<Option<Vec<Cube>>>,

@@ -1,8 +1,8 @@
-//! What written products stand for, as the contract of a call that does nothing.
+//! What written products represent, as the contract of a call that does nothing.
 
 ghost use Rattle.sop_lowering.specs.Values.{WrittenValues};
 
-/// Where the nodes are valued, the OR of a formula's written products has its value. Does nothing.
+/// If the nodes are valued, the OR of a formula's written products has its value. Does nothing.
 pub fn written_values()
     ensures { WrittenValues }
 {}

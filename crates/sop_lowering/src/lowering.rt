@@ -1,4 +1,4 @@
-//! The list of a bit, made of kept lists and, where one is not kept, of lists made on the way.
+//! The list of a bit, made of kept lists and, if one is not kept, of lists made on the way.
 //!
 //! Names: `turns` is the number of nodes that a chain from here may still pass.
 
@@ -41,7 +41,7 @@ fn literal(alloc: Global, variable: u8, positive: bool) -> Result<Vec<Cube>, Low
     Ok(rows)
 }
 
-/// The polarity behind a complement that may be there.
+/// The polarity after a complement that may be there.
 pub(crate) fn turned(complement: bool, positive: bool) -> bool
     ensures { result ≡ complement_if complement positive }
 {

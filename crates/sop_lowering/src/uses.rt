@@ -1,4 +1,4 @@
-//! How often a list is still to be used, which tells when a list can be let go. Contracts see only how many were not used
+//! How often a list is still to be used, which says when a list can be let go. Contracts see only how many were not used
 //! yet, by which the walk is seen to end.
 
 ghost use Rattle.std.specs.Prelude.{◌≤◌, ◌+◌, if◌then◌else◌};

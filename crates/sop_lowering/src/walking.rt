@@ -73,14 +73,14 @@ fn operand(net: &Netlist, bit: SignedBit, index: u8) -> Option<SignedBit>
     }
 }
 
-/// What is still to be done about a bit: to walk those below it, or, behind them, to make its list.
+/// What is still to be done about a bit: to walk those below it, or, after them, to make its list.
 #[derive(Clone, Copy)]
 enum Step {
     Walk(SignedBit),
     Make(SignedBit),
 }
 
-/// Puts onto the stack that a bit is made behind its operands, the first of which is on top.
+/// Puts onto the stack that a bit is made after its operands, the first of which is on top.
 fn put_steps(net: &Netlist, bit: SignedBit, stack: &mut Vec<Step>) -> Result<(), AllocError>
     requires { CanLower net.now bit.id }
     ensures lead { (root : SignedBit) → Leads net.now root bit → StepsLead net.now root stack.old.items
@@ -96,7 +96,7 @@ fn put_steps(net: &Netlist, bit: SignedBit, stack: &mut Vec<Step>) -> Result<(),
     Ok(())
 }
 
-/// The bits whose lists the list of a root is made of, and the root, each once and behind its operands. Counts how often
+/// The bits whose lists the list of a root is made of, and the root, each once and after its operands. Counts how often
 /// each is used.
 fn order_below(
     alloc: Global,
@@ -187,7 +187,7 @@ fn ids_reached(net: &Netlist, id: ExprId) -> usize {
 }
 
 /// The written products of a bit in a polarity, nodes by their functions with any as 0, over the pairs of columns as
-/// variables. TooWide comes just where a list on the way would pass 1,024 products. No call goes as deep as the
+/// variables. TooWide is answered just if a list on the way would pass 1,024 products. No call goes as deep as the
 /// formula, and a bit that is shared is lowered once in a polarity.
 pub fn lower(
     alloc: Global,

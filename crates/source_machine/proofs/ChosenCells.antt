@@ -2,7 +2,7 @@
 use Rattle.std.proofs.Common.{◌≡◌, ℕ, ◌+◌, ◌<◌, ◌≤◌, Bool, true, false, ◌&&◌, nat_lt, List, length, set, refl, sym, ap, ◌∙◌, arith, inl, inr, get_or-set_same, get_or-set_other}
 use Rattle.source_machine.proofs.Common.{cases_eq, cases_lt, le-ltb, lt-ltb, get_or_past, bits, is_on, is_on-zero, length-bits, Table, PlainNetlist, wanted_at, is_free_wanted, AreChosen, chosen}
 
--- the levels of the first places, and 0 behind them
+-- the levels of the first places, and 0 after them
 abbrev pub HasFirst : (ℕ → Bool) → (n : ℕ) → List Bool → Type 0
 HasFirst x n levels = (k : ℕ) → is_on levels k ≡ (nat_lt k n && x k)
 

@@ -17,7 +17,7 @@ complement_same true false true = refl
 complement_same true false false = refl
 complement_same false v w = refl
 
--- the exchanged logic, but for the next Qs
+-- the exchanged logic, except for the next Qs
 with_next : (ℕ → Bool) → Lookups → (Levels → ℕ → Bool → Bool) → Logic
 with_next x m next = record (exchanged x (logic_of m)) { allows_next = next }
 

@@ -19,13 +19,13 @@ reads_as f h r same is = record {
   nodes = λ n low. is.nodes n low ∙ same (leaf.Node n);
 }
 
--- a leaf is read where it is named
+-- a leaf is read if it is named
 read_is : (named : Leaf → Bool) (r : Reads) (l : Leaf) → IsLeaf l → AreReads named r → has_leaf r l ≡ named l
 read_is named r (leaf.Pin p) low is = is.pins p low
 read_is named r (leaf.Q c) low is = is.q c low
 read_is named r (leaf.Node n) low is = is.nodes n low
 
--- what stands for a link that isn't there
+-- what represents a link that isn't there
 no_link : Link
 no_link = record { leaf = None; reads = record { pins = 0; q = 0; nodes = 0 }; stored = false }
 
@@ -45,7 +45,7 @@ links_more t net count links items link pushed are is =
           ];
     })
 
--- the same behind the cells
+-- the same after the cells
 pub links_behind : (t : Table) (net : PlainNetlist) (cells nodes : ℕ) (links items : List Link) (link : Link) → items ≡ links ++ link ∷ [] → AreFirstLinks t net (cells + nodes) links → IsLinkOf t net (cells + nodes) link → AreFirstLinks t net (cells + (nodes + 1)) items
 links_behind t net cells nodes links items link pushed are is =
     let next : cells + nodes + 1 ≡ cells + (nodes + 1) = omega arith in

@@ -6,7 +6,7 @@ use Rattle.pld_machine.specs.declared.logic.Slot.TheVariants as slot
 use Rattle.pld_machine.proofs.Ordered.{setter_of_pin, setter_of_node, get_behind, pin_set}
 use Rattle.source_machine.proofs.SignalSlots.{cell_slot, node_slot, of_cell_slot, of_node_slot, slot_at, signal_at}
 
--- a signal that stands once has one place
+-- a signal that is once has one place
 once_at : (order : List ℕ) (i j v : ℕ) → ((a b : ℕ) → a < b → b < length order → eqb (get_or order a 0) (get_or order b 0) ≡ false) → slice_get order i ≡ Some v → slice_get order j ≡ Some v → i ≡ j
 once_at order i j v apart here there =
     elim (cases_lt i j) [
@@ -42,7 +42,7 @@ module _ (t : Table) (laws : IsDevice t) (net : PlainNetlist) (order : List ℕ)
       let place = place_of order v (ordered.each v within) in
       (place.0, slice_get-get_or order place.0 0 place.1 ∙ ap (λ x. Some x) place.2)
 
-  -- no signal waits for one that stands with it or behind it
+  -- no signal waits for one that is with it or after it
   pub none_waits : (i j v w : ℕ) → i ≤ j → slice_get order i ≡ Some v → slice_get order j ≡ Some w → netlist_waits t net v w ≡ true → ⊥
   none_waits i j v w le here there waits =
       let none : netlist_waits t net (get_or order i 0) (get_or order j 0) ≡ false = ordered.earlier i j le (slice_get_within order j w there) in
@@ -138,7 +138,7 @@ module _ (t : Table) (laws : IsDevice t) (net : PlainNetlist) (order : List ℕ)
   pub node_within : (n : ℕ) → IsTrue (sets_node (netlist_lookups t net order).slots n) → n < length net.nodes
   node_within n sets = ltb-true n (length net.nodes) (sym (same_nodes n) ∙ sets)
 
--- the logic with any as 0, but for what is a node
+-- the logic with any as 0, except for what is a node
 with_nodes : Table → PlainNetlist → (ℕ → Bool) → Logic
 with_nodes t net nodes = record (netlist_with_any_0 t net) { is_node = nodes }
 

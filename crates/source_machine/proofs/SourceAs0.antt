@@ -15,7 +15,7 @@ use Rattle.source_machine.proofs.SameSignals.{alone}
 
 -- ---- truth values
 
--- a value is the other's complement where the other is its own
+-- a value is the other's complement if the other is its own
 turned : (n v x : Bool) → same_level v (complement_if n x) ≡ same_level (complement_if n v) x
 turned true true true = refl
 turned true true false = refl
@@ -36,7 +36,7 @@ off : (v : Bool) → same_level v false ≡ not v
 off true = refl
 off false = refl
 
--- data are raw by formulas where they are at a point
+-- data are raw by formulas if they are at a point
 raw_of : {V W : Type 0} (h : V → W) (s : ℕ) (cs : List (Contribution V)) → is_raw_signal (map (seen h) cs) s ≡ is_raw_signal cs s
 raw_of h s [] = refl
 raw_of h s (c ∷ cs) = rw (raw_of h s cs) refl

@@ -14,7 +14,7 @@ level_with_any_0 at c None = not (is_on at.q c)
 level_with_any_0 at c (Some w) =
     if w.registered then complement_if (not w.buffer) (is_on at.q c) else data_with_any_0 at w
 
--- the next Q of a register; 0 where it is assigned nothing
+-- the next Q of a register; 0 if it is assigned nothing
 abbrev pub next_with_any_0 : Levels → Option Wanted → Bool
 next_with_any_0 at None = false
 next_with_any_0 at (Some w) = data_with_any_0 at w

@@ -1,4 +1,4 @@
--- What a netlist, and its module, are with any as 0 where bits tell which free registers invert (ABEL-HDL Reference Manual,
+-- What a netlist, and its module, are with any as 0 where bits say which free registers invert (ABEL-HDL Reference Manual,
 -- ISTYPE; that a choice is one for all points is this project's rule).
 use Rattle.std.specs.Prelude.{◌≡◌, ℕ, Bool, ◌&&◌, nat_lt, length}
 use Rattle.source_machine.specs.Prelude.{bits, is_on, Logic, exchanged, Table, ModuleTree, design_of, PlainNetlist, wanted_at, logic_with_any_0}
@@ -14,11 +14,11 @@ inverts_by t inverted c = nat_lt c (length t.cells) && is_on (bits 32 inverted) 
 abbrev pub chosen : Table → PlainNetlist → (inverted : ℕ) → ℕ → Bool
 chosen t net inverted c = is_free_wanted (wanted_at net c) && inverts_by t inverted c
 
--- the netlist with any as 0, where these store the complement
+-- the netlist with any as 0, if these store the complement
 abbrev pub netlist_as_chosen : Table → PlainNetlist → (inverted : ℕ) → Logic
 netlist_as_chosen t net inverted = exchanged (chosen t net inverted) (netlist_with_any_0 t net)
 
--- the module with any as 0, where its free registers on such cells invert
+-- the module with any as 0, if its free registers on such cells invert
 abbrev pub module_as_chosen : Table → ModuleTree → (inverted : ℕ) → Logic
 module_as_chosen t m inverted = exchanged (inverting (inverts_by t inverted) (design_of t m).context) (logic_with_any_0 (design_of t m))
 

@@ -9,7 +9,7 @@ pub record AllowTheSame (a b : Logic) : Type 0 where
   pub to : Refines a b
   pub from : Refines b a
 
--- where each register is on a cell, the netlist of a module and the module, both with any as 0, allow the same at every
+-- if each register is on a cell, the netlist of a module and the module, both with any as 0, allow the same at every
 -- point
 abbrev pub GatheredAs0 : Type 0
 GatheredAs0 =

@@ -21,11 +21,11 @@ abbrev pub own_formula : RegisterControl → Wanted → Option Formula
 own_formula Reset w = w.reset
 own_formula Preset w = w.preset
 
--- the cell or the first of those behind it, whichever comes first by name
+-- the cell or the first of those after it, whichever is first by name
 abbrev pub before_of : CellWanted → Option CellWanted → CellWanted
 before_of w None = w
 before_of w (Some v) = if nat_lt v.name w.name then v else w
 
--- that, where the cell has such an equation
+-- that, if the cell has such an equation
 abbrev pub earlier_of : RegisterControl → CellWanted → Option CellWanted → Option CellWanted
 earlier_of which w first = if is_some (own_by which w) then Some (before_of w first) else first

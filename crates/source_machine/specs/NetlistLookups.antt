@@ -7,8 +7,8 @@ use Rattle.pld_order.specs.Graphs.{IsOrder}
 use Rattle.bit_expr.specs.declared.netlist.Netlist.{Netlist}
 use Rattle.source_machine.specs.AnyAs0.{level_with_any_0, next_with_any_0}
 
--- a netlist; the order in which its signals come to rest: first the cells count, and behind them the nodes; and which of
--- the cells store the complement, each by its bit
+-- a netlist; the order in which its signals settle: first the cells count, and after them the nodes; and which of the
+-- cells store the complement, each by its bit
 pub record Ordered : Type 0 where
   pub net : Netlist
   pub order : List ℕ
@@ -35,12 +35,12 @@ netlist_lookups t net order =
       next = λ at c. next_with_any_0 at (wanted_at net c);
     }
 
--- the same, where some of the cells store the complement
+-- the same, if some of the cells store the complement
 abbrev pub ordered_lookups : Table → Ordered → Lookups
 ordered_lookups t l =
     exchanged_lookups (is_on (bits 32 l.complemented)) (netlist_lookups t (plain_netlist l.net) l.order)
 
--- all signals, each once, none of which waits for itself or one that stands behind it
+-- all signals, each once, none of which waits for itself or one that follows it
 abbrev pub IsSignalOrder : Table → PlainNetlist → (order : List ℕ) → Type 0
 IsSignalOrder t net order = IsOrder (signal_count t net) (netlist_waits t net) order
 

@@ -20,7 +20,7 @@ pub(crate) fn cell_of<D: Device>(index: u8) -> Cell
     D::cell(index)
 }
 
-/// What is asked of a cell; None where it is assigned nothing.
+/// What is asked of a cell; None if it is assigned nothing.
 pub(crate) fn cell_wanted(net: &Netlist, cell: u8) -> Option<CellWanted>
     requires { All (IsCellIn (length (arena net.now.exprs))) net.now.cells }
     ensures found { option_map (plain_wanted (arena net.now.exprs)) result

@@ -16,7 +16,7 @@ pub(crate) enum RegisterControl {
     Preset,
 }
 
-/// The cell's own equation, where it is assigned and has one.
+/// The cell's own equation, if it is assigned and has one.
 fn own_control(which: RegisterControl, wanted: Option<CellWanted>) -> Option<Control>
     ensures { result ≡ own_control which wanted }
 {
@@ -29,7 +29,7 @@ fn own_control(which: RegisterControl, wanted: Option<CellWanted>) -> Option<Con
     }
 }
 
-/// Of a cell and the first of those behind it the one that comes first by name, of those with such an equation.
+/// Of a cell and the first of those after it the one that is first by name, of those with such an equation.
 fn earlier(
     which: RegisterControl,
     wanted: CellWanted,

@@ -1,4 +1,4 @@
-//! A netlist with any as 0 as a logic that comes to rest and steps: what a source does, without fuses.
+//! A netlist with any as 0 as a logic that settles and steps: what a source does, without fuses.
 #![tactic(auto)]
 
 mod cells;

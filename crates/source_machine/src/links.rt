@@ -13,7 +13,7 @@ use pld_base::OutOfMemory;
 use pld_device::Device;
 use std::alloc::Global;
 
-/// What an assigned cell reads while it comes to rest; a register reads by its enable alone.
+/// What an assigned cell reads while it settles; a register reads by its enable alone.
 fn wanted_reads(exprs: &Exprs, wanted: &CellWanted) -> Reads
     requires { IsCellIn (length (arena exprs.now)) wanted.now }
     ensures { AreReads (λ leaf. cell_names (Some (plain_wanted (arena exprs.now) wanted.now)) leaf) result }

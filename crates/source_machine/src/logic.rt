@@ -55,7 +55,7 @@ impl<'a, D: Device> SourceLogic<'a, D> {
         ghost source: { ModuleTree }
         requires sound { IsSoundNetlist D.table net.now }
 
-        // the netlist is that of the module where no free register inverts, as `gather` answers it
+        // the netlist is that of the module if no free register inverts, as `gather` answers it
         requires module { plain_netlist net.now ≡ netlist_of D.table source }
         requires same { MeansTheSame D.table source (plain_netlist net.now) }
         ensures net { IfOk result (λ l. l.net ≡ net.now) }
@@ -70,7 +70,7 @@ impl<'a, D: Device> SourceLogic<'a, D> {
             (logic_of (ordered_lookups D.table l))
             (module_as_chosen D.table source inverted)) }
 
-        // so it comes to rest, steps and runs in exactly one way
+        // so it settles, steps and runs in exactly one way
         ensures determined { IfOk result (λ _.
             IsDetermined (netlist_as_chosen D.table (plain_netlist net.now) inverted)) }
     {

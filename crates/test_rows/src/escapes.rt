@@ -19,7 +19,7 @@ fn byte_of(high: u8, low: u8) -> Option<u8> {
     }
 }
 
-/// The byte behind a backslash, and what is left.
+/// The byte after a backslash, and what is left.
 fn escaped(text: &[u8]) -> Option<(u8, &[u8])> {
     match text {
         [b'n', left @ ..] => Some((b'\n', left)),
@@ -34,7 +34,7 @@ fn escaped(text: &[u8]) -> Option<(u8, &[u8])> {
     }
 }
 
-/// The first byte that a text tells, and what is left behind it.
+/// The first byte that a text reports, and what is left after it.
 fn first_byte(text: &[u8]) -> Option<(u8, &[u8])> {
     match text {
         [b'\\', left @ ..] => escaped(left),
@@ -44,7 +44,7 @@ fn first_byte(text: &[u8]) -> Option<(u8, &[u8])> {
 }
 
 /// The bytes of a row's text: `\n`, `\t`, `\r`, `\\` and `\xNN` are a byte each, and a text `\e` is empty. None for any
-/// other escape, and where there is no memory.
+/// other escape, and if there is no memory.
 pub fn unescaped(alloc: Global, text: &str) -> Option<Vec<u8>> {
     let mut bytes = Vec::new(alloc);
     if text == "\\e" {

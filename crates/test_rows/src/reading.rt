@@ -8,7 +8,7 @@ pub struct Row<'a> {
     /// Which line of the whole text it is, from 1.
     pub number: usize,
     pub text: &'a str,
-    /// Whether a block begins with it: no row stands right before it.
+    /// Whether a block begins with it: no row is right before it.
     pub begins: bool,
 }
 
@@ -24,7 +24,7 @@ fn is_comment(line: &str) -> bool {
     line == "--" || line.starts_with("-- ")
 }
 
-/// The sections of a text, without comments and empty lines. What stands before the first of them is for the reader.
+/// The sections of a text, without comments and empty lines. What precedes the first of them is for the reader.
 pub fn sections<'a>(alloc: Global, text: &'a str) -> Result<Vec<Section<'a>>, AllocError> {
     let mut sections = Vec::new(alloc);
     let mut number = 0usize;
@@ -80,7 +80,7 @@ fn put_line<'a>(blocks: &mut Vec<Vec<Row<'a>>>, row: Row<'a>) -> Result<(), Allo
     Ok(())
 }
 
-/// What stands before the first ` => ` of a row and what stands behind it, without the blanks around them.
+/// What precedes the first ` => ` of a row and what follows it, without the blanks around them.
 pub fn halves(row: &str) -> Option<(&str, &str)> {
     match row.split_once(" => ") {
         Some((front, back)) => Some((front.trim(), back.trim())),

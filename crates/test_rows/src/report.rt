@@ -21,7 +21,7 @@ impl<'a> Report<'a> {
         }
     }
 
-    /// Counts a row, and tells what was found where it isn't what was wanted.
+    /// Counts a row, and says what was found if it isn't what was wanted.
     pub fn row(&mut self, number: usize, wanted: &[u8], found: &Found) {
         self.count = self.count.saturating_add(1);
         if found.is_cut() {
@@ -37,7 +37,7 @@ impl<'a> Report<'a> {
         self.told(number, b"no row")
     }
 
-    /// Tells what was found at a row.
+    /// Says what was found at a row.
     fn told(&mut self, number: usize, found: &[u8]) {
         let name = self.name;
         self.text.text(name);

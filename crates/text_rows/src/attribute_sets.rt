@@ -13,7 +13,7 @@ const WORDS: [(Attributes, &str); 5] = [
     (Attributes::DC, "dc"),
 ];
 
-/// Puts the words of the attributes that are in a set, each behind a blank.
+/// Puts the words of the attributes that are in a set, each after a blank.
 pub fn put_attributes(found: &mut Found, set: Attributes) {
     for (attribute, word) in WORDS {
         if set.contains(attribute) {

@@ -5,7 +5,7 @@ use crate::statement_outlines::put_dont_care;
 use abel_tree::{Decl, Item, Span, Word};
 use test_rows::Found;
 
-/// Words, each with a blank behind it.
+/// Words, each with a blank after it.
 pub fn put_words(found: &mut Found, words: &[Word]) {
     for word in words {
         put_word(found, word);

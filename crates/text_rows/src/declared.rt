@@ -43,7 +43,7 @@ pub fn put_name_fault(found: &mut Found, fault: &NameFault) {
     }
 }
 
-/// Puts what a name stands for.
+/// Puts what a name represents.
 fn put_meaning(found: &mut Found, declared: &Declared) {
     match &declared.meaning {
         Meaning::Pin { pin, negated } => {
@@ -61,7 +61,7 @@ fn put_meaning(found: &mut Found, declared: &Declared) {
     }
 }
 
-/// Puts the names in their order, each with what it stands for and whether it is assigned.
+/// Puts the names in their order, each with what it represents and whether it is assigned.
 fn put_names(found: &mut Found, names: &Names) {
     let mut front = "";
     for declared in names.list.as_slice() {
@@ -136,7 +136,7 @@ fn all_names(alloc: Global, names: &str) -> Found {
     all
 }
 
-/// The case of a row `DEVICE DECLARATIONS => NAMES`, of which the device's own isn't told.
+/// The case of a row `DEVICE DECLARATIONS => NAMES`, of which the device's own isn't reported.
 pub fn names(alloc: Global, text: &str) -> Option<Case> {
     let (text, names) = halves(text)?;
     let source = whole(alloc, text)?;

@@ -13,9 +13,9 @@ type Answer = Result<Option<u8>, ExpandFault>;
 #[derive(Drop)]
 pub struct Given {
     pub bytes: Found,
-    /// What comes behind the bytes.
+    /// What follows the bytes.
     ending: Answer,
-    /// Whether that comes at each further call.
+    /// Whether that occurs at each further call.
     stays: bool,
 }
 
@@ -76,7 +76,7 @@ pub fn reading(alloc: Global, text: &[u8]) -> Found {
     found
 }
 
-/// Puts the offset of the byte that a reader gave last; if a macro stands for it also an `m`, and where the source has it.
+/// Puts the offset of the byte that a reader gave last; if a macro represents it also an `m`, and if the source has it.
 fn put_offset(found: &mut Found, reader: &Reader, byte: u8) {
     found.number(reader.offset());
     if reader.is_in_macro() {
@@ -89,7 +89,7 @@ fn put_offset(found: &mut Found, reader: &Reader, byte: u8) {
     found.text(" ")
 }
 
-/// The offset of each byte that a reader gives, and where it goes on behind them.
+/// The offset of each byte that a reader gives, and the place at which it goes on after them.
 pub fn offsets(alloc: Global, text: &[u8]) -> Found {
     let mut found = Found::new(alloc);
     if text.len() > LONGEST {

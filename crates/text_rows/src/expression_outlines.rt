@@ -64,7 +64,7 @@ fn put_member(found: &mut Found, member: &Member) {
     }
 }
 
-/// An expression: an operator and its sides stand in braces.
+/// An expression: an operator and its sides are in braces.
 #[cycle(outline)]
 pub fn put_expr(found: &mut Found, expr: &Expr) {
     match expr {

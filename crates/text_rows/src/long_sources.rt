@@ -31,7 +31,7 @@ fn put_doubled(source: &mut Found, number: usize) {
     source.text("]; ")
 }
 
-/// Two pins, and constants that are each a set of the one before it, twice, of which the last is assigned: each is
+/// Two pins, and constants that are each a set of the one before it, twice, the last of which is assigned: each is
 /// followed once.
 fn run_doubling(alloc: Global, report: &mut Report) {
     let mut source = Found::new(alloc);

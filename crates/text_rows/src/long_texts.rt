@@ -1,4 +1,4 @@
-//! Long texts, told by their parts, with how a reader ends.
+//! Long texts, given by their parts, with how a reader ends.
 
 use crate::expanded::{given_of, put_ending};
 use crate::scanned::LONGEST;
@@ -12,7 +12,7 @@ fn put_times(text: &mut Found, times: usize, part: &[u8]) {
     }
 }
 
-/// Appends the part of a row `TIMES PART`, or tells that it is none.
+/// Appends the part of a row `TIMES PART`, or says that it isn't one.
 fn put_part(alloc: Global, text: &mut Found, row: &str) -> Option<()> {
     let (times, part) = row.split_once(' ')?;
     let times = times.parse::<usize>().ok()?;
@@ -37,7 +37,7 @@ fn ending(alloc: Global, text: &[u8]) -> Found {
     found
 }
 
-/// Runs a block: the parts of a text, a row each, and behind an arrow how it ends.
+/// Runs a block: the parts of a text, a row each, and after an arrow how it ends.
 pub fn run_block(alloc: Global, block: &[Row], report: &mut Report) {
     let mut text = Found::new(alloc);
     for row in block {

@@ -1,4 +1,4 @@
-//! Sources that nest again and again: 64 nestings are read, and the 65th is refused where it opens.
+//! Sources that nest again and again: 64 nestings are read, and the 65th is refused at its opening.
 
 use crate::cases::Case;
 use crate::faults::put_refusal;
@@ -9,8 +9,8 @@ use test_rows::Found;
 
 const LIMIT: usize = 64;
 
-/// A source that nests: what stands before, what opens one nesting more with its first token, what stands inside, what
-/// closes one, and what stands behind.
+/// A source that nests: what precedes, what opens one nesting more with its first token, what is inside, what closes
+/// one, and what follows.
 #[derive(Clone, Copy)]
 struct Nest<'a> {
     before: &'a str,
@@ -39,7 +39,7 @@ fn put_times(source: &mut Found, times: usize, text: &str) {
     }
 }
 
-/// What stands before the inside of so many nestings.
+/// What precedes the inside of so many nestings.
 fn opened(alloc: Global, nest: &Nest, count: usize) -> Found {
     let mut source = Found::new(alloc);
     source.text(nest.before);

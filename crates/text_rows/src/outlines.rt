@@ -66,7 +66,7 @@ fn put_section(found: &mut Found, section: &Section) {
     }
 }
 
-/// A module behind its name.
+/// A module after its name.
 pub fn put_module(found: &mut Found, module: &Module) {
     if let Some(title) = &module.title {
         found.text("title ");

@@ -1,4 +1,4 @@
-//! Sources with the outlines of their modules, or with the places where they are refused.
+//! Sources with the outlines of their modules, or with the places at which they are refused.
 
 use crate::cases::Case;
 use crate::faults::put_refusal;
@@ -7,7 +7,7 @@ use crate::sources::{framed, marked, module_of};
 use std::alloc::Global;
 use test_rows::{Found, halves, unescaped};
 
-/// What stands before and behind the source of a row, and before and behind its outline.
+/// What precedes and after the source of a row, and before and after its outline.
 #[derive(Clone, Copy)]
 struct Frame {
     front: &'static str,
@@ -16,7 +16,7 @@ struct Frame {
     behind: &'static str,
 }
 
-/// A frame with nothing behind the outline.
+/// A frame with nothing after the outline.
 fn open_frame(front: &'static str, back: &'static str, before: &'static str) -> Frame {
     Frame {
         front,
@@ -26,7 +26,7 @@ fn open_frame(front: &'static str, back: &'static str, before: &'static str) -> 
     }
 }
 
-/// What stands around the rows of a kind.
+/// What surrounds the rows of a kind.
 fn frame_of(kind: &str) -> Option<Frame> {
     match kind {
         "Expressions" => Some(Frame {
@@ -66,7 +66,7 @@ fn outline_of(alloc: Global, source: &[u8]) -> Found {
     trimmed(alloc, &found)
 }
 
-/// Bytes that a row's text tells, between two other texts.
+/// Bytes that a row's text reports, between two other texts.
 fn framed_text(alloc: Global, front: &str, text: &str, back: &str) -> Option<Found> {
     match unescaped(alloc, text) {
         Some(bytes) => Some(framed(alloc, front, bytes.as_slice(), back)),
@@ -74,7 +74,7 @@ fn framed_text(alloc: Global, front: &str, text: &str, back: &str) -> Option<Fou
     }
 }
 
-/// The case of a row `SOURCE => OUTLINE`, where the kind says what stands around them.
+/// The case of a row `SOURCE => OUTLINE`, the place of the kind says what around them.
 pub fn outlined(alloc: Global, kind: &str, text: &str) -> Option<Case> {
     let frame = frame_of(kind)?;
     let (source, outline) = halves(text)?;

@@ -1,4 +1,4 @@
-//! Texts in pieces, with what is left of them behind a skip or ahead of a look.
+//! Texts in pieces, with what is left of them after a skip or ahead of a look.
 
 use std::alloc::{AllocError, Global};
 use test_rows::{Found, Report};
@@ -25,7 +25,7 @@ fn put_before<'a>(rest: &mut Rest<'a>, texts: &[&'a [u8]]) -> Result<(), AllocEr
     Ok(())
 }
 
-/// A text behind its length.
+/// A text after its length.
 fn counted(alloc: Global, text: &[u8]) -> Found {
     let mut found = Found::new(alloc);
     found.number(text.len());
@@ -34,7 +34,7 @@ fn counted(alloc: Global, text: &[u8]) -> Found {
     found
 }
 
-/// Takes all bytes of a rest, behind their number.
+/// Takes all bytes of a rest, after their number.
 fn taken(alloc: Global, rest: &mut Rest) -> Found {
     let mut found = Found::new(alloc);
     found.number(rest.len());
@@ -71,8 +71,8 @@ fn put_byte(found: &mut Found, byte: Option<u8>) {
     found.text(" ")
 }
 
-/// A look that passes the ends of pieces: its first byte, the two behind it, how many are left, and how many bytes of
-/// pieces there are up to the third.
+/// A look that passes the ends of pieces: its first byte, the two after it, how many are left, and how many bytes of pieces
+/// there are up to the third.
 fn looked(alloc: Global) -> Result<Found, AllocError> {
     let mut rest = Rest::new(alloc, b"de");
     put_before(&mut rest, &[b"ab", b"", b"c"])?;
@@ -101,8 +101,8 @@ fn put_length(found: &mut Found, length: Option<usize>) {
     found.text(" ")
 }
 
-/// A look behind the first byte of a kept text: how long the block is that begins there, and the argument, and how many bytes
-/// stand before a question mark.
+/// A look after the first byte of a kept text: how long the block is that begins there, and the argument, and how many bytes
+/// precede a question mark.
 fn known(alloc: Global, text: &[u8]) -> Result<Found, AllocError> {
     let mut rest = Rest::new(alloc, text);
     rest.keep(alloc)?;
@@ -115,7 +115,7 @@ fn known(alloc: Global, text: &[u8]) -> Result<Found, AllocError> {
     Ok(found)
 }
 
-// Kept texts, and what is known behind their first byte.
+// Kept texts, and what is known after their first byte.
 const KNOWN: [(&[u8], &[u8]); 4] = [
     (b"{ab{c}d}e?f", b"6  8"),
     (b"(a(b,c)d,e)?", b" 7 10"),

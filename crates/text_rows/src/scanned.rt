@@ -8,7 +8,7 @@ use test_rows::{Found, Report, Row, halves, unescaped};
 /// The most bytes that a text may have.
 pub const LONGEST: usize = 1_048_576;
 
-/// The tokens of a text; where it has none, what is found tells why.
+/// The tokens of a text; if it has none, what is found says why.
 pub fn tokens_of(alloc: Global, text: &[u8], found: &mut Found) -> Option<Vec<Token>> {
     if text.len() > LONGEST {
         found.text("too long");
@@ -91,7 +91,7 @@ fn token_at(alloc: Global, token: &Token) -> Found {
     found
 }
 
-/// Runs a text whose tokens stand below it, a row each.
+/// Runs a text whose tokens are below it, a row each.
 fn run_tokens(alloc: Global, text: &[u8], rows: &[Row], report: &mut Report) {
     let mut found = Found::new(alloc);
     let Some(tokens) = tokens_of(alloc, text, &mut found) else {

@@ -8,7 +8,7 @@ use pld_base::Place;
 use std::alloc::Global;
 use test_rows::Found;
 
-/// The place behind a text.
+/// The place after a text.
 pub fn place_behind(text: &[u8]) -> Place {
     let (mut line, mut column) = (1u32, 1u32);
     for byte in text {
@@ -22,7 +22,7 @@ pub fn place_behind(text: &[u8]) -> Place {
     Place { line, column }
 }
 
-/// Bytes with a text before and a text behind them.
+/// Bytes with a text before and a text after them.
 pub fn framed(alloc: Global, front: &str, bytes: &[u8], back: &str) -> Found {
     let mut text = Found::new(alloc);
     text.text(front);
@@ -42,7 +42,7 @@ pub fn marked(alloc: Global, text: &str) -> Option<(Found, Place)> {
     }
 }
 
-/// The module of a source; where it is none, what is found tells why.
+/// The module of a source; if it isn't one, what is found says why.
 pub fn module_of(alloc: Global, source: &[u8], found: &mut Found) -> Option<Module> {
     let tokens = tokens_of(alloc, source, found)?;
     match parse(alloc, tokens.as_slice(), place_behind(source)) {

@@ -47,7 +47,7 @@ fn line_over_names(alloc: Global, fault: SectionFault) -> Result<Vec<u8>, OutOfM
     section_line(alloc, &names(alloc)?, &fault)
 }
 
-/// The line of the refusal that some words tell.
+/// The line of the refusal that some words give.
 fn line_of(alloc: Global, words: &str) -> Result<Vec<u8>, OutOfMemory> {
     match words {
         "BadNumber of a text" => read_line(alloc, ReadFault::Scan(ScanFault::BadNumber(PLACE))),
@@ -60,7 +60,7 @@ fn line_of(alloc: Global, words: &str) -> Result<Vec<u8>, OutOfMemory> {
     }
 }
 
-/// The line of the refusal that some words tell, as a text.
+/// The line of the refusal that some words give, as a text.
 pub fn line(alloc: Global, words: &str) -> Found {
     let mut found = Found::new(alloc);
     match line_of(alloc, words) {

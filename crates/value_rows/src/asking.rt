@@ -32,7 +32,7 @@ fn ask_row(alloc: Global, section: &str, names: &Found, row: &Row, report: &mut 
     report.row(row.number, wanted.as_bytes(), &found)
 }
 
-/// The report on a section. A row `names ..` declares the names of the rows behind it, and a row that begins with a blank
+/// The report on a section. A row `names ..` declares the names of the rows after it, and a row that begins with a blank
 /// declares more.
 pub(crate) fn report(alloc: Global, section: &Section) -> Found {
     let mut report = Report::new(alloc, section.name);

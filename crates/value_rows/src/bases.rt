@@ -53,7 +53,7 @@ fn put_pins(found: &mut Found) {
     found.text(if level_at(pins, 18) { " 1" } else { " 0" })
 }
 
-/// The topmost of all nodes, where it alone is 1.
+/// The topmost of all nodes, if it alone is 1.
 fn put_nodes(found: &mut Found) {
     let nodes = with_value(0, 127, true);
     found.text(if nodes >> 127 == 1 { "1" } else { "0" })
@@ -72,7 +72,7 @@ fn put_digits(alloc: Global, text: &str, found: &mut Found) -> Option<()> {
     Some(())
 }
 
-/// Puts what comes of a case.
+/// Puts what results from a case.
 pub(crate) fn ask(alloc: Global, question: &str, text: &str, found: &mut Found) -> Option<()> {
     match question {
         "texts" => return put_text(alloc, text, found),

@@ -16,7 +16,7 @@ use set_expr::{Scope, SectionFault, Shape, Shaped};
 use std::alloc::Global;
 use test_rows::Found;
 
-/// What stands before the text of a row, which is the value of the one equation.
+/// What precedes the text of a row, which is the value of the one equation.
 const FRONT: &str = "it pin 9; equations it =";
 
 /// Pins 1 and 3 are high, and node 5 is 1.
@@ -26,7 +26,7 @@ const HERE: Point = Point {
     nodes: 32,
 };
 
-/// Where the unit of the value is said to stand.
+/// The place of the unit of the value is said to.
 const UNIT: Place = Place {
     line: ROW,
     column: 1,
@@ -56,7 +56,7 @@ fn put_checked(alloc: Global, module: &Module, scope: &Scope<'_>, found: &mut Fo
     Some(())
 }
 
-/// The first X of an expression, as what it is refused as where it may not stand.
+/// The first X of an expression, as what it is refused at a place at which it isn't allowed.
 fn put_special(alloc: Global, module: &Module, scope: &Scope<'_>, found: &mut Found) -> Option<()> {
     let expr = value_of(module)?;
     match scope.check(alloc, expr) {

@@ -15,7 +15,7 @@ mod words;
 use std::io::{self, Write};
 use test_rows::sections;
 
-/// Runs the rows of standard input, and tells for each section how many they are and which are not as expected.
+/// Runs the rows of standard input, and gives for each section how many they are and which are not as expected.
 fn main(rt: HostRuntime) -> io::Result<()> {
     let alloc = rt.alloc();
     let text = io::read_to_string(alloc, rt.stdin())?;

@@ -1,4 +1,4 @@
-//! Places, shapes and refusals as a row tells them.
+//! Places, shapes and refusals as a row gives them.
 
 use crate::sources::ROW;
 use abel_tree::Ranked;
@@ -6,7 +6,7 @@ use pld_base::Place;
 use set_expr::{SectionFault, Shape};
 use test_rows::Found;
 
-/// The column, and the line too where it is another than the row's.
+/// The column, and the line too if it is another than the row's.
 pub(crate) fn put_place(place: Place, found: &mut Found) {
     if place.line != ROW {
         found.number(place.line as usize);
@@ -15,7 +15,7 @@ pub(crate) fn put_place(place: Place, found: &mut Found) {
     found.number(place.column as usize)
 }
 
-/// Parts what comes from what stands there, if anything does.
+/// Parts what results from what is there, if anything does.
 pub(crate) fn put_blank(found: &mut Found) {
     if !found.bytes().is_empty() {
         found.text(" ")
@@ -52,7 +52,7 @@ fn kind(fault: &SectionFault) -> &'static str {
     }
 }
 
-/// The number of the name that a refusal tells.
+/// The number of the name that a refusal reports.
 fn name_of(fault: &SectionFault) -> Option<u32> {
     match *fault {
         SectionFault::NotAnOutput(_, name) => name,

@@ -12,7 +12,7 @@ use pld_device::Device;
 use std::alloc::Global;
 use test_rows::Found;
 
-/// The line of a source on which the text of a row stands, from its first column on.
+/// The line of a source on which the text of a row is, from its first column on.
 pub(crate) const ROW: u32 = 4;
 
 /// More bytes than any source of a row has.

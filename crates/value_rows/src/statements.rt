@@ -14,7 +14,7 @@ use set_expr::{Contribution, Guard, Scope};
 use std::alloc::Global;
 use test_rows::Found;
 
-/// Nothing stands round the statements.
+/// Nothing surrounds the statements.
 const ALWAYS: Guard = Guard {
     when: ExprId(1),
     dontcare: false,

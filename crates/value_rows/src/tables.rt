@@ -44,7 +44,7 @@ fn put_contribution(given: &Contribution, found: &mut Found) {
     found.text(";")
 }
 
-/// What the table contributes, where nothing is refused of it.
+/// What the table contributes, if nothing is refused of it.
 fn put_given(walked: &Walked, found: &mut Found) -> Option<()> {
     if walked.fault.is_some() {
         return None;

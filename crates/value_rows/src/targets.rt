@@ -133,7 +133,7 @@ fn put_refused(
     put_data(scope, complement, clocked, &mut before, found)
 }
 
-/// Puts what comes of a case.
+/// Puts what results from a case.
 pub(crate) fn ask(alloc: Global, names: &Found, text: &str, found: &mut Found) -> Option<()> {
     let Source { module: _, names } = source_of::<Sample>(alloc, names, "", "", "")?;
     let scope = Scope::new(alloc, &names).ok()?;

@@ -11,13 +11,13 @@ use std::alloc::Global;
 use test_rows::Found;
 use truth_tables::{Entry, Mark, read_entry};
 
-/// Where the text of a row begins.
+/// The beginning of the text of a row.
 const HERE: Place = Place {
     line: ROW,
     column: 1,
 };
 
-/// The characters of the vectors of the one section, behind so many, or its first refusal.
+/// The characters of the vectors of the one section, after so many, or its first refusal.
 fn put_chars(
     alloc: Global,
     module: &Module,
@@ -116,7 +116,7 @@ fn put_entry(alloc: Global, module: &Module, scope: &Scope<'_>, found: &mut Foun
     Some(())
 }
 
-/// What stands before and behind the text of a row.
+/// What precedes and after the text of a row.
 fn around(question: &str) -> (&'static str, &'static str) {
     match question {
         "entries" => ("test_vectors ([.X.,[.X.,.X.]] -> a)", " -> 0;"),

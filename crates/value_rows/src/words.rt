@@ -75,7 +75,7 @@ fn made_word(alloc: Global, text: &str) -> Option<Vec<ExprId>> {
     made.ok()
 }
 
-/// The word of a text, in which a stands for a bit that is no constant.
+/// The word of a text, in which a represents a bit that is no constant.
 fn word(alloc: Global, text: &str) -> Option<Vec<ExprId>> {
     let made = match text {
         "5 in 4" => digit_word(alloc, 5, 4),
@@ -130,7 +130,7 @@ fn put_level(level: bool, found: &mut Found) {
     found.text(if level { "1" } else { "0" })
 }
 
-/// Puts what comes of a case.
+/// Puts what results from a case.
 pub(crate) fn ask(alloc: Global, question: &str, text: &str, found: &mut Found) -> Option<()> {
     match question {
         "levels" => match text {

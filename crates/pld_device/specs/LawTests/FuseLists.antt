@@ -1,4 +1,4 @@
--- That a test over lists of fuses tells their entries apart (private: for the laws of tables).
+-- That a test over lists of fuses distinguishes their entries (private: for the laws of tables).
 use Rattle.std.proofs.Common.{◌≡◌, ℕ, zero, suc, Bool, true, not, Option, Some, None, List, [], ◌∷◌, ◌++◌, get_or, refl, ap, sym, subst, ◌∙◌, arith, eq-eqb}
 use Rattle.std.specs.Prelude.{◌==◌, Contains, slice_get, map}
 use Rattle.std.specs.List.{list_all}
@@ -9,7 +9,7 @@ use Rattle.pld_device.specs.ControlFuses.{fuses_named}
 use Rattle.pld_device.specs.Laws.{fuse_if_any}
 use Rattle.pld_device.specs.LawTests.Lists.{apart, not_both, get_all}
 
--- a test that a list's parts pass where the whole does
+-- a test that a list's parts pass if the whole does
 both_pass : {X : Type 0} (test : X → Bool) (xs ys : List X) → list_all test (xs ++ ys) ≡ true → (list_all test xs ≡ true) × (list_all test ys ≡ true)
 both_pass test xs ys all = and_parts (list_all test xs) (list_all test ys) (sym (list_all-append test xs ys) ∙ all)
 

@@ -1,4 +1,4 @@
--- Tests of where the rows of a table end, and what they show (private: for the laws of tables).
+-- Tests of the ends of the rows of a table, and what they show (private: for the laws of tables).
 use Rattle.std.proofs.Common.{◌≡◌, ℕ, suc, ◌≤◌, Bool, true, false, Option, Some, None, List, [], ◌∷◌, refl, arith}
 use Rattle.std.specs.Prelude.{nat_lt}
 use Rattle.std.specs.List.{list_all}

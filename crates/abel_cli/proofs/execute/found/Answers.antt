@@ -1,4 +1,4 @@
--- A source over the limit is one where the files tell it.
+-- A source over the limit is one if the files show it.
 use Rattle.std.proofs.Common.{◌∙◌, string_bytes}
 use Rattle.abel_cli.proofs.Common.{length-map, command_seen, ending_seen}
 use Rattle.abel_cli.proofs.Called.{ends_long}

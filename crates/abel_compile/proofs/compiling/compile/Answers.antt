@@ -1,4 +1,4 @@
--- The answer for the module is one for its text, and so is it where the text, or its device, is refused.
+-- The answer for the module is one for its text, and so is it if the text, or its device, is refused.
 use Rattle.abel_compile.proofs.Common.{err_from_is_err_and, view_module, CompileAnswers, IsNeverRefused}
 use Rattle.abel_compile.proofs.Compiles.{HasRightFile, of_text, of_device, answers_of, file_is_right}
 use Rattle.abel_compile.proofs.NeverRefused.{never_text, never_device, never_on}

@@ -18,7 +18,7 @@ returns-in_err-module-clause-err g c =
     (err_from_is_err_and c.from_residual-in_err-module.result c.from_residual-in_err-module.ensures.1)
     (by_placing g.D.Device.table (view_module c.args.source) _ c.in_err-module.ensures.err)
 
--- only memory can be out behind that
+-- only memory can be out after that
 pub returns-in_err-parts-clause-err : goal.returns-in_err-parts-clause-err
 returns-in_err-parts-clause-err g c =
     handed (λ r. IfErr r (IsRefusedBy g.D.Device.table (view_module c.args.source))) c.from_residual-in_err-parts.result _

@@ -1,4 +1,4 @@
--- The end is looked for behind the bytes read so far.
+-- The end is looked for after the bytes read so far.
 use Rattle.std.proofs.Common.{◌≡◌, ◌+◌, false, drop}
 use Rattle.abel_lexer.proofs.Common.{quote_end}
 use Rattle.abel_lexer.proofs.length.quote_end.Given as goal

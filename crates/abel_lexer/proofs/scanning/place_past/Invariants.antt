@@ -1,4 +1,4 @@
--- The place behind the bytes read so far leads to the place behind all.
+-- The place after the bytes read so far leads to the place after all.
 use Rattle.std.proofs.Common.{◌≡◌, ◌≤◌, ◌+◌, drop}
 use Rattle.abel_lexer.proofs.Common.{place_past}
 use Rattle.abel_lexer.proofs.scanning.place_past.Given as goal

@@ -1,4 +1,4 @@
--- What is found at the front is what stands there.
+-- What is found at the front is what is there.
 use Rattle.std.proofs.Common.{rules, ◌≡◌, ◌⊎◌, Some, refl}
 use Rattle.abel_lexer.proofs.Common.{ScanFault, OutOfMemory, fault_of, IsFaultAt}
 use Rattle.abel_lexer.proofs.Found.{nothing_found, fault_found, token_sound, not_zero}

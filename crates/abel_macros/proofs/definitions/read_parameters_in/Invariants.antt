@@ -1,4 +1,4 @@
--- What was read so far stands before what follows.
+-- What was read so far precedes what follows.
 use Rattle.std.proofs.Common.{◌≡◌, ◌≤◌}
 use Rattle.abel_macros.proofs.Common.{ahead, names}
 use Rattle.abel_macros.specs.Forms as forms

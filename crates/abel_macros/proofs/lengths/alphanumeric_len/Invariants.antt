@@ -1,4 +1,4 @@
--- What is ahead leads to where all leads.
+-- What is ahead leads to the same end as the whole.
 use Rattle.std.proofs.Common.{◌≡◌, ◌≤◌, ◌<◌, ◌+◌, ◌^◌, length}
 use Rattle.abel_macros.proofs.Common.{prefix_len, is_ascii_alphanumeric, ahead}
 use Rattle.abel_macros.proofs.lengths.alphanumeric_len.Given as goal

@@ -1,4 +1,4 @@
--- What is ahead leads to where all leads.
+-- What is ahead leads to the same end as the whole.
 use Rattle.std.proofs.Common.{◌≡◌, ◌≤◌, ◌+◌, ◌-◌, length, take}
 use Rattle.abel_macros.proofs.Common.{prefix_len, ahead, is_blank}
 use Rattle.abel_macros.proofs.trimming.blank_len.Given as goal

@@ -1,4 +1,4 @@
--- Each call reads what stands nearer to the operands, or is nested deeper.
+-- Each call reads what is nearer to the operands, or is nested deeper.
 use Rattle.std.proofs.Common.{◌≡◌, ◌≤◌, ◌+◌, ◌*◌, ℕ}
 use Rattle.abel_macros.proofs.Common.{Priority, ahead, tables_of, item, level, chain_on, operand}
 use Rattle.abel_macros.specs.declared.operator.Priority.TheVariants as priority
@@ -21,7 +21,7 @@ decreases-read_item l = 9 * l.most + rank l.priority
 abbrev pub decreases-read_chain : goal.decreases-read_chain
 decreases-read_chain l = 9 * l.most + rank l.priority + 1
 
--- what follows, behind the value so far, leads to the value of all
+-- what follows, after the value so far, leads to the value of all
 abbrev pub invariant-read_chain-items : goal.invariant-read_chain-items
 invariant-read_chain-items l =
     record {

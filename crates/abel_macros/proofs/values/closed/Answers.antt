@@ -1,4 +1,4 @@
--- The value stands before what stands behind the parenthesis.
+-- The value precedes what follows the parenthesis.
 use Rattle.std.proofs.Common.{None, Some}
 use Rattle.abel_macros.proofs.Common.{ahead}
 use Rattle.abel_macros.proofs.Operands.{closed_by}

@@ -1,4 +1,4 @@
--- What is read, settled and refused comes to what the module declares.
+-- What is read, settled and refused amounts to what the module declares.
 use Rattle.std.proofs.Common.{◌≡◌, true, not, is_some, ◌++◌, map, inr, sym, ap, ◌∙◌}
 use Rattle.declared_names.proofs.Common.{or-true, none_refused, name_refusals, view_declared, first_refusal, view_module, with_assigned, name_order, first_name_refusal, refused_for, registers_wait}
 use Rattle.decls.specs.Passed.{wants_names}

@@ -1,4 +1,4 @@
--- One name more: a new name's number stands behind the others.
+-- One name more: a new name's number follows the others.
 use Rattle.std.proofs.Common.{◌≡◌, ◌≤◌, None, true, length, map, arith, sym, ap, ap₂, ◌∙◌, is_some}
 use Rattle.declared_names.proofs.Common.{bytes_eq, length-map, view_declared, earlier_number, number_in, number_of_name}
 use Rattle.std.specs.Map.{lookup}

@@ -1,4 +1,4 @@
--- The running first, one name more: one refusal more where it is a register.
+-- The running first, one name more: one refusal more if it is a register.
 use Rattle.std.proofs.Common.{◌≤◌, Bool, [], ◌∷◌, ◌++◌, map, take, length, get_or, if◌then◌else◌, sym, ap, ◌∙◌, arith, Some}
 use Rattle.declared_names.proofs.Common.{append-nil, take_all, view_declared, earlier, first_refusal, first_push, name_order, registers_refused}
 use Rattle.decls.specs.declared.fault.NameFault.TheVariants as fault

@@ -1,4 +1,4 @@
--- What the first string says, or that there is none.
+-- What the first string says, or that there isn't one.
 use Rattle.std.proofs.Common.{sym, ap, ◌∙◌, option_copied}
 use Rattle.decls.proofs.Common.{view_module, named_device, unquoted, all_declarations}
 use Rattle.decls.proofs.FirstStrings.{known, unknown, unsaid}

@@ -1,4 +1,4 @@
--- The string stands in the declarations, or in those of the sections.
+-- The string is in the declarations, or in those of the sections.
 use Rattle.std.proofs.Common.{map, sym, ap, ◌∙◌, option_copied}
 use Rattle.decls.proofs.Common.{view_decl, view_section, section_declarations, first_string}
 use Rattle.decls.proofs.FirstStrings.{first_part, second_part}

@@ -1,4 +1,4 @@
--- The first string is found where it stands, or there is none.
+-- The first string is found at its place, or there isn't one.
 use Rattle.std.proofs.Common.{map, sym, ap, ◌∙◌, option_copied}
 use Rattle.decls.proofs.Common.{view_decl, first_string}
 use Rattle.decls.proofs.FirstStrings.{none_more, found_here, decls_parts}

@@ -1,4 +1,4 @@
--- The first string is found where it stands, or there is none.
+-- The first string is found at its place, or there isn't one.
 use Rattle.std.proofs.Common.{sym, ap, ◌∙◌, option_copied}
 use Rattle.decls.proofs.FirstStrings.{none_more, found_here, sections_string, sections_parts}
 use Rattle.decls.proofs.device.string_in_sections.Goals as goal

@@ -1,4 +1,4 @@
--- One word more, where none was unknown.
+-- One word more, if none was unknown.
 use Rattle.std.proofs.Common.{not, ◌||◌, sym, ap, ◌∙◌}
 use Rattle.decls.proofs.Common.{str_to_ascii_lowercase, said_by_either, lower_words, view_said}
 use Rattle.decls.proofs.Words.{tells_more}

@@ -1,4 +1,4 @@
--- Three pieces were appended, one behind the other.
+-- Three pieces were appended, one after the other.
 use Rattle.std.proofs.Common.{◌≡◌, ℕ, List, ◌++◌, ◌∙◌, ap, append_assoc, codes}
 use Rattle.decompiled.proofs.Common.{device_text}
 use Rattle.decompiled.proofs.source.put_head.Goals as goal

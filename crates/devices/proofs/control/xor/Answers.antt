@@ -1,4 +1,4 @@
--- The fuse stands at its place in a row of numbers.
+-- The fuse is at its place in a row of numbers.
 use Rattle.std.proofs.Common.{◌+◌, ℕ, None, Some, false, sym, ap}
 use Rattle.std.proofs.lemmas.List.FromFn.{get_or-map-range_with_len}
 use Rattle.devices.specs.Gal16V8Tables.{bit}

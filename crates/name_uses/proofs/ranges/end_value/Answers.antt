@@ -1,4 +1,4 @@
--- The digits stand behind the stem.
+-- The digits follow the stem.
 use Rattle.std.proofs.Common.{Some, None, if◌then◌else◌, ap, ◌∙◌}
 use Rattle.name_uses.proofs.Common.{is_run, number_of}
 use Rattle.name_uses.proofs.Digits.{digits_sliced}

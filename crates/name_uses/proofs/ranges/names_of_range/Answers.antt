@@ -1,4 +1,4 @@
--- Both ends are runs of digits behind one stem.
+-- Both ends are runs of digits after one stem.
 use Rattle.std.proofs.Common.{◌++◌, map, sym, ap, ap₂, ◌∙◌}
 use Rattle.name_uses.proofs.Common.{decimal, bytes_eq, numbers_between, name_items}
 use Rattle.name_uses.proofs.Digits.{agreed}

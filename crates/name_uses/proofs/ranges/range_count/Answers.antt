@@ -1,4 +1,4 @@
--- Both ends are runs of digits behind one stem.
+-- Both ends are runs of digits after one stem.
 use Rattle.std.proofs.Common.{◌+◌, sym, ap, ap₂, ◌∙◌}
 use Rattle.name_uses.proofs.Common.{bytes_eq}
 use Rattle.name_uses.proofs.Digits.{counted_range}

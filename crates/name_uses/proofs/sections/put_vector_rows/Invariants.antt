@@ -1,4 +1,4 @@
--- The parts of those so far stand behind what was there.
+-- The parts of those so far follow what was there.
 use Rattle.std.proofs.Common.{◌≡◌, ◌++◌, map, take}
 use Rattle.name_uses.proofs.Common.{flat_map, view_vector_row, parts_in_row, view_part}
 use Rattle.name_uses.proofs.sections.put_vector_rows.Given as goal

@@ -1,4 +1,4 @@
--- The parts of those so far stand behind what was there.
+-- The parts of those so far follow what was there.
 use Rattle.std.proofs.Common.{◌≡◌, ◌++◌, map, take}
 use Rattle.name_uses.proofs.Common.{flat_map, view_arm, parts_in_branch, view_part}
 use Rattle.name_uses.proofs.transitions.put_arms.Given as goal

@@ -1,4 +1,4 @@
--- The first operand and the right sides that wait make up the expression; what was listed stands in order.
+-- The first operand and the right sides that wait make up the expression; what was listed is in order.
 use Rattle.std.proofs.Common.{◌≡◌, ◌≤◌, ◌+◌, ◌*◌, ◌++◌, length, take, map}
 use Rattle.name_uses.proofs.Common.{flat_map, size-Expr, size-Member, view, view_member, member_used, names_used, view_use}
 use Rattle.name_uses.proofs.Unrolled.{Unrolls, EachBelow, rights_used, expr_at}

@@ -28,7 +28,7 @@ the_former entry = list entry
 abbrev pub the_weighed : {entry : Former {0}} → Weighed entry → Weighed (the_former entry)
 the_weighed weighed = w_list weighed
 
--- the list of no entries, where a type that reaches itself begins
+-- the list of no entries, with which a type that reaches itself begins
 pub the_empty : List ⊥
 the_empty = []
 

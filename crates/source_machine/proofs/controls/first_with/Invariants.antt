@@ -1,4 +1,4 @@
--- What comes first of the cells from a place on.
+-- What is first of the cells from a place on.
 use Rattle.std.proofs.Common.{◌≡◌, ◌≤◌, drop, length, map, IfSome}
 use Rattle.source_machine.proofs.Common.{option_map, arena, first_with, plain_wanted, IsCellIn, own_formula}
 use Rattle.source_machine.proofs.controls.first_with.Given as goal

@@ -1,4 +1,4 @@
--- The constant 1 stands in every arena.
+-- The constant 1 is in every arena.
 use Rattle.std.proofs.Common.{refl}
 use Rattle.section_targets.proofs.MetWords.{high_bit}
 use Rattle.value_rows.proofs.statements.walked_of.Goals as goal

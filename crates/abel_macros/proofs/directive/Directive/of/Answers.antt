@@ -1,4 +1,4 @@
--- A word that is none of the first four is a further one.
+-- A word that isn't one of the first four is a further one.
 use Rattle.std.proofs.Common.{rules, ◌≡◌, false, codes}
 use Rattle.abel_macros.proofs.Common.{is_word, directive_of}
 use Rattle.abel_macros.proofs.directive.Directive.of.Goals as goal

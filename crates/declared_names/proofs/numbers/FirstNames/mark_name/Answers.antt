@@ -1,4 +1,4 @@
--- A name is marked where its number is below the limit.
+-- A name is marked if its number is below the limit.
 use Rattle.std.proofs.Common.{ℕ, Option, None, Some, if◌then◌else◌, sym, ap, ◌∙◌, arith, option_copied}
 use Rattle.declared_names.proofs.Common.{lt-ltb, le-ltb, all_marked, below, number_given}
 use Rattle.declared_names.proofs.numbers.FirstNames.mark_name.Goals as goal

@@ -1,4 +1,4 @@
--- A constant behind names that were left out.
+-- A constant after names that were left out.
 use Rattle.decls.proofs.Common.{view}
 use Rattle.decls.proofs.Added.{adds_constant}
 use Rattle.decls.proofs.pass.Pass.enter_constant.Goals as goal

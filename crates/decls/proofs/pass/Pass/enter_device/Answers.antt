@@ -1,4 +1,4 @@
--- A device behind names that were left out.
+-- A device after names that were left out.
 use Rattle.decls.proofs.Added.{adds_device}
 use Rattle.decls.proofs.pass.Pass.enter_device.Goals as goal
 

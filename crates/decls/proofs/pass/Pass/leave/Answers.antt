@@ -1,4 +1,4 @@
--- What is left out stands behind the first refusal, or the pass is lost.
+-- What is left out follows the first refusal, or the pass is lost.
 use Rattle.std.proofs.Common.{true, refl}
 use Rattle.decls.proofs.LeftOut.{leaves}
 use Rattle.decls.proofs.pass.Pass.leave.Goals as goal

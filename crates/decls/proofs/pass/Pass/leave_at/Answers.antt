@@ -1,4 +1,4 @@
--- A name behind names that were left out.
+-- A name after names that were left out.
 use Rattle.std.proofs.Common.{sym, ◌∙◌}
 use Rattle.decls.proofs.pass.Pass.leave_at.Goals as goal
 

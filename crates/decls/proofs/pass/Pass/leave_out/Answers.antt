@@ -1,4 +1,4 @@
--- A declaration behind names that were left out.
+-- A declaration after names that were left out.
 use Rattle.std.proofs.Common.{sym, ◌∙◌}
 use Rattle.decls.proofs.Common.{items_behind, words_behind}
 use Rattle.decls.proofs.FirstStays.{head_all, tail_all}

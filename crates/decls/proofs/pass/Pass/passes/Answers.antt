@@ -1,4 +1,4 @@
--- A use is passed over behind names that were left out, and behind the first refusal.
+-- A use is passed over after names that were left out, and after the first refusal.
 use Rattle.std.proofs.Common.{sym, ◌∙◌}
 use Rattle.decls.proofs.Common.{refuse_all}
 use Rattle.decls.proofs.Added.{adds_all}

@@ -1,4 +1,4 @@
--- A name that is found is refused, another is a row behind the others.
+-- A name that is found is refused, another is a row after the others.
 use Rattle.std.proofs.Common.{refl, sym, ap, ◌∙◌}
 use Rattle.decls.proofs.Common.{bytes_eq, lookup, kind_of, view_said}
 use Rattle.indexmap.proofs.CallerLemmas.{insert_entry-new}

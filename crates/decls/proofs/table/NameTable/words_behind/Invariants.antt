@@ -1,4 +1,4 @@
--- All so far are behind the first refusal.
+-- All so far are after the first refusal.
 use Rattle.std.proofs.Common.{◌≡◌, true, take}
 use Rattle.decls.proofs.Common.{words_behind}
 use Rattle.decls.proofs.table.NameTable.words_behind.Given as goal
