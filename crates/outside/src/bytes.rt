@@ -1,7 +1,8 @@
-//! All bytes of a reader, and all bytes to a writer.
+//! All bytes of a reader, and all bytes to a writer; and whether bytes begin with others.
 
 ghost use Rattle.std.specs.Io.KnownBytes.{Appends, Consumes, IsAtEnd};
-ghost use Rattle.std.specs.Prelude.{true, IfSome, IfOk, OnOk, IsErrOf, ◌≡◌, ◌≤◌, ◌<◌, ◌-◌, length};
+ghost use Rattle.std.specs.Prelude.{true, IfSome, IfOk, OnOk, IsErrOf, IsTrue, ◌≡◌, ◌↔◌, ◌≤◌, ◌<◌, ◌-◌, length};
+ghost use Rattle.outside.specs.Causes.{Begins};
 
 use crate::files::ReadFault;
 use std::alloc::Global;
@@ -44,4 +45,11 @@ pub fn write_all<W: Write>(sink: &mut W, bytes: &[u8]) -> bool
     ensures { result ≡ true → Appends (W.contents sink.old) (W.contents sink.new) bytes.now }
 {
     sink.write_all(bytes).is_ok()
+}
+
+/// Whether bytes begin with others. Takes no memory.
+pub fn begins(bytes: &[u8], front: &[u8]) -> bool
+    ensures { IsTrue result ↔ Begins bytes.now front.now }
+{
+    bytes.starts_with(front)
 }

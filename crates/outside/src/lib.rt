@@ -3,6 +3,7 @@
 
 mod bytes;
 mod files;
+mod guarded_files;
 mod memory_files;
 mod memory_sink;
 mod real_files;
@@ -12,6 +13,7 @@ mod sink;
 mod sure_files;
 
 pub use files::{Files, ReadFault, WriteFault};
+pub use guarded_files::GuardedFiles;
 pub use memory_files::MemoryFiles;
 pub use memory_sink::MemorySink;
 pub use real_files::HostFiles;

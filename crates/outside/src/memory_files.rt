@@ -4,9 +4,10 @@ ghost use Rattle.std.specs.Prelude.{⊤, ◌≡◌, ◌≢◌, ℕ, ◌≤◌, �
 ghost use Rattle.outside.specs.Causes.{Rose};
 ghost use Rattle.outside.specs.Memory.{bytes_in, FailsNext};
 ghost use Rattle.outside.specs.MemoryState.{held, FailsNow, failing_calls, calls_made, faults_of, write_faults_of, SameCounts, SameMemory};
-ghost use Rattle.outside.specs.Outside.{bytes_at, SameFiles, SameBut};
+ghost use Rattle.outside.specs.Outside.{bytes_at, MayReplace, SameFiles, SameBut};
 
 use crate::files::{Files, ReadFault, WriteFault};
+use crate::guarded_files::{GuardedFiles, may_lose};
 use pld_base::OutOfMemory;
 use std::alloc::Global;
 use std::collections::BTreeMap;
@@ -73,6 +74,16 @@ impl MemoryFiles {
         match self.files.get(name) {
             Some(bytes) => Some(bytes.as_slice()),
             None => None,
+        }
+    }
+
+    /// Whether a write under `output` loses nothing.
+    fn is_free(&self, output: &str, input: &str, front: &[u8]) -> bool
+        ensures { IsTrue result ↔ MayReplace (held self.now) output.now input.now front.now }
+    {
+        match self.get(output) {
+            None => true,
+            Some(bytes) => may_lose(output, input, bytes, front),
         }
     }
 
@@ -185,5 +196,27 @@ impl Files for MemoryFiles {
             Ok(()) => Ok(()),
             Err(_) => Err(WriteFault::OutOfMemory),
         }
+    }
+}
+
+impl GuardedFiles for MemoryFiles {
+    /// The answer is `Failed` exactly if the call is on the list. Takes no memory.
+    fn may_replace(&mut self, output: &str, input: &str, front: &[u8]) -> Result<bool, ReadFault>
+        ensures may { IfOk result (λ may. IsTrue may
+            ↔ MayReplace (held self.old) output.now input.now front.now) }
+        ensures failed_exactly { IsErrOf result ReadFault.Failed ↔ FailsNow self.old }
+        ensures failed { IsErrOf result ReadFault.Failed
+            → faults_of self.new ≡ min (faults_of self.old + 1) (2 ^ 64 - 1) }
+        ensures still { IsErrOf result ReadFault.Failed ⊎ (faults_of self.new ≡ faults_of self.old) }
+        ensures same { SameFiles (held self.old) (held self.new) }
+        ensures later { faults_of self.old ≤ faults_of self.new }
+        ensures no_write { write_faults_of self.new ≡ write_faults_of self.old }
+        ensures calls { calls_made self.new ≡ min (calls_made self.old + 1) (2 ^ 64 - 1) }
+    {
+        if self.fails_now() {
+            self.faults = self.faults.saturating_add(1);
+            return Err(ReadFault::Failed);
+        }
+        Ok(self.is_free(output, input, front))
     }
 }

@@ -5,6 +5,7 @@ ghost use Rattle.outside.specs.HostState.{host_faults, host_write_faults};
 
 use crate::bytes::read_all;
 use crate::files::{Files, ReadFault, WriteFault};
+use crate::guarded_files::{GuardedFiles, host_may_replace};
 use crate::replacing::replace;
 use std::alloc::Global;
 use std::{fs, rt};
@@ -53,12 +54,22 @@ impl<R: rt::Files + Drop> Files for HostFiles<R> {
         result
     }
 
-    /// A file that is there is replaced in one piece. `OutOfMemory` comes before a file is opened.
+    /// A file that is there is replaced in one piece. `OutOfMemory` comes before anything is written.
     fn write(&mut self, name: &str, bytes: &[u8]) -> Result<(), WriteFault> {
         let result = replace(&self.host, self.alloc, name, bytes);
         if matches!(&result, Err(WriteFault::Failed)) {
             self.faults = self.faults.saturating_add(1);
             self.write_faults = self.write_faults.saturating_add(1);
+        }
+        result
+    }
+}
+
+impl<R: rt::Files + Drop> GuardedFiles for HostFiles<R> {
+    fn may_replace(&mut self, output: &str, input: &str, front: &[u8]) -> Result<bool, ReadFault> {
+        let result = host_may_replace(&self.host, self.alloc, output, input, front);
+        if matches!(&result, Err(ReadFault::Failed)) {
+            self.faults = self.faults.saturating_add(1);
         }
         result
     }

@@ -11,12 +11,16 @@ use crate::files::WriteFault;
 use std::alloc::Global;
 use std::fs::{File, OpenFile, OpenOptions, Permissions};
 use std::io::{ErrorKind, Write};
+use std::os::unix::fs::PermissionsExt;
 use std::{fs, rt};
 
 /// How many names are tried for the new file.
 const NAMES: u32 = 1000;
 
-/// Puts the bytes under a name. What memory it needs it takes before it opens a file.
+/// The most bytes that the system takes for the name of a file in its folder.
+const LONGEST_NAME: usize = 255;
+
+/// Puts the bytes under a name. `OutOfMemory` comes before anything is written.
 pub fn replace<R: rt::Files>(
     host: &R,
     alloc: Global,
@@ -25,10 +29,7 @@ pub fn replace<R: rt::Files>(
 ) -> Result<(), WriteFault> {
     let written = match target_of(host, alloc, name)? {
         None => overwritten(host, name, bytes),
-        Some(target) => {
-            let fresh = fresh_beside(host, alloc, target.as_str())?;
-            replaced(host, fresh.as_str(), target.as_str(), bytes)
-        }
+        Some(target) => replaced(host, alloc, target.as_str(), bytes)?,
     };
     if written {
         Ok(())
@@ -62,17 +63,43 @@ fn target_of<R: rt::Files>(
     }
 }
 
-/// A name beside a file that no file has.
-fn fresh_beside<R: rt::Files>(host: &R, alloc: Global, target: &str) -> Result<String, WriteFault> {
+/// A name for a new file beside a target. If the target's own name leaves no room for the ending, its last bytes are left out,
+/// and one more, so that the two names always differ.
+fn name_beside(alloc: Global, target: &str, number: u32) -> Result<String, WriteFault> {
+    let Ok(ending) = format!(in alloc; ".new{number}") else {
+        return Err(WriteFault::OutOfMemory);
+    };
+    let name = match target.rsplit_once('/') {
+        Some((_, name)) => name.len(),
+        None => target.len(),
+    };
+    let kept = if name <= LONGEST_NAME.saturating_sub(ending.len()) {
+        target.len()
+    } else {
+        target.len().saturating_sub(ending.len()).saturating_sub(1)
+    };
+    let front = &target[..target.floor_char_boundary(kept)];
+    match format!(in alloc; "{front}{ending}") {
+        Ok(fresh) => Ok(fresh),
+        Err(_) => Err(WriteFault::OutOfMemory),
+    }
+}
+
+/// Makes a new file beside a target, under the first name that no other file has. None if it can't be made.
+fn made_beside<R: rt::Files>(
+    host: &R,
+    alloc: Global,
+    target: &str,
+) -> Result<Option<(String, R::File)>, WriteFault> {
     for number in 0..NAMES {
-        let Ok(fresh) = format!(in alloc; "{target}.new{number}") else {
-            return Err(WriteFault::OutOfMemory);
-        };
-        if fs::symlink_metadata(host, fresh.as_str()).is_err() {
-            return Ok(fresh);
+        let fresh = name_beside(alloc, target, number)?;
+        match File::create_new(host, fresh.as_str()) {
+            Ok(file) => return Ok(Some((fresh, file))),
+            Err(fault) if fault.kind() == ErrorKind::AlreadyExists => {}
+            Err(_) => return Ok(None),
         }
     }
-    Err(WriteFault::Failed)
+    Ok(None)
 }
 
 /// Whether the bytes were written over those that the name has, or through the link that it is.
@@ -85,46 +112,56 @@ fn overwritten<R: rt::Files>(host: &R, name: &str, bytes: &[u8]) -> bool {
 
 /// Whether the target has the bytes: a new file where there is none or a regular one that may be
 /// written, else what is there takes them.
-fn replaced<R: rt::Files>(host: &R, fresh: &str, target: &str, bytes: &[u8]) -> bool {
+fn replaced<R: rt::Files>(
+    host: &R,
+    alloc: Global,
+    target: &str,
+    bytes: &[u8],
+) -> Result<bool, WriteFault> {
     match OpenOptions::new().write(true).open(host, target) {
         Ok(mut old) => match old.metadata() {
             Ok(found) if found.is_file() => {
-                renamed(host, fresh, target, Some(found.permissions()), bytes)
+                renamed(host, alloc, target, Some(found.permissions()), bytes)
             }
-            Ok(_) => write_all(&mut old, bytes),
-            Err(_) => false,
+            Ok(_) => Ok(write_all(&mut old, bytes)),
+            Err(_) => Ok(false),
         },
         Err(fault) if fault.kind() == ErrorKind::NotFound => {
-            renamed(host, fresh, target, None, bytes)
+            renamed(host, alloc, target, None, bytes)
         }
-        Err(_) => false,
+        Err(_) => Ok(false),
     }
 }
 
 /// Whether a new file of these bytes has taken the target's name. If not, it is removed.
 fn renamed<R: rt::Files>(
     host: &R,
-    fresh: &str,
+    alloc: Global,
     target: &str,
     mode: Option<Permissions>,
     bytes: &[u8],
-) -> bool {
-    let Ok(mut file) = File::create_new(host, fresh) else {
-        return false;
+) -> Result<bool, WriteFault> {
+    let Some((fresh, mut file)) = made_beside(host, alloc, target)? else {
+        return Ok(false);
     };
-    if filled(&mut file, mode, bytes) && fs::rename(host, fresh, target).is_ok() {
-        return true;
+    if filled(&mut file, mode, bytes) && fs::rename(host, fresh.as_str(), target).is_ok() {
+        return Ok(true);
     }
-    let _ = fs::remove_file(host, fresh);
-    false
+    let _ = fs::remove_file(host, fresh.as_str());
+    Ok(false)
 }
 
-/// Whether a file has taken the mode and all of the bytes, and the system has stored them.
+/// Who may read, write and run a file, without the bits by which it runs as its owner or group.
+fn access(mode: Permissions) -> Permissions {
+    Permissions::from_mode(mode.mode() & 0o777)
+}
+
+/// Whether a file has taken the access of the mode and all of the bytes, and the system has stored them.
 fn filled<F: Write + OpenFile>(file: &mut F, mode: Option<Permissions>, bytes: &[u8]) -> bool
     ensures { result ≡ true → Appends (F.contents file.old) (F.contents file.new) bytes.now }
 {
     if let Some(mode) = mode {
-        if file.set_permissions(mode).is_err() {
+        if file.set_permissions(access(mode)).is_err() {
             return false;
         }
     }
