@@ -11,6 +11,7 @@ use design_drawings::{
 use jedec_file::{byte_sum, fuse_sum};
 use pld_base::{OutOfMemory, put_hex};
 use pld_device::Device;
+use shown_text::printable;
 
 /// What a page is made of, beside the design.
 #[derive(Clone, Copy)]
@@ -80,6 +81,19 @@ fn put_verdict(page: &mut Page, outcome: &Outcome) -> Result<(), OutOfMemory> {
     }
 }
 
+/// Writes the title that there may be.
+fn put_title(page: &mut Page, design: Design, title: &[u8]) -> Result<(), OutOfMemory> {
+    if title.is_empty() {
+        return Ok(());
+    }
+    let shown = printable(design.alloc, title)?;
+    page.put(&[
+        Piece::Markup("<p>"),
+        Piece::Text(shown.as_bytes()),
+        Piece::Markup("</p>\n"),
+    ])
+}
+
 /// Writes the head: what the design is, and how it came out.
 fn put_head<D: Device>(
     page: &mut Page,
@@ -88,13 +102,7 @@ fn put_head<D: Device>(
     outcome: &Outcome,
 ) -> Result<(), OutOfMemory> {
     put_front(page, parts.name)?;
-    if !parts.title.is_empty() {
-        page.put(&[
-            Piece::Markup("<p>"),
-            Piece::Text(parts.title),
-            Piece::Markup("</p>\n"),
-        ])?;
-    }
+    put_title(page, design, parts.title)?;
     page.put(&[
         Piece::Markup("<dl class=\"facts\"><dt>Device</dt><dd>"),
         Piece::Markup(D::NAME.text()),
@@ -189,7 +197,7 @@ pub fn drawn_page<D: Device>(
     put_vectors::<D>(&mut page, design, outcome)?;
     if !parts.source.is_empty() {
         put_heading(&mut page, "source", "Source")?;
-        put_text(&mut page, parts.source, None)?;
+        put_text(&mut page, design.alloc, parts.source, None)?;
     }
     put_end(&mut page)?;
     Ok(page.into_bytes())

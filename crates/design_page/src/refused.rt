@@ -44,10 +44,10 @@ fn put_texts(
 {
     put_heading(page, "source", "Source")?;
     let Some(found) = found else {
-        return put_text(page, text, None);
+        return put_text(page, alloc, text, None);
     };
     put_places(page, found)?;
-    put_text(page, text, Some(found.source))?;
+    put_text(page, alloc, text, Some(found.source))?;
     if found.source == found.expanded && found.call.is_none() {
         return Ok(());
     }
@@ -55,7 +55,7 @@ fn put_texts(
         "<h2 id=\"expanded\">Expanded text</h2>\n<p class=\"hint\">Comments, directives and macros are replaced here; the refusal counts its place in this text.</p>\n",
     )])?;
     let expanded = expanded_text(alloc, text)?;
-    put_text(page, &expanded, Some(found.expanded))
+    put_text(page, alloc, &expanded, Some(found.expanded))
 }
 
 /// The page of a source that is not compiled, with the line on why.

@@ -6,6 +6,7 @@ use crate::outcome::Outcome;
 use crate::places::Found;
 use pld_base::{OutOfMemory, Place, put_decimal};
 use pld_device::Device;
+use shown_text::excerpt_of;
 use std::alloc::Global;
 
 /// The refusal of a line of the report: its word, and what it tells behind the place.
@@ -26,15 +27,22 @@ fn put_words(text: &mut Vec<u8>, line: &[u8]) -> Result<(), OutOfMemory> {
     Ok(())
 }
 
-/// Appends the line of a text at a place, and a caret under the place.
-fn put_caret(text: &mut Vec<u8>, source: &[u8], place: Place) -> Result<(), OutOfMemory> {
+/// Appends the line of a text around a place, and a caret under the place.
+fn put_caret(
+    alloc: Global,
+    text: &mut Vec<u8>,
+    source: &[u8],
+    place: Place,
+) -> Result<(), OutOfMemory> {
     let line = line_at(source, place.line);
-    text.extend_from_slice(line)?;
+    let column = (place.column as usize).saturating_sub(1);
+    let (before, rest) = line.split_at(column.min(line.len()));
+    let excerpt = excerpt_of(alloc, before, rest)?;
+    text.extend_from_slice(excerpt.before.as_bytes())?;
+    text.extend_from_slice(excerpt.rest.as_bytes())?;
     text.push(b'\n')?;
-    for (before, byte) in line.iter().enumerate() {
-        if before + 1 < place.column as usize {
-            text.push(if *byte == b'\t' { b'\t' } else { b' ' })?;
-        }
+    for char in excerpt.before.chars() {
+        text.push(if char == '\t' { b'\t' } else { b' ' })?;
     }
     text.extend_from_slice(b"^\n")?;
     Ok(())
@@ -66,11 +74,11 @@ pub fn put_refusal(
     put_place(alloc, text, input.name, found.source)?;
     text.extend_from_slice(b": ")?;
     put_words(text, line)?;
-    put_caret(text, input.bytes, found.source)?;
+    put_caret(alloc, text, input.bytes, found.source)?;
     if let Some(call) = found.call {
         put_place(alloc, text, input.name, call)?;
         text.extend_from_slice(b": expanded here\n")?;
-        put_caret(text, input.bytes, call)?;
+        put_caret(alloc, text, input.bytes, call)?;
     }
     Ok(())
 }
