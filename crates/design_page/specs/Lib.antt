@@ -1,1 +1,2 @@
 pub mod Costly
+pub mod Kept

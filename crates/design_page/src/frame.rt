@@ -4,12 +4,14 @@ use crate::style::STYLE;
 use design_drawings::{Page, Piece};
 use pld_base::OutOfMemory;
 
+/// What each page begins with.
+pub const FRONT: &str =
+    "<!DOCTYPE html>\n<html lang=\"en\">\n<head>\n<meta charset=\"utf-8\">\n<meta name=\"viewport\" content=\"width=device-width, initial-scale=1\">\n<title>";
+
 /// Writes all up to the page's first heading, which is its name.
 pub fn put_front(page: &mut Page, name: &[u8]) -> Result<(), OutOfMemory> {
     page.put(&[
-        Piece::Markup(
-            "<!DOCTYPE html>\n<html lang=\"en\">\n<head>\n<meta charset=\"utf-8\">\n<meta name=\"viewport\" content=\"width=device-width, initial-scale=1\">\n<title>",
-        ),
+        Piece::Markup(FRONT),
         Piece::Text(name),
         Piece::Markup("</title>\n<style>"),
         Piece::Markup(STYLE),

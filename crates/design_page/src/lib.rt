@@ -21,6 +21,7 @@ mod telling;
 mod told_places;
 mod unfit;
 mod warned;
+mod writing;
 
 pub use costs::{CostlyPolarity, costly_polarities};
 pub use made::{Input, Made};

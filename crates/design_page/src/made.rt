@@ -3,7 +3,7 @@
 use pld_base::OutOfMemory;
 use std::alloc::Global;
 
-/// A file that a page is made of: its name, and its bytes.
+/// A file that a page is made of: its name as it is shown, and its bytes.
 #[derive(Clone, Copy)]
 pub struct Input<'a> {
     pub name: &'a [u8],

@@ -2,13 +2,17 @@
 
 ghost use Rattle.std.specs.Prelude.{◌≤◌, length};
 ghost use Rattle.abel_commands.specs.Limit.{limit};
+ghost use Rattle.design_page.specs.Kept.{KeepsOthers};
 
+use crate::frame::FRONT;
 use crate::made::{Input, Made};
 use crate::of_file::page_of_file;
 use crate::of_source::page_of_source;
+use crate::writing::{told_of, write_page};
 use abel_commands::{SourceFault, read_sources, source_at};
-use outside::{Files, Sink, SinkFault, WriteFault};
+use outside::{GuardedFiles, ReadFault, Sink, SinkFault};
 use pld_base::{DeviceName, OutOfMemory};
+use shown_text::printable;
 use std::alloc::Global;
 
 /// The words that the program takes.
@@ -44,52 +48,58 @@ fn asked_by(words: &[String]) -> Option<Asked<'_>> {
     }
 }
 
+/// The name of the file that is read.
+fn input_of(asked: Asked) -> &str {
+    match asked.inputs {
+        [name, ..] => name.as_str(),
+        [] => "",
+    }
+}
+
 /// What comes of the bytes of a file.
 fn made_of(alloc: Global, asked: Asked, bytes: &[u8]) -> Result<Made, OutOfMemory>
     requires { length bytes.now ≤ limit }
 {
-    let name = match asked.inputs {
-        [name, ..] => name.as_bytes(),
-        [] => b"",
+    let shown = printable(alloc, input_of(asked).as_bytes())?;
+    let input = Input {
+        name: shown.as_bytes(),
+        bytes,
     };
-    let input = Input { name, bytes };
     match asked.device {
         None => page_of_source(alloc, input),
         Some(device) => page_of_file(alloc, device, input),
     }
 }
 
-/// Makes what the words ask for of the bytes of its file, and writes the page that there may be.
-fn write_page<F: Files>(
+/// Makes what the words ask for of the bytes of its file, and writes the page that there may be, unless another file would be
+/// lost by it.
+fn obey_over<F: GuardedFiles>(
     alloc: Global,
     asked: Asked,
     files: &mut F,
     bytes: &[u8],
 ) -> Result<Made, OutOfMemory>
     requires { length bytes.now ≤ limit }
+    ensures kept { F.Tells → KeepsOthers FRONT.now (F.file files.old) (F.file files.new) }
 {
-    let made = made_of(alloc, asked, bytes)?;
-    let Some(page) = &made.page else {
-        return Ok(made);
-    };
-    match files.write(asked.output, page) {
-        Ok(()) => Ok(made),
-        Err(WriteFault::Failed) => Made::told(
-            alloc,
-            6,
-            &[b"error file ", asked.output.as_bytes(), b"\n"],
-        ),
-        Err(WriteFault::OutOfMemory) => Err(OutOfMemory),
+    match files.may_replace(asked.output, input_of(asked), FRONT.as_bytes()) {
+        Ok(true) => {
+            let made = made_of(alloc, asked, bytes)?;
+            write_page(alloc, files, asked.output, made)
+        }
+        Ok(false) => told_of(alloc, b"error NotAPage ", asked.output),
+        Err(ReadFault::OutOfMemory) => Err(OutOfMemory),
+        Err(_) => told_of(alloc, b"error file ", asked.output),
     }
 }
 
 /// Does what the words ask for.
-fn obey<F: Files>(alloc: Global, asked: Asked, files: &mut F) -> Result<Made, OutOfMemory> {
+fn obey<F: GuardedFiles>(alloc: Global, asked: Asked, files: &mut F) -> Result<Made, OutOfMemory>
+    ensures kept { F.Tells → KeepsOthers FRONT.now (F.file files.old) (F.file files.new) }
+{
     match read_sources(alloc, asked.inputs, files) {
-        Ok(sources) => write_page(alloc, asked, files, source_at(&sources, 0)),
-        Err(SourceFault::Unread(name)) => {
-            Made::told(alloc, 6, &[b"error file ", name.as_bytes(), b"\n"])
-        }
+        Ok(sources) => obey_over(alloc, asked, files, source_at(&sources, 0)),
+        Err(SourceFault::Unread(name)) => told_of(alloc, b"error file ", name),
         Err(SourceFault::TooLong) => {
             let status = if asked.device.is_none() { 2 } else { 4 };
             Made::told(alloc, status, &[b"error TooLong\n"])
@@ -104,13 +114,16 @@ fn report_memory<K: Sink>(report: &mut K) -> u8 {
     8
 }
 
-/// Does what the words of the command line ask for, and answers the status that the program ends with.
-pub fn run<F: Files, K: Sink>(
+/// Does what the words of the command line ask for, and answers the status that the program ends with. A file that doesn't begin
+/// as a page does stays as it is.
+pub fn run<F: GuardedFiles, K: Sink>(
     alloc: Global,
     words: &[String],
     files: &mut F,
     report: &mut K,
-) -> u8 {
+) -> u8
+    ensures kept { F.Tells → KeepsOthers FRONT.now (F.file files.old) (F.file files.new) }
+{
     let made = match asked_by(words) {
         None => Made::told(alloc, 1, &[USAGE]),
         Some(asked) => obey(alloc, asked, files),
