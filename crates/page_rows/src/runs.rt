@@ -18,7 +18,35 @@ fn words_of(alloc: Global, line: &str) -> Result<Vec<String>, OutOfMemory> {
     Ok(words)
 }
 
-/// Appends what a run over the bytes under `in` came to: its status, the lines of its report, and whether a page stands under `out`.
+/// The file `other` before a run, which is no page.
+const OTHER: &[u8] = b"old\n";
+
+/// The file `page` before a run, the front of a page.
+const PAGE: &[u8] =
+    b"<!DOCTYPE html>\n<html lang=\"en\">\n<head>\n<meta charset=\"utf-8\">\n<meta name=\"viewport\" content=\"width=device-width, initial-scale=1\">\n<title>old";
+
+/// Whether a name has just these bytes.
+fn holds(files: &MemoryFiles, name: &str, bytes: &[u8]) -> bool {
+    match files.get(name) {
+        Some(found) => found == bytes,
+        None => false,
+    }
+}
+
+/// Appends which files were written: `out`, and of those that were there before `page` and `other`.
+fn put_written(found: &mut Found, files: &MemoryFiles) {
+    if files.get("out").is_some() {
+        found.text("page");
+    }
+    if !holds(files, "page", PAGE) {
+        found.text("page replaced");
+    }
+    if !holds(files, "other", OTHER) {
+        found.text("other lost");
+    }
+}
+
+/// Appends what a run over the bytes under `in` came to: its status, the lines of its report, and which files were written.
 fn put_run(
     alloc: Global,
     found: &mut Found,
@@ -29,15 +57,15 @@ fn put_run(
     let words = words_of(alloc, line)?;
     let mut files = MemoryFiles::new(alloc);
     files.add("in", bytes)?;
+    files.add("other", OTHER)?;
+    files.add("page", PAGE)?;
     files.fail(calls.0)?;
     let mut report = MemorySink::new(alloc);
     report.fail(calls.1)?;
     found.number(usize::from(run(alloc, &words, &mut files, &mut report)));
     found.text("|");
     put_lines(found, report.bytes());
-    if files.get("out").is_some() {
-        found.text("page");
-    }
+    put_written(found, &files);
     Ok(())
 }
 
