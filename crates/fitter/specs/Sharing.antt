@@ -6,8 +6,9 @@ use Rattle.fitter.specs.Plans.{cell_wanted}
 use Rattle.fitter.specs.Missing.{IsApart}
 use Rattle.fitter.specs.declared.shared.SharedControl.{SharedControl}
 use Rattle.fitter.specs.declared.shared.SharedControl.TheVariants.{Preset, Reset}
-use Rattle.fitter.specs.declared.sharing.ShareFault.{ShareFault}
-use Rattle.fitter.specs.declared.sharing.ShareFault.TheVariants.{NotShared, OutOfMemory}
+use Rattle.fitter.specs.declared.sharing.NotShared.{NotShared}
+use Rattle.fitter.specs.declared.stop.Stop.{Stop}
+use Rattle.fitter.specs.declared.stop.Stop.TheVariants.{Refused, Memory}
 
 -- a cell's own reset, or preset
 abbrev pub own_control : SharedControl → CellWanted → Option Control
@@ -53,10 +54,10 @@ pub record AreNotShared (t : Table) (net : PlainNetlist) (own : Wanted → Optio
   pub before : AreSharedBelow t net own b
 
 -- what looking for the shared function answers
-abbrev pub Shares : Table → Netlist → SharedControl → Result ExprId ShareFault → Type 0
+abbrev pub Shares : Table → Netlist → SharedControl → Result ExprId (Stop NotShared) → Type 0
 Shares t net which (Ok bit) = IsSharedBit t net which bit
-Shares t net which (Err (NotShared a b point)) = AreNotShared t (plain_netlist net) (own_formula which) a b point
-Shares t net which (Err OutOfMemory) = Unit {0}
+Shares t net which (Err (Refused r)) = AreNotShared t (plain_netlist net) (own_formula which) r.first r.second r.at
+Shares t net which (Err Memory) = Unit {0}
 
 -- ---- private: on the way to the first cell and the first difference
 

@@ -7,10 +7,11 @@ ghost use Rattle.fitter.specs.Plans.{enable_bit};
 ghost use Rattle.fitter.specs.CellCovered.{CanCoverCell, HasRows, IsChecked, IsCheckedAt, IsCovered, IsCoveredAt, IsListed};
 ghost use Rattle.fitter.specs.Width.{IsFunctionTooWide};
 
-use crate::shared::{cell_wanted, pair_count};
+use crate::shared::cell_wanted;
+use crate::sound_fit::SoundFit;
 use bit_expr::{CellWanted, Control, ExprId, Netlist};
-use covers::{Cube, CubePool};
-use fit_plans::{Tried, control_cover, has_lists, try_cell};
+use covers::Cube;
+use fit_plans::{Tried, Workspace, has_lists};
 use pld_device::Device;
 use sop_lowering::{LowerFault, lower};
 use std::alloc::{AllocError, Global};
@@ -35,20 +36,15 @@ fn enable_bit(wanted: &CellWanted) -> ExprId
 
 /// The cover of a control; TooWide where it has no written list.
 pub fn control_rows<D: Device>(
-    alloc: Global,
-    pool: &mut CubePool,
-    net: &Netlist,
+    space: &mut Workspace,
+    fit: &SoundFit<D>,
     bit: ExprId,
-    turned: u32,
 ) -> Result<Vec<Cube>, LowerFault>
-    requires sound { IsSoundNetlist D.table net.now }
-    requires id { IsSoundId D.table net.now bit }
-    requires spare { 27672 ≤ pool.old.spare }
-    ensures same { pool.new ≡ pool.old }
-    ensures rows { HasRows D.table turned net.now bit result }
+    requires sound { IsSoundNetlist D.table fit.now.over.net.now }
+    requires id { IsSoundId D.table fit.now.over.net.now bit }
+    ensures { HasRows D.table fit.now.over.turned fit.now.over.net.now bit result }
 {
-    let pairs = pair_count::<D>();
-    let found = control_cover(alloc, pool, net, bit, turned, pairs)?;
+    let found = fit.over.control_cover(space, bit)?;
     match found {
         Some(rows) => Ok(rows),
         None => Err(LowerFault::TooWide),
@@ -84,27 +80,22 @@ fn has_none(tried: &Tried) -> bool
 
 /// The covers of a cell; TooWide where its function has none in any form, or a control of it none.
 pub(crate) fn cover_cell<D: Device>(
-    alloc: Global,
-    pool: &mut CubePool,
-    net: &Netlist,
+    space: &mut Workspace,
+    fit: &SoundFit<D>,
     wanted: CellWanted,
-    turned: u32,
 ) -> Result<CellCovers, LowerFault>
-    requires sound { IsSoundNetlist D.table net.now }
-    requires can { CanCoverCell D.table net.now wanted }
-    requires spare { 27672 ≤ pool.old.spare }
-    ensures same { pool.new ≡ pool.old }
-    ensures covered { IsCovered D.table turned net.now wanted result }
+    requires sound { IsSoundNetlist D.table fit.now.over.net.now }
+    requires can { CanCoverCell D.table fit.now.over.net.now wanted }
+    ensures { IsCovered D.table fit.now.over.turned fit.now.over.net.now wanted result }
 {
-    let pairs = pair_count::<D>();
     let room = D::cell(wanted.cell).room as usize;
-    let tried = try_cell(alloc, pool, net, &wanted, D::FLIP, room, turned, pairs)?;
+    let tried = fit.over.try_cell(space, &wanted, room)?;
     if has_none(&tried) {
         return Err(LowerFault::TooWide);
     }
-    let enable = control_rows::<D>(alloc, pool, net, enable_bit(&wanted), turned)?;
-    listed::<D>(alloc, net, wanted.reset)?;
-    listed::<D>(alloc, net, wanted.preset)?;
+    let enable = control_rows(space, fit, enable_bit(&wanted))?;
+    listed::<D>(space.alloc, fit.over.net, wanted.reset)?;
+    listed::<D>(space.alloc, fit.over.net, wanted.preset)?;
     Ok(CellCovers {
         wanted,
         tried,
@@ -133,25 +124,21 @@ fn has_form<D: Device>(
 /// The cover of a cell's enable, without those of its function; TooWide where this has no written lists in any form, or a
 /// control of the cell none.
 fn check_cell<D: Device>(
-    alloc: Global,
-    pool: &mut CubePool,
-    net: &Netlist,
+    space: &mut Workspace,
+    fit: &SoundFit<D>,
     wanted: CellWanted,
-    turned: u32,
 ) -> Result<CellCovers, LowerFault>
-    requires sound { IsSoundNetlist D.table net.now }
-    requires can { CanCoverCell D.table net.now wanted }
-    requires spare { 27672 ≤ pool.old.spare }
-    ensures same { pool.new ≡ pool.old }
-    ensures checked { IsChecked D.table turned net.now wanted result }
+    requires sound { IsSoundNetlist D.table fit.now.over.net.now }
+    requires can { CanCoverCell D.table fit.now.over.net.now wanted }
+    ensures { IsChecked D.table fit.now.over.turned fit.now.over.net.now wanted result }
 {
-    let fits = has_form::<D>(alloc, net, &wanted)?;
+    let fits = has_form::<D>(space.alloc, fit.over.net, &wanted)?;
     if !fits {
         return Err(LowerFault::TooWide);
     }
-    let enable = control_rows::<D>(alloc, pool, net, enable_bit(&wanted), turned)?;
-    listed::<D>(alloc, net, wanted.reset)?;
-    listed::<D>(alloc, net, wanted.preset)?;
+    let enable = control_rows(space, fit, enable_bit(&wanted))?;
+    listed::<D>(space.alloc, fit.over.net, wanted.reset)?;
+    listed::<D>(space.alloc, fit.over.net, wanted.preset)?;
     let tried = Tried {
         direct: None,
         inverted: None,
@@ -165,41 +152,33 @@ fn check_cell<D: Device>(
 
 /// The covers of the cell of a number, if it is assigned.
 pub fn cover_at<D: Device>(
-    alloc: Global,
-    pool: &mut CubePool,
-    net: &Netlist,
+    space: &mut Workspace,
+    fit: &SoundFit<D>,
     cell: u8,
-    turned: u32,
 ) -> Result<Option<CellCovers>, LowerFault>
-    requires sound { IsSoundNetlist D.table net.now }
-    requires spare { 27672 ≤ pool.old.spare }
-    ensures same { pool.new ≡ pool.old }
-    ensures covered { IsCoveredAt D.table turned net.now cell result }
+    requires sound { IsSoundNetlist D.table fit.now.over.net.now }
+    ensures { IsCoveredAt D.table fit.now.over.turned fit.now.over.net.now cell result }
 {
-    let Some(wanted) = cell_wanted(net, cell) else {
+    let Some(wanted) = cell_wanted(fit.over.net, cell) else {
         return Ok(None);
     };
-    let covers = cover_cell::<D>(alloc, pool, net, wanted, turned)?;
+    let covers = cover_cell(space, fit, wanted)?;
     Ok(Some(covers))
 }
 
 /// Of the cell of a number, if it is assigned, that it is not too wide, and the cover of its enable alone: for the cells
 /// that come after one which is refused.
 pub fn check_at<D: Device>(
-    alloc: Global,
-    pool: &mut CubePool,
-    net: &Netlist,
+    space: &mut Workspace,
+    fit: &SoundFit<D>,
     cell: u8,
-    turned: u32,
 ) -> Result<Option<CellCovers>, LowerFault>
-    requires sound { IsSoundNetlist D.table net.now }
-    requires spare { 27672 ≤ pool.old.spare }
-    ensures same { pool.new ≡ pool.old }
-    ensures checked { IsCheckedAt D.table turned net.now cell result }
+    requires sound { IsSoundNetlist D.table fit.now.over.net.now }
+    ensures { IsCheckedAt D.table fit.now.over.turned fit.now.over.net.now cell result }
 {
-    let Some(wanted) = cell_wanted(net, cell) else {
+    let Some(wanted) = cell_wanted(fit.over.net, cell) else {
         return Ok(None);
     };
-    let covers = check_cell::<D>(alloc, pool, net, wanted, turned)?;
+    let covers = check_cell(space, fit, wanted)?;
     Ok(Some(covers))
 }

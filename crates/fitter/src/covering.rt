@@ -8,9 +8,10 @@ ghost use Rattle.fitter.specs.Planned.{OneFitsAt};
 
 use crate::cell_covering::{CellCovers, check_at, cover_at};
 use crate::fault::FitFault;
+use crate::sound_fit::SoundFit;
 use crate::widest::first_wide;
-use bit_expr::Netlist;
-use covers::{Cube, CubePool};
+use covers::Cube;
+use fit_plans::Workspace;
 use pld_device::Device;
 use sop_lowering::LowerFault;
 use std::alloc::Global;
@@ -50,50 +51,42 @@ fn is_refused<D: Device>(before: bool, stops: bool, cell: u8, covers: &Option<Ce
 
 /// The covers of the cell of a number; behind a cell that is refused only that of its enable.
 fn next_covers<D: Device>(
-    alloc: Global,
-    pool: &mut CubePool,
-    net: &Netlist,
+    space: &mut Workspace,
+    fit: &SoundFit<D>,
     cell: u8,
-    turned: u32,
     refused: bool,
 ) -> Result<Option<CellCovers>, LowerFault>
-    requires sound { IsSoundNetlist D.table net.now }
-    requires spare { 27672 ≤ pool.old.spare }
-    ensures same { pool.new ≡ pool.old }
-    ensures checked { IsCheckedAt D.table turned net.now cell result }
-    ensures covered { refused ≡ false → IsCoveredAt D.table turned net.now cell result }
+    requires sound { IsSoundNetlist D.table fit.now.over.net.now }
+    ensures checked { IsCheckedAt D.table fit.now.over.turned fit.now.over.net.now cell result }
+    ensures covered { refused ≡ false → IsCoveredAt D.table fit.now.over.turned fit.now.over.net.now cell result }
 {
     if refused {
-        check_at::<D>(alloc, pool, net, cell, turned)
+        check_at(space, fit, cell)
     } else {
-        cover_at::<D>(alloc, pool, net, cell, turned)
+        cover_at(space, fit, cell)
     }
 }
 
 /// The covers of all assigned cells, one entry a cell of the device; or, of the cells that are too wide, the first in the
 /// source. With `stops` the functions of the cells behind the first that is over its room are not covered.
 pub(crate) fn cover_cells<D: Device>(
-    alloc: Global,
-    pool: &mut CubePool,
-    net: &Netlist,
-    turned: u32,
+    space: &mut Workspace,
+    fit: &SoundFit<D>,
     stops: bool,
 ) -> Result<Vec<Option<CellCovers>>, FitFault>
-    requires sound { IsSoundNetlist D.table net.now }
-    requires spare { 27672 ≤ pool.old.spare }
-    ensures same { pool.new ≡ pool.old }
-    ensures covered { AreCovered D.table turned net.now result }
+    requires sound { IsSoundNetlist D.table fit.now.over.net.now }
+    ensures { AreCovered D.table fit.now.over.turned fit.now.over.net.now result }
 {
-    let mut list = Vec::new(alloc);
+    let mut list = Vec::new(space.alloc);
     let mut refused = false;
     for cell in 0..D::CELLS {
-        match next_covers::<D>(alloc, pool, net, cell, turned, refused) {
+        match next_covers(space, fit, cell, refused) {
             Ok(covers) => {
                 refused = is_refused::<D>(refused, stops, cell, &covers);
                 list.push(covers)?;
             }
             Err(LowerFault::TooWide) => {
-                let first = first_wide::<D>(alloc, pool, net, cell, turned)?;
+                let first = first_wide(space, fit, cell)?;
                 return Err(FitFault::TooWide(first));
             }
             Err(LowerFault::OutOfMemory) => return Err(FitFault::OutOfMemory),

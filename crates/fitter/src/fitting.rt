@@ -12,19 +12,17 @@ use crate::covering::cover_cells;
 use crate::fault::FitFault;
 use crate::masks::turn_mask;
 use crate::planning::{AllRows, check_enables, plan_cells};
-use crate::shared::cell_wanted;
+use crate::shared::{cell_wanted, pair_count};
 use crate::shared_rows::{SharedRows, shared_rows};
+use crate::sound_fit::SoundFit;
 use crate::turning::{choice_mask, turned_plans, turned_row};
 use bit_expr::Netlist;
-use covers::CubePool;
-use fit_plans::{CellForm, CellPlan, Plan, device_fuses};
+use fit_plans::{Covering, Plan, Workspace, device_fuses};
 use netlist_laws::fitted_runs;
 use pld_base::ListOf;
 use pld_device::{Device, Flip, Fuses};
 use std::alloc::{AllocError, Global};
-
-/// The cubes of the pool in which all covers are made.
-pub(crate) const POOL: usize = 49_152;
+use std::marker::PhantomData;
 
 /// Whether a pin is the complement of what the rows, or the register, give.
 fn pin_complements(flip: Flip, registered: bool, inverted: bool) -> bool
@@ -41,25 +39,24 @@ fn pin_complements(flip: Flip, registered: bool, inverted: bool) -> bool
 fn add_entry<D: Device>(
     alloc: Global,
     net: &Netlist,
-    plans: &[CellPlan],
-    forms: &[CellForm],
+    rows: &AllRows,
     cell: u8,
     list: &mut Vec<FittedCell>,
 ) -> Result<(), AllocError>
-    requires plans { cell < length plans.now }
-    requires forms { cell < length forms.now }
-    requires before { EntriesBelow D.table net.now plans.now forms.now cell list.old.items }
-    ensures { IfOk result (λ done. EntriesBelow D.table net.now plans.now forms.now (cell + 1) list.new.items) }
+    requires plans { cell < length rows.now.plans.items }
+    requires forms { cell < length rows.now.forms.items }
+    requires before { EntriesBelow D.table net.now rows.now.plans.items rows.now.forms.items cell list.old.items }
+    ensures { IfOk result (λ done. EntriesBelow D.table net.now rows.now.plans.items rows.now.forms.items (cell + 1) list.new.items) }
 {
     let Some(wanted) = cell_wanted(net, cell) else {
         return Ok(());
     };
-    let inverted = forms[cell as usize].inverted;
-    let rows = Vec::from_slice(alloc, plans[cell as usize].rows.as_slice())?;
+    let inverted = rows.forms[cell as usize].inverted;
+    let cubes = Vec::from_slice(alloc, rows.plans[cell as usize].rows.as_slice())?;
     list.push(FittedCell {
         cell,
         inverted: pin_complements(D::FLIP, wanted.registered, inverted),
-        rows: ListOf::from_vec(rows),
+        rows: ListOf::from_vec(cubes),
     })?;
     Ok(())
 }
@@ -68,16 +65,15 @@ fn add_entry<D: Device>(
 fn entries<D: Device>(
     alloc: Global,
     net: &Netlist,
-    plans: &[CellPlan],
-    forms: &[CellForm],
+    rows: &AllRows,
 ) -> Result<Vec<FittedCell>, AllocError>
-    requires plans { length plans.now ≡ length D.table.cells }
-    requires forms { length forms.now ≡ length D.table.cells }
-    ensures { IfOk result (λ list. EntriesBelow D.table net.now plans.now forms.now (length D.table.cells) list.items) }
+    requires plans { length rows.now.plans.items ≡ length D.table.cells }
+    requires forms { length rows.now.forms.items ≡ length D.table.cells }
+    ensures { IfOk result (λ list. EntriesBelow D.table net.now rows.now.plans.items rows.now.forms.items (length D.table.cells) list.items) }
 {
     let mut list = Vec::new(alloc);
     for cell in 0..D::CELLS {
-        add_entry::<D>(alloc, net, plans, forms, cell, &mut list)?;
+        add_entry::<D>(alloc, net, rows, cell, &mut list)?;
     }
     Ok(list)
 }
@@ -95,13 +91,17 @@ fn burned<D: Device>(
 {
     let choice = choice_mask::<D>(net, &rows.forms);
     let plans = turned_plans::<D>(alloc, &rows.plans, choice)?;
-    let cells = entries::<D>(alloc, net, &plans, &rows.forms)?;
+    let turned = AllRows {
+        plans,
+        forms: rows.forms,
+    };
+    let cells = entries::<D>(alloc, net, &turned)?;
     let plan = Plan {
-        cells: ListOf::from_vec(plans),
+        cells: ListOf::from_vec(turned.plans),
         reset: turned_row(shared.reset, choice),
         preset: turned_row(shared.preset, choice),
     };
-    let fuses = device_fuses::<D>(alloc, &plan, &rows.forms)?;
+    let fuses = device_fuses::<D>(alloc, &plan, &turned.forms)?;
     Ok(Fitted {
         fuses: Fuses::from_levels(fuses),
         cells: ListOf::from_vec(cells),
@@ -118,10 +118,18 @@ pub fn fit<D: Device>(alloc: Global, net: &Netlist) -> Result<Fitted, FitFault>
         (logic_shown D.table fitted.fuses (plain_netlist net.now)) (values_shown D.table fitted.fuses (plain_netlist net.now))) }
 {
     fitted_runs();
-    let mut pool = CubePool::with_room(alloc, POOL)?;
-    let turned = turn_mask::<D>(net);
-    let covers = cover_cells::<D>(alloc, &mut pool, net, turned, true)?;
-    let shared = shared_rows::<D>(alloc, &mut pool, net, turned)?;
+    let mut space = Workspace::new(alloc)?;
+    let fit = SoundFit::<D> {
+        over: Covering {
+            net,
+            flip: D::FLIP,
+            turned: turn_mask::<D>(net),
+            vars: pair_count::<D>(),
+        },
+        device: PhantomData,
+    };
+    let covers = cover_cells(&mut space, &fit, true)?;
+    let shared = shared_rows(&mut space, &fit)?;
     check_enables(&covers)?;
     let rows = plan_cells::<D>(alloc, covers)?;
     let fitted = burned::<D>(alloc, net, shared, rows)?;

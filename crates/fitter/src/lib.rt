@@ -16,6 +16,8 @@ mod rooms;
 mod shared;
 mod shared_rows;
 mod sharing;
+mod sound_fit;
+mod stop;
 mod turning;
 mod widest;
 
@@ -27,5 +29,7 @@ pub use masks::turn_mask;
 pub use plan_laws::{plans_fit, sound_cover};
 pub use rooms::{Overfull, cells_over_room};
 pub use shared::{SharedControl, cell_wanted, own_control, pair_count};
-pub use sharing::{ShareFault, shared_bit};
+pub use sharing::{NotShared, shared_bit};
+pub use sound_fit::SoundFit;
+pub use stop::Stop;
 pub use widest::first_wide;

@@ -8,15 +8,16 @@ ghost use Rattle.fitter.specs.Rooms.{IsOver};
 use crate::cell_covering::CellCovers;
 use crate::covering::cover_cells;
 use crate::fault::FitFault;
-use crate::fitting::POOL;
 use crate::masks::turn_mask;
 use crate::planning::taken;
+use crate::shared::pair_count;
+use crate::sound_fit::SoundFit;
 use bit_expr::Netlist;
-use covers::CubePool;
-use fit_plans::{Tried, choose};
+use fit_plans::{Covering, Tried, Workspace, choose};
 use pld_base::{ListOf, OutOfMemory};
 use pld_device::Device;
 use std::alloc::Global;
+use std::marker::PhantomData;
 
 /// A cell with too few rows: its pin, its room, and how many rows the smaller one of its covers has.
 #[derive(Clone, Copy)]
@@ -93,8 +94,17 @@ pub fn cells_over_room<D: Device>(
     requires { IsSoundNetlist D.table net.now }
     ensures { IfOk result (λ list. All IsOver list) }
 {
-    let mut pool = CubePool::with_room(alloc, POOL)?;
-    let mut left = cover_cells::<D>(alloc, &mut pool, net, turn_mask::<D>(net), false)?;
+    let mut space = Workspace::new(alloc)?;
+    let fit = SoundFit::<D> {
+        over: Covering {
+            net,
+            flip: D::FLIP,
+            turned: turn_mask::<D>(net),
+            vars: pair_count::<D>(),
+        },
+        device: PhantomData,
+    };
+    let mut left = cover_cells(&mut space, &fit, false)?;
     let mut list = Vec::new(alloc);
     for cell in 0..D::CELLS {
         let covers = taken(&mut left, cell as usize);

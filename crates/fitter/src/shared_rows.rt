@@ -10,9 +10,12 @@ ghost use Rattle.fitter.specs.Sharing.{AllListed};
 use crate::cell_covering::control_rows;
 use crate::fault::FitFault;
 use crate::shared::SharedControl;
-use crate::sharing::{ShareFault, shared_bit};
-use bit_expr::{ExprId, Netlist};
-use covers::{Cube, CubePool};
+use crate::sharing::{NotShared, shared_bit};
+use crate::sound_fit::SoundFit;
+use crate::stop::Stop;
+use bit_expr::ExprId;
+use covers::Cube;
+use fit_plans::Workspace;
 use pld_device::Device;
 use sop_lowering::LowerFault;
 use std::alloc::Global;
@@ -26,23 +29,20 @@ pub(crate) struct SharedRows {
 
 /// The bit that all registers share.
 fn bit_of<D: Device>(
-    alloc: Global,
-    pool: &mut CubePool,
-    net: &Netlist,
+    space: &mut Workspace,
+    fit: &SoundFit<D>,
     which: SharedControl,
 ) -> Result<ExprId, FitFault>
-    requires sound { IsSoundNetlist D.table net.now }
-    requires listed { AllListed net.now which }
-    requires spare { 27672 ≤ pool.old.spare }
-    ensures same { pool.new ≡ pool.old }
-    ensures answer { IsSharedBitOf D.table net.now which result }
+    requires sound { IsSoundNetlist D.table fit.now.over.net.now }
+    requires listed { AllListed fit.now.over.net.now which }
+    ensures { IsSharedBitOf D.table fit.now.over.net.now which result }
 {
-    match shared_bit::<D>(alloc, pool, net, which) {
+    match shared_bit(space, fit, which) {
         Ok(bit) => Ok(bit),
-        Err(ShareFault::NotShared(first, second, at)) => {
+        Err(Stop::Refused(NotShared { first, second, at })) => {
             Err(FitFault::NotShared(which, first, second, at))
         }
-        Err(ShareFault::OutOfMemory) => Err(FitFault::OutOfMemory),
+        Err(Stop::Memory) => Err(FitFault::OutOfMemory),
     }
 }
 
@@ -58,21 +58,17 @@ fn no_product(which: SharedControl) -> FitFault
 
 /// The one row of a control, if any; refused where it is no product.
 fn row_of<D: Device>(
-    alloc: Global,
-    pool: &mut CubePool,
-    net: &Netlist,
+    space: &mut Workspace,
+    fit: &SoundFit<D>,
     bit: ExprId,
-    turned: u32,
     which: SharedControl,
 ) -> Result<Option<Cube>, FitFault>
-    requires sound { IsSoundNetlist D.table net.now }
-    requires id { IsSoundId D.table net.now bit }
-    requires listed { bit_list net.now bit true ≡ None → ⊥ }
-    requires spare { 27672 ≤ pool.old.spare }
-    ensures same { pool.new ≡ pool.old }
-    ensures row { IsRowOf D.table turned net.now bit which result }
+    requires sound { IsSoundNetlist D.table fit.now.over.net.now }
+    requires id { IsSoundId D.table fit.now.over.net.now bit }
+    requires listed { bit_list fit.now.over.net.now bit true ≡ None → ⊥ }
+    ensures { IsRowOf D.table fit.now.over.turned fit.now.over.net.now bit which result }
 {
-    match control_rows::<D>(alloc, pool, net, bit, turned) {
+    match control_rows(space, fit, bit) {
         Ok(rows) if rows.len() <= 1 => Ok(rows.first().copied()),
         Ok(_) => Err(no_product(which)),
         Err(LowerFault::OutOfMemory) => Err(FitFault::OutOfMemory),
@@ -82,20 +78,16 @@ fn row_of<D: Device>(
 
 /// The rows of the reset and the preset that all registers share.
 pub(crate) fn shared_rows<D: Device>(
-    alloc: Global,
-    pool: &mut CubePool,
-    net: &Netlist,
-    turned: u32,
+    space: &mut Workspace,
+    fit: &SoundFit<D>,
 ) -> Result<SharedRows, FitFault>
-    requires sound { IsSoundNetlist D.table net.now }
-    requires wide { NoneWide D.table net.now }
-    requires spare { 27672 ≤ pool.old.spare }
-    ensures same { pool.new ≡ pool.old }
-    ensures rows { AreSharedRows D.table turned net.now result }
+    requires sound { IsSoundNetlist D.table fit.now.over.net.now }
+    requires wide { NoneWide D.table fit.now.over.net.now }
+    ensures { AreSharedRows D.table fit.now.over.turned fit.now.over.net.now result }
 {
-    let reset_bit = bit_of::<D>(alloc, pool, net, SharedControl::Reset)?;
-    let preset_bit = bit_of::<D>(alloc, pool, net, SharedControl::Preset)?;
-    let reset = row_of::<D>(alloc, pool, net, reset_bit, turned, SharedControl::Reset)?;
-    let preset = row_of::<D>(alloc, pool, net, preset_bit, turned, SharedControl::Preset)?;
+    let reset_bit = bit_of(space, fit, SharedControl::Reset)?;
+    let preset_bit = bit_of(space, fit, SharedControl::Preset)?;
+    let reset = row_of(space, fit, reset_bit, SharedControl::Reset)?;
+    let preset = row_of(space, fit, preset_bit, SharedControl::Preset)?;
     Ok(SharedRows { reset, preset })
 }

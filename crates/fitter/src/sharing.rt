@@ -1,38 +1,29 @@
 //! The reset, or the preset, that all registers share.
 
 ghost use Rattle.std.specs.Prelude.{◌≡◌, ◌≤◌, Contains, IfOk, IfSome, None, true, length};
-ghost use Rattle.fitter.specs.Prelude.{IsSoundNetlist, bit_list};
+ghost use Rattle.fitter.specs.Prelude.{AllAskBelow, IsSoundNetlist, bit_list};
 ghost use Rattle.fitter.specs.Coverable.{IsSoundId};
 ghost use Rattle.fitter.specs.Sharing.{AllListed, FindsApartAt, IsFirstOf, IsFirstWith, IsListedBit, Shares, better_of};
 
 use crate::apart::point_apart;
 use crate::evaluating::valued_point;
-use crate::shared::{SharedControl, cell_wanted, own_control, pair_count};
+use crate::shared::{SharedControl, cell_wanted, own_control};
+use crate::sound_fit::SoundFit;
+use crate::stop::Stop;
 use bit_expr::{CellWanted, ExprId, Netlist};
-use covers::{Cube, CubePool};
+use covers::Cube;
+use fit_plans::Workspace;
 use pld_base::Point;
 use pld_device::Device;
 use sop_lowering::{LowerFault, lower};
 use std::alloc::{AllocError, Global};
 
-/// Why no shared bit was answered.
+/// The equation of the second cell differs from that of the first at the point.
 #[derive(Clone, Copy, PartialEq, Eq)]
-pub enum ShareFault {
-    /// The equation of the second cell differs from that of the first at the point.
-    NotShared(u8, u8, Point),
-    /// Memory ran out.
-    OutOfMemory,
-}
-
-impl From<AllocError> for ShareFault {
-    ghost use Rattle.std.specs.Prelude.{◌≡◌};
-    ghost use Rattle.fitter.specs.declared.sharing.ShareFault.TheVariants.{OutOfMemory};
-
-    ghost from_gives = { λ _ e. e ≡ OutOfMemory };
-
-    fn from(_error: AllocError) -> ShareFault {
-        ShareFault::OutOfMemory
-    }
+pub struct NotShared {
+    pub first: u8,
+    pub second: u8,
+    pub at: Point,
 }
 
 /// The best so far, once a cell more was seen: one with such an equation of its own, of the least name.
@@ -78,52 +69,50 @@ fn listed<D: Device>(alloc: Global, net: &Netlist, bit: ExprId) -> Result<Vec<Cu
 
 /// A point at which a cell's own equation, where it has one, differs from a written list.
 fn apart_at<D: Device>(
-    alloc: Global,
-    pool: &mut CubePool,
-    net: &Netlist,
+    space: &mut Workspace,
+    fit: &SoundFit<D>,
     which: SharedControl,
     cell: u8,
-    bit: ExprId,
     rows: &[Cube],
 ) -> Result<Option<u32>, AllocError>
-    requires sound { IsSoundNetlist D.table net.now }
-    requires listed { AllListed net.now which }
-    requires rows { IsListedBit D.table net.now bit rows.now }
-    requires spare { 27672 ≤ pool.old.spare }
-    ensures same { pool.new ≡ pool.old }
-    ensures answer { IfOk result (FindsApartAt net.now which cell (length D.table.pairs) rows.now) }
+    requires sound { IsSoundNetlist D.table fit.now.over.net.now }
+    requires listed { AllListed fit.now.over.net.now which }
+    requires few { length rows.now ≤ 1024 }
+    requires below { AllAskBelow (length D.table.pairs) rows.now }
+    ensures { IfOk result (FindsApartAt fit.now.over.net.now which cell (length D.table.pairs) rows.now) }
 {
-    let Some(wanted) = cell_wanted(net, cell) else {
+    let Some(wanted) = cell_wanted(fit.over.net, cell) else {
         return Ok(None);
     };
     let Some(control) = own_control(which, &wanted) else {
         return Ok(None);
     };
-    let own = listed::<D>(alloc, net, control.bit)?;
-    Ok(point_apart(pool, rows, &own, pair_count::<D>()))
+    let own = listed::<D>(space.alloc, fit.over.net, control.bit)?;
+    Ok(point_apart(&mut space.pool, rows, &own, fit.over.vars))
 }
 
 /// The bit of the first cell's equation, where that of each cell has its value.
 fn same_for_all<D: Device>(
-    alloc: Global,
-    pool: &mut CubePool,
-    net: &Netlist,
+    space: &mut Workspace,
+    fit: &SoundFit<D>,
     which: SharedControl,
     first: CellWanted,
     bit: ExprId,
-) -> Result<ExprId, ShareFault>
-    requires sound { IsSoundNetlist D.table net.now }
-    requires listed { AllListed net.now which }
-    requires first { IsFirstOf D.table net.now which first bit }
-    requires spare { 27672 ≤ pool.old.spare }
-    ensures same { pool.new ≡ pool.old }
-    ensures answer { Shares D.table net.now which result }
+) -> Result<ExprId, Stop<NotShared>>
+    requires sound { IsSoundNetlist D.table fit.now.over.net.now }
+    requires listed { AllListed fit.now.over.net.now which }
+    requires first { IsFirstOf D.table fit.now.over.net.now which first bit }
+    ensures { Shares D.table fit.now.over.net.now which result }
 {
-    let rows = listed::<D>(alloc, net, bit)?;
+    let rows = listed::<D>(space.alloc, fit.over.net, bit)?;
     for cell in 0..D::CELLS {
-        if let Some(levels) = apart_at::<D>(alloc, pool, net, which, cell, bit, &rows)? {
-            let point = valued_point::<D>(alloc, net, levels)?;
-            return Err(ShareFault::NotShared(first.cell, cell, point));
+        if let Some(levels) = apart_at(space, fit, which, cell, &rows)? {
+            let point = valued_point::<D>(space.alloc, fit.over.net, levels)?;
+            return Err(Stop::Refused(NotShared {
+                first: first.cell,
+                second: cell,
+                at: point,
+            }));
         }
     }
     Ok(bit)
@@ -132,22 +121,19 @@ fn same_for_all<D: Device>(
 /// The bit of the reset, or the preset, that all registers share: that of the cell of the least name that has one, else 0.
 /// Of cells whose own equations differ from it the first in the device's order is answered, with a point.
 pub fn shared_bit<D: Device>(
-    alloc: Global,
-    pool: &mut CubePool,
-    net: &Netlist,
+    space: &mut Workspace,
+    fit: &SoundFit<D>,
     which: SharedControl,
-) -> Result<ExprId, ShareFault>
-    requires sound { IsSoundNetlist D.table net.now }
-    requires listed { AllListed net.now which }
-    requires spare { 27672 ≤ pool.old.spare }
-    ensures same { pool.new ≡ pool.old }
-    ensures answer { Shares D.table net.now which result }
+) -> Result<ExprId, Stop<NotShared>>
+    requires sound { IsSoundNetlist D.table fit.now.over.net.now }
+    requires listed { AllListed fit.now.over.net.now which }
+    ensures { Shares D.table fit.now.over.net.now which result }
 {
-    let Some(first) = first_with(net, which) else {
+    let Some(first) = first_with(fit.over.net, which) else {
         return Ok(ExprId(0));
     };
     match own_control(which, &first) {
-        Some(control) => same_for_all::<D>(alloc, pool, net, which, first, control.bit),
+        Some(control) => same_for_all(space, fit, which, first, control.bit),
         None => unreachable!(),
     }
 }

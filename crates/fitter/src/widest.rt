@@ -7,8 +7,9 @@ ghost use Rattle.fitter.specs.Width.{IsFirstWide, IsTooWide, width_order};
 
 use crate::cell_covering::cover_cell;
 use crate::shared::cell_wanted;
-use bit_expr::{CellWanted, Netlist};
-use covers::CubePool;
+use crate::sound_fit::SoundFit;
+use bit_expr::CellWanted;
+use fit_plans::Workspace;
 use pld_device::Device;
 use sop_lowering::LowerFault;
 use std::alloc::{AllocError, Global};
@@ -29,20 +30,16 @@ fn is_before(here: &CellWanted, there: &CellWanted) -> bool
 
 /// Whether a cell is too wide.
 fn is_wide<D: Device>(
-    alloc: Global,
-    pool: &mut CubePool,
-    net: &Netlist,
+    space: &mut Workspace,
+    fit: &SoundFit<D>,
     wanted: CellWanted,
-    turned: u32,
 ) -> Result<bool, AllocError>
-    requires sound { IsSoundNetlist D.table net.now }
-    requires can { CanCoverCell D.table net.now wanted }
-    requires spare { 27672 ≤ pool.old.spare }
-    ensures same { pool.new ≡ pool.old }
-    ensures wide { result ≡ Ok true → IsTooWide D.table net.now wanted }
-    ensures fits { result ≡ Ok false → IsTooWide D.table net.now wanted → ⊥ }
+    requires sound { IsSoundNetlist D.table fit.now.over.net.now }
+    requires can { CanCoverCell D.table fit.now.over.net.now wanted }
+    ensures wide { result ≡ Ok true → IsTooWide D.table fit.now.over.net.now wanted }
+    ensures fits { result ≡ Ok false → IsTooWide D.table fit.now.over.net.now wanted → ⊥ }
 {
-    match cover_cell::<D>(alloc, pool, net, wanted, turned) {
+    match cover_cell(space, fit, wanted) {
         Ok(_) => Ok(false),
         Err(LowerFault::TooWide) => Ok(true),
         Err(LowerFault::OutOfMemory) => Err(AllocError),
@@ -51,50 +48,42 @@ fn is_wide<D: Device>(
 
 /// The cell of the number, where it is too wide and comes before the first of the cells below it; else that one.
 fn earlier<D: Device>(
-    alloc: Global,
-    pool: &mut CubePool,
-    net: &Netlist,
+    space: &mut Workspace,
+    fit: &SoundFit<D>,
     first: CellWanted,
     cell: u8,
-    turned: u32,
 ) -> Result<CellWanted, AllocError>
-    requires sound { IsSoundNetlist D.table net.now }
-    requires first { IsFirstBelow D.table net.now cell first }
-    requires spare { 27672 ≤ pool.old.spare }
-    ensures same { pool.new ≡ pool.old }
-    ensures first { IfOk result (IsFirstBelow D.table net.now (cell + 1)) }
+    requires sound { IsSoundNetlist D.table fit.now.over.net.now }
+    requires first { IsFirstBelow D.table fit.now.over.net.now cell first }
+    ensures { IfOk result (IsFirstBelow D.table fit.now.over.net.now (cell + 1)) }
 {
-    let Some(wanted) = cell_wanted(net, cell) else {
+    let Some(wanted) = cell_wanted(fit.over.net, cell) else {
         return Ok(first);
     };
     if !is_before(&wanted, &first) {
         return Ok(first);
     }
-    let wide = is_wide::<D>(alloc, pool, net, wanted, turned)?;
+    let wide = is_wide(space, fit, wanted)?;
     if wide { Ok(wanted) } else { Ok(first) }
 }
 
 /// The first in the source of the cells that are too wide; `cell` is the first by number. Of the cells behind it those are
 /// covered that come before it in the source.
 pub fn first_wide<D: Device>(
-    alloc: Global,
-    pool: &mut CubePool,
-    net: &Netlist,
+    space: &mut Workspace,
+    fit: &SoundFit<D>,
     cell: u8,
-    turned: u32,
 ) -> Result<u8, AllocError>
-    requires sound { IsSoundNetlist D.table net.now }
-    requires wide { IsFirstNumber D.table net.now cell }
-    requires spare { 27672 ≤ pool.old.spare }
-    ensures same { pool.new ≡ pool.old }
-    ensures first { IfOk result (IsFirstWide D.table net.now) }
+    requires sound { IsSoundNetlist D.table fit.now.over.net.now }
+    requires wide { IsFirstNumber D.table fit.now.over.net.now cell }
+    ensures { IfOk result (IsFirstWide D.table fit.now.over.net.now) }
 {
-    let Some(wanted) = cell_wanted(net, cell) else {
+    let Some(wanted) = cell_wanted(fit.over.net, cell) else {
         unreachable!()
     };
     let mut first = wanted;
     for later in cell..D::CELLS {
-        first = earlier::<D>(alloc, pool, net, first, later, turned)?;
+        first = earlier(space, fit, first, later)?;
     }
     Ok(first.cell)
 }

@@ -5,8 +5,7 @@ use Rattle.fitter.proofs.covering.cover_cells.Goals as goal
 
 pub loop-cell-init : goal.loop-cell-init
 loop-cell-init g c = record {
-  same = refl;
-  below = rw c.new-list.ensures.items (below_none g.D.Device.table c.args.turned c.args.net.now);
+  below = rw c.new-list.ensures.items (below_none g.D.Device.table c.args.fit.now.over.turned c.args.fit.now.over.net.now);
   refused = rw c.new-list.ensures.items (none_refused g.D.Device.table);
 }
 
@@ -17,9 +16,8 @@ loop-cell-preserved g c =
     let cell = c.loop-cell.cell in
     let list = c.loop-cell.list.items in
     record {
-      same = c.next_covers.ensures.same ∙ before.same;
-      below = subst (λ (xs : List (Option CellCovers)). CoversBelow t c.args.turned c.args.net.now (cell + 1) xs) (sym c.in_ok-push-in-Ok.ensures.items)
-          (below_more t c.args.turned c.args.net.now cell list c.in-Ok.covers before.below c.in-Ok.ensures.checked (λ fit. elim (cases_Bool c.loop-cell.refused) [
+      below = subst (λ (xs : List (Option CellCovers)). CoversBelow t c.args.fit.now.over.turned c.args.fit.now.over.net.now (cell + 1) xs) (sym c.in_ok-push-in-Ok.ensures.items)
+          (below_more t c.args.fit.now.over.turned c.args.fit.now.over.net.now cell list c.in-Ok.covers before.below c.in-Ok.ensures.checked (λ fit. elim (cases_Bool c.loop-cell.refused) [
             | inl yes-is ↦ absurd (before.refused yes-is fit)
             | inr no-is ↦ c.in-Ok.ensures.covered no-is
           ]));
@@ -32,9 +30,9 @@ is_refused-refused-requires g c = omega (arith, c.loop-cell-test.true, c.CELLS-c
 
 pub first_wide-requires-clause-wide : goal.first_wide-requires-clause-wide
 first_wide-requires-clause-wide g c =
-    first_number g.D.Device.table c.args.turned c.args.net.now c.loop-cell.cell c.loop-cell.list.items c.loop-cell.invariant.below (rw c.in-Err-TooWide.field-0-is at c.in-Err-TooWide.ensures.checked)
+    first_number g.D.Device.table c.args.fit.now.over.turned c.args.fit.now.over.net.now c.loop-cell.cell c.loop-cell.list.items c.loop-cell.invariant.below (rw c.in-Err-TooWide.field-0-is at c.in-Err-TooWide.ensures.checked)
 
-pub returns-clause-covered : goal.returns-clause-covered
-returns-clause-covered g c =
-    subst (λ n. CoversBelow g.D.Device.table c.args.turned c.args.net.now n c.loop-cell.list.items)
+pub returns : goal.returns
+returns g c =
+    subst (λ n. CoversBelow g.D.Device.table c.args.fit.now.over.turned c.args.fit.now.over.net.now n c.loop-cell.list.items)
     (omega (arith, c.loop-cell-test.false, c.CELLS-cell-end.ensures, g.met.D.Device.cells_is, c.loop-cell.auto.cell-end)) c.loop-cell.invariant.below

@@ -4,11 +4,11 @@ use Rattle.fitter.proofs.Entries.{no_entries}
 use Rattle.fitter.proofs.fitting.entries.Goals as goal
 
 pub loop-cell-init : goal.loop-cell-init
-loop-cell-init g c = record { below = rw c.new-list.ensures.items (no_entries g.D.Device.table c.args.net.now c.args.plans.now c.args.forms.now) }
+loop-cell-init g c = record { below = rw c.new-list.ensures.items (no_entries g.D.Device.table c.args.net.now c.args.rows.now.plans.items c.args.rows.now.forms.items) }
 
 pub returns : goal.returns
 returns g c =
-    subst (λ n. EntriesBelow g.D.Device.table c.args.net.now c.args.plans.now c.args.forms.now n c.loop-cell.list.items)
+    subst (λ n. EntriesBelow g.D.Device.table c.args.net.now c.args.rows.now.plans.items c.args.rows.now.forms.items n c.loop-cell.list.items)
     (omega (arith, c.loop-cell-test.false, c.CELLS-cell-end.ensures, g.met.D.Device.cells_is, c.loop-cell.auto.cell-end)) c.loop-cell.invariant.below
 
 pub add_entry-requires-clause-plans : goal.add_entry-requires-clause-plans
