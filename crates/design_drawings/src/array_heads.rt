@@ -6,7 +6,7 @@ use crate::array::{STEP, column_at};
 use crate::drawn_design::Design;
 use crate::labels::{label_length, put_label, put_title_if_long};
 use crate::page::{Page, Piece};
-use fuse_listing::{carry_at, pin_of, put_column};
+use fuse_listing::{Burned, carry_at, pin_of, put_column};
 use pld_base::OutOfMemory;
 use pld_device::Device;
 
@@ -14,14 +14,12 @@ use pld_device::Device;
 fn literal<D: Device>(design: Design, column: u16) -> Result<Vec<u8>, OutOfMemory>
     requires { column < D.table.columns }
 {
+    let burned = Burned {
+        fuses: design.levels(),
+        names: design.names,
+    };
     let mut text = Vec::new(design.alloc);
-    put_column::<D>(
-        design.alloc,
-        &mut text,
-        design.levels(),
-        design.names,
-        column,
-    )?;
+    put_column::<D>(design.alloc, &mut text, &burned, column)?;
     Ok(text)
 }
 

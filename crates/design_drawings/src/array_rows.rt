@@ -6,7 +6,7 @@ use crate::array::{LEFT, LINE, STEP, column_at};
 use crate::drawn_design::Design;
 use crate::page::{Page, Piece};
 use crate::rows::{is_enable, is_whole};
-use fuse_listing::{is_in_use, is_opened, put_row};
+use fuse_listing::{Burned, is_in_use, is_opened, put_row};
 use pld_base::OutOfMemory;
 use pld_device::Device;
 
@@ -105,17 +105,15 @@ fn put_product<D: Device>(
     row: u16,
     down: u32,
 ) -> Result<u32, OutOfMemory> {
+    let burned = Burned {
+        fuses: design.levels(),
+        names: design.names,
+    };
     let mut product = Vec::new(design.alloc);
     if is_enable::<D>(row) {
         product.extend_from_slice(b"enable ")?;
     }
-    put_row::<D>(
-        design.alloc,
-        &mut product,
-        design.levels(),
-        design.names,
-        row,
-    )?;
+    put_row::<D>(design.alloc, &mut product, &burned, row)?;
     page.put(&[
         Piece::Markup("<text y=\""),
         Piece::Number(down as usize + 3),

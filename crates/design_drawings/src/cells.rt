@@ -10,7 +10,7 @@ use crate::drawn_equations::lowers;
 use crate::page::{Page, Piece};
 use crate::pins::{is_assigned, is_register, name_bytes};
 use crate::rows::rows_in_use;
-use fuse_listing::{cell_of, name_on, put_row, stores};
+use fuse_listing::{Burned, cell_of, name_on, put_row, stores};
 use pld_base::OutOfMemory;
 use pld_device::{Device, Enable};
 
@@ -19,14 +19,12 @@ pub fn put_product<D: Device>(page: &mut Page, design: Design, row: u16) -> Resu
     ensures { OnOk result (page.new ≡ page.old
         ++ escaped (row_text D.table design.entry.file.now.fuses (entries_of design.entry.names.now) row)) }
 {
+    let burned = Burned {
+        fuses: design.levels(),
+        names: design.names,
+    };
     let mut product = Vec::new(design.alloc);
-    put_row::<D>(
-        design.alloc,
-        &mut product,
-        design.levels(),
-        design.names,
-        row,
-    )?;
+    put_row::<D>(design.alloc, &mut product, &burned, row)?;
     page.put(&[Piece::Text(&product)])
 }
 

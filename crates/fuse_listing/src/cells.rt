@@ -8,11 +8,12 @@ ghost use Rattle.abel_meaning.specs.Choices.{is_free};
 ghost use Rattle.fuse_listing.specs.Listing.{assigned_text, cell_text, chosen_text, enable_text, head_text, is_in_use, kind_text};
 ghost use Rattle.fuse_listing.specs.Listing.{line_if_used, pin_text, polarity_text, use_text};
 
+use crate::burned::Burned;
 use crate::columns::{complements_output, stores};
 use crate::lookups::cell_of;
 use crate::pin_names::name_on;
 use crate::rows::{is_in_use, put_row, put_row_line};
-use abel_tree::{Attributes, Declared, Names};
+use abel_tree::{Attributes, Declared};
 use bitflags::Flags;
 use pld_base::{OutOfMemory, put_decimal};
 use pld_device::{Cell, Device, Enable};
@@ -32,15 +33,14 @@ pub fn count_in_use<D: Device>(fuses: &[bool], first: u16, room: u8) -> usize
 fn put_enable<D: Device>(
     alloc: Global,
     out: &mut Vec<u8>,
-    fuses: &[bool],
-    names: &Names,
+    of: &Burned,
     enable: Enable,
 ) -> Result<(), OutOfMemory>
     ensures { OnOk result (out.new.items
-        ≡ out.old.items ++ enable_text D.table fuses.now (entries_of names.now) enable) }
+        ≡ out.old.items ++ enable_text D.table of.now.fuses.now (entries_of of.now.names.now) enable) }
 {
     match enable {
-        Enable::Row(row) => put_row::<D>(alloc, out, fuses, names, row),
+        Enable::Row(row) => put_row::<D>(alloc, out, of, row),
         Enable::PinLow(pin) => {
             out.extend_from_slice(b"!pin")?;
             put_decimal(alloc, out, usize::from(pin))
@@ -52,15 +52,14 @@ fn put_enable<D: Device>(
 fn put_if_used<D: Device>(
     alloc: Global,
     out: &mut Vec<u8>,
-    fuses: &[bool],
-    names: &Names,
+    of: &Burned,
     row: u16,
 ) -> Result<(), OutOfMemory>
     ensures { OnOk result (out.new.items
-        ≡ out.old.items ++ line_if_used D.table fuses.now (entries_of names.now) row) }
+        ≡ out.old.items ++ line_if_used D.table of.now.fuses.now (entries_of of.now.names.now) row) }
 {
-    if is_in_use::<D>(fuses, row) {
-        put_row_line::<D>(alloc, out, fuses, names, b"  rows ", row)?;
+    if is_in_use::<D>(of.fuses, row) {
+        put_row_line::<D>(alloc, out, of, b"  rows ", row)?;
     }
     Ok(())
 }
@@ -69,16 +68,15 @@ fn put_if_used<D: Device>(
 fn put_rows<D: Device>(
     alloc: Global,
     out: &mut Vec<u8>,
-    fuses: &[bool],
-    names: &Names,
+    of: &Burned,
     cell: &Cell,
 ) -> Result<(), OutOfMemory>
     requires { cell.now.first + cell.now.room ≤ 65535 }
     ensures { OnOk result (out.new.items ≡ out.old.items
-        ++ flat_map (line_if_used D.table fuses.now (entries_of names.now)) (range_with_len cell.now.first cell.now.room)) }
+        ++ flat_map (line_if_used D.table of.now.fuses.now (entries_of of.now.names.now)) (range_with_len cell.now.first cell.now.room)) }
 {
     for offset in 0..cell.room {
-        put_if_used::<D>(alloc, out, fuses, names, cell.first + u16::from(offset))?;
+        put_if_used::<D>(alloc, out, of, cell.first + u16::from(offset))?;
     }
     Ok(())
 }
@@ -205,38 +203,36 @@ fn put_head<D: Device>(
 fn put_cell<D: Device>(
     alloc: Global,
     out: &mut Vec<u8>,
-    fuses: &[bool],
-    names: &Names,
+    of: &Burned,
     cell: u8,
     declared: &Declared,
 ) -> Result<(), OutOfMemory>
     requires { cell < length D.table.cells }
     ensures { OnOk result (out.new.items
-        ≡ out.old.items ++ cell_text D.table fuses.now (entries_of names.now) cell (view_declared declared.now)) }
+        ≡ out.old.items ++ cell_text D.table of.now.fuses.now (entries_of of.now.names.now) cell (view_declared declared.now)) }
 {
-    put_head::<D>(alloc, out, fuses, cell, declared)?;
+    put_head::<D>(alloc, out, of.fuses, cell, declared)?;
     let found = cell_of::<D>(cell);
     out.extend_from_slice(b"  enable ")?;
-    put_enable::<D>(alloc, out, fuses, names, found.enable)?;
+    put_enable::<D>(alloc, out, of, found.enable)?;
     out.push(b'\n')?;
-    put_rows::<D>(alloc, out, fuses, names, &found)
+    put_rows::<D>(alloc, out, of, &found)
 }
 
 /// Appends the lines of a cell whose pin's name is assigned.
 pub fn put_if_assigned<D: Device>(
     alloc: Global,
     out: &mut Vec<u8>,
-    fuses: &[bool],
-    names: &Names,
+    of: &Burned,
     cell: u8,
 ) -> Result<(), OutOfMemory>
     requires { cell < length D.table.cells }
     ensures { OnOk result (out.new.items
-        ≡ out.old.items ++ assigned_text D.table fuses.now (entries_of names.now) cell) }
+        ≡ out.old.items ++ assigned_text D.table of.now.fuses.now (entries_of of.now.names.now) cell) }
 {
-    if let Some(declared) = name_on(names, cell_of::<D>(cell).pin) {
+    if let Some(declared) = name_on(of.names, cell_of::<D>(cell).pin) {
         if declared.assigned {
-            put_cell::<D>(alloc, out, fuses, names, cell, declared)?;
+            put_cell::<D>(alloc, out, of, cell, declared)?;
         }
     }
     Ok(())

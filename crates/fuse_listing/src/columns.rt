@@ -8,9 +8,9 @@ ghost use Rattle.abel_tree.specs.Entries.{entries_of};
 ghost use Rattle.fuse_listing.specs.Listing.{carries_complement, column_literal, complements_output, literal_text};
 ghost use Rattle.fuse_listing.specs.Listing.{CarryIsThere, pair_literal, pin_of};
 
+use crate::burned::Burned;
 use crate::lookups::{carry_at, cell_of};
 use crate::pin_names::{name_on, names_complement, put_name};
-use abel_tree::Names;
 use pld_base::OutOfMemory;
 use pld_device::{Carry, Device, Flip, FuseBit, Kinds};
 use std::alloc::Global;
@@ -85,18 +85,17 @@ fn carries_complement<D: Device>(fuses: &[bool], pair: Carry) -> bool
 fn put_pair_literal<D: Device>(
     alloc: Global,
     out: &mut Vec<u8>,
-    fuses: &[bool],
-    names: &Names,
+    of: &Burned,
     higher: bool,
     pair: Carry,
 ) -> Result<(), OutOfMemory>
     requires { CarryIsThere D.table pair }
     ensures { OnOk result (out.new.items
-        ≡ out.old.items ++ pair_literal D.table fuses.now (entries_of names.now) higher pair) }
+        ≡ out.old.items ++ pair_literal D.table of.now.fuses.now (entries_of of.now.names.now) higher pair) }
 {
     let pin = pin_of::<D>(pair);
-    let name = name_on(names, pin);
-    if higher != (names_complement(name) != carries_complement::<D>(fuses, pair)) {
+    let name = name_on(of.names, pin);
+    if higher != (names_complement(name) != carries_complement::<D>(of.fuses, pair)) {
         out.push(b'!')?;
     }
     put_name(alloc, out, pin, name)
@@ -106,14 +105,13 @@ fn put_pair_literal<D: Device>(
 pub fn put_column<D: Device>(
     alloc: Global,
     out: &mut Vec<u8>,
-    fuses: &[bool],
-    names: &Names,
+    of: &Burned,
     column: u16,
 ) -> Result<(), OutOfMemory>
     requires { column < D.table.columns }
     ensures { OnOk result (out.new.items
-        ≡ out.old.items ++ column_literal D.table fuses.now (entries_of names.now) column) }
+        ≡ out.old.items ++ column_literal D.table of.now.fuses.now (entries_of of.now.names.now) column) }
 {
     let pair = carry_at::<D>(column);
-    put_pair_literal::<D>(alloc, out, fuses, names, column % 2 == 1, pair)
+    put_pair_literal::<D>(alloc, out, of, column % 2 == 1, pair)
 }

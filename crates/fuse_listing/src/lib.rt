@@ -1,6 +1,7 @@
 //! The equations of a device's fuses in the names of a source.
 #![tactic(auto)]
 
+mod burned;
 mod cells;
 mod columns;
 mod given;
@@ -9,6 +10,7 @@ mod pin_names;
 mod rows;
 mod whole;
 
+pub use burned::Burned;
 pub use cells::count_in_use;
 pub use columns::{complements_output, pin_of, put_column, says, stores};
 pub use lookups::{carry_at, cell_of};

@@ -7,8 +7,8 @@ ghost use Rattle.abel_tree.specs.Entries.{entries_of};
 ghost use Rattle.fuse_listing.specs.Listing.{column_literal, intact_columns, is_in_use, is_opened, product_text};
 ghost use Rattle.fuse_listing.specs.Listing.{row_line, row_text};
 
+use crate::burned::Burned;
 use crate::columns::{level_of, put_column};
-use abel_tree::Names;
 use pld_base::OutOfMemory;
 use pld_device::Device;
 use std::alloc::Global;
@@ -51,36 +51,34 @@ pub fn is_in_use<D: Device>(fuses: &[bool], row: u16) -> bool
 fn put_literal<D: Device>(
     alloc: Global,
     out: &mut Vec<u8>,
-    fuses: &[bool],
-    names: &Names,
+    of: &Burned,
     column: u16,
     is_first: bool,
 ) -> Result<(), OutOfMemory>
     requires { column < D.table.columns }
     ensures { OnOk result (out.new.items ≡ out.old.items ++ (if is_first then [] else codes " & ")
-        ++ column_literal D.table fuses.now (entries_of names.now) column) }
+        ++ column_literal D.table of.now.fuses.now (entries_of of.now.names.now) column) }
 {
     if !is_first {
         out.extend_from_slice(b" & ")?;
     }
-    put_column::<D>(alloc, out, fuses, names, column)
+    put_column::<D>(alloc, out, of, column)
 }
 
 /// Appends the literals of a row's intact columns.
 fn put_product<D: Device>(
     alloc: Global,
     out: &mut Vec<u8>,
-    fuses: &[bool],
-    names: &Names,
+    of: &Burned,
     row: u16,
 ) -> Result<(), OutOfMemory>
     ensures { OnOk result (out.new.items ≡ out.old.items
-        ++ product_text (column_literal D.table fuses.now (entries_of names.now)) (intact_columns D.table fuses.now row)) }
+        ++ product_text (column_literal D.table of.now.fuses.now (entries_of of.now.names.now)) (intact_columns D.table of.now.fuses.now row)) }
 {
     let mut is_first = true;
     for column in 0..D::COLUMNS {
-        if !is_opened::<D>(fuses, row, column) {
-            put_literal::<D>(alloc, out, fuses, names, column, is_first)?;
+        if !is_opened::<D>(of.fuses, row, column) {
+            put_literal::<D>(alloc, out, of, column, is_first)?;
             is_first = false;
         }
     }
@@ -94,15 +92,14 @@ fn put_product<D: Device>(
 pub fn put_row<D: Device>(
     alloc: Global,
     out: &mut Vec<u8>,
-    fuses: &[bool],
-    names: &Names,
+    of: &Burned,
     row: u16,
 ) -> Result<(), OutOfMemory>
     ensures { OnOk result (out.new.items
-        ≡ out.old.items ++ row_text D.table fuses.now (entries_of names.now) row) }
+        ≡ out.old.items ++ row_text D.table of.now.fuses.now (entries_of of.now.names.now) row) }
 {
-    if is_in_use::<D>(fuses, row) {
-        put_product::<D>(alloc, out, fuses, names, row)
+    if is_in_use::<D>(of.fuses, row) {
+        put_product::<D>(alloc, out, of, row)
     } else {
         out.push(b'0')?;
         Ok(())
@@ -113,16 +110,15 @@ pub fn put_row<D: Device>(
 pub fn put_row_line<D: Device>(
     alloc: Global,
     out: &mut Vec<u8>,
-    fuses: &[bool],
-    names: &Names,
+    of: &Burned,
     word: &[u8],
     row: u16,
 ) -> Result<(), OutOfMemory>
     ensures { OnOk result (out.new.items
-        ≡ out.old.items ++ row_line D.table fuses.now (entries_of names.now) word.now row) }
+        ≡ out.old.items ++ row_line D.table of.now.fuses.now (entries_of of.now.names.now) word.now row) }
 {
     out.extend_from_slice(word)?;
-    put_row::<D>(alloc, out, fuses, names, row)?;
+    put_row::<D>(alloc, out, of, row)?;
     out.push(b'\n')?;
     Ok(())
 }

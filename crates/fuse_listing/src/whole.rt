@@ -5,6 +5,7 @@ ghost use Rattle.std.specs.List.{range_with_len};
 ghost use Rattle.abel_tree.specs.Entries.{entries_of};
 ghost use Rattle.fuse_listing.specs.Listing.{assigned_text, common_line, listing_text};
 
+use crate::burned::Burned;
 use crate::cells::put_if_assigned;
 use crate::given::put_given;
 use crate::rows::put_row_line;
@@ -14,17 +15,12 @@ use pld_device::{Device, Fuses};
 use std::alloc::Global;
 
 /// Appends the lines of all cells whose pins' names are assigned, in the order of the cells.
-fn put_cells<D: Device>(
-    alloc: Global,
-    out: &mut Vec<u8>,
-    fuses: &[bool],
-    names: &Names,
-) -> Result<(), OutOfMemory>
+fn put_cells<D: Device>(alloc: Global, out: &mut Vec<u8>, of: &Burned) -> Result<(), OutOfMemory>
     ensures { OnOk result (out.new.items ≡ out.old.items
-        ++ flat_map (assigned_text D.table fuses.now (entries_of names.now)) (range_with_len 0 (length D.table.cells))) }
+        ++ flat_map (assigned_text D.table of.now.fuses.now (entries_of of.now.names.now)) (range_with_len 0 (length D.table.cells))) }
 {
     for cell in 0..D::CELLS {
-        put_if_assigned::<D>(alloc, out, fuses, names, cell)?;
+        put_if_assigned::<D>(alloc, out, of, cell)?;
     }
     Ok(())
 }
@@ -33,17 +29,16 @@ fn put_cells<D: Device>(
 fn put_common<D: Device>(
     alloc: Global,
     out: &mut Vec<u8>,
-    fuses: &[bool],
-    names: &Names,
+    of: &Burned,
     word: &[u8],
     row: Option<u16>,
 ) -> Result<(), OutOfMemory>
     ensures { OnOk result (out.new.items
-        ≡ out.old.items ++ common_line D.table fuses.now (entries_of names.now) word.now row) }
+        ≡ out.old.items ++ common_line D.table of.now.fuses.now (entries_of of.now.names.now) word.now row) }
 {
     match row {
         None => Ok(()),
-        Some(row) => put_row_line::<D>(alloc, out, fuses, names, word, row),
+        Some(row) => put_row_line::<D>(alloc, out, of, word, row),
     }
 }
 
@@ -72,8 +67,12 @@ pub fn listing<D: Device>(
         declared.list.as_slice(),
         names.list.as_slice(),
     )?;
-    put_cells::<D>(alloc, &mut out, levels, names)?;
-    put_common::<D>(alloc, &mut out, levels, names, b"reset ", D::RESET)?;
-    put_common::<D>(alloc, &mut out, levels, names, b"preset ", D::PRESET)?;
+    let of = Burned {
+        fuses: levels,
+        names,
+    };
+    put_cells::<D>(alloc, &mut out, &of)?;
+    put_common::<D>(alloc, &mut out, &of, b"reset ", D::RESET)?;
+    put_common::<D>(alloc, &mut out, &of, b"preset ", D::PRESET)?;
     Ok(out)
 }

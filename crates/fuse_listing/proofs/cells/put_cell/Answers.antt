@@ -8,8 +8,8 @@ use Rattle.fuse_listing.proofs.cells.put_cell.Goals as goal
 pub returns : goal.returns
 returns g c =
     let t = g.D.Device.table in
-    let fuses = c.args.fuses.now in
-    let es = entries_of c.args.names.now in
+    let fuses = c.args.of.now.fuses.now in
+    let es = entries_of c.args.of.now.names.now in
     let old = c.args.out.now.items in
     let head = head_text t fuses c.args.cell (view_declared c.args.declared.now) in
     let enable = enable_text t fuses es (cell_at t c.args.cell).enable in

@@ -7,4 +7,4 @@ pub loop-offset-preserved : goal.loop-offset-preserved
 loop-offset-preserved g c =
     c.in_ok-put_if_used.ensures
     ∙ (rw c.loop-offset.invariant
-    (next_row_at (line_if_used g.D.Device.table c.args.fuses.now (entries_of c.args.names.now)) c.args.out.now.items c.args.cell.now.first c.loop-offset.offset c.from.result c.from.ensures))
+    (next_row_at (line_if_used g.D.Device.table c.args.of.now.fuses.now (entries_of c.args.of.now.names.now)) c.args.out.now.items c.args.cell.now.first c.loop-offset.offset c.from.result c.from.ensures))

@@ -5,5 +5,5 @@ use Rattle.fuse_listing.proofs.rows.put_product.Given as goal
 
 abbrev pub invariant-loop-column : goal.invariant-loop-column
 invariant-loop-column g l =
-    HasJoined (column_literal g.D.Device.table l.fuses (entries_of l.names)) (λ k. not (is_opened g.D.Device.table l.fuses l.row k))
+    HasJoined (column_literal g.D.Device.table l.of.fuses.now (entries_of l.of.names.now)) (λ k. not (is_opened g.D.Device.table l.of.fuses.now l.row k))
     l.initial.out.items l.out.items l.is_first l.column
