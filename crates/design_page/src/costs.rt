@@ -7,15 +7,12 @@ ghost use Rattle.fitter.specs.CellCovered.{CanCoverCell};
 ghost use Rattle.design_page.specs.Costly.{IsCostly};
 
 use bit_expr::{CellWanted, Netlist};
-use covers::CubePool;
-use fit_plans::try_form;
-use fitter::{cell_wanted, pair_count, turn_mask};
+use fit_plans::{Covering, Workspace};
+use fitter::{SoundFit, cell_wanted, pair_count, turn_mask};
 use pld_base::{ListOf, OutOfMemory, level_at};
 use pld_device::{Cell, Device};
 use std::alloc::Global;
-
-/// The cubes of the pool in which the covers are made.
-const POOL: usize = 49_152;
+use std::marker::PhantomData;
 
 /// An output that takes at least three times the rows of its other polarity, and how many each takes.
 #[derive(Clone, Copy)]
@@ -27,20 +24,15 @@ pub struct CostlyPolarity {
 
 /// How many rows a cell takes in a form; none where it may not have the form, or is too wide in it.
 fn rows_in<D: Device>(
-    alloc: Global,
-    pool: &mut CubePool,
-    net: &Netlist,
+    space: &mut Workspace,
+    fit: &SoundFit<D>,
     wanted: &CellWanted,
     inverted: bool,
 ) -> Result<Option<usize>, OutOfMemory>
-    requires sound { IsSoundNetlist D.table net.now }
-    requires can { CanCoverCell D.table net.now wanted.now }
-    requires spare { 27672 ≤ pool.old.spare }
-    ensures { pool.new ≡ pool.old }
+    requires sound { IsSoundNetlist D.table fit.now.over.net.now }
+    requires can { CanCoverCell D.table fit.now.over.net.now wanted.now }
 {
-    let turned = turn_mask::<D>(net);
-    let pairs = pair_count::<D>();
-    match try_form(alloc, pool, net, wanted, D::FLIP, inverted, turned, pairs)? {
+    match fit.over.try_form(space, wanted, inverted)? {
         Some(rows) => Ok(Some(rows.len())),
         None => Ok(None),
     }
@@ -74,27 +66,24 @@ fn costly(cell: Cell, direct: Option<usize>, inverted: Option<usize>) -> Option<
 
 /// The output of an assigned cell whose pin is among these, if it is costly.
 fn costly_at<D: Device>(
-    alloc: Global,
-    pool: &mut CubePool,
-    net: &Netlist,
+    space: &mut Workspace,
+    fit: &SoundFit<D>,
     cell: u8,
     pins: u32,
 ) -> Result<Option<CostlyPolarity>, OutOfMemory>
-    requires sound { IsSoundNetlist D.table net.now }
+    requires sound { IsSoundNetlist D.table fit.now.over.net.now }
     requires low { cell < length D.table.cells }
-    requires spare { 27672 ≤ pool.old.spare }
-    ensures same { pool.new ≡ pool.old }
-    ensures costly { IfOk result (λ found. IfSome found IsCostly) }
+    ensures { IfOk result (λ found. IfSome found IsCostly) }
 {
     let found = D::cell(cell);
     if !level_at(pins, found.pin) {
         return Ok(None);
     }
-    let Some(wanted) = cell_wanted(net, cell) else {
+    let Some(wanted) = cell_wanted(fit.over.net, cell) else {
         return Ok(None);
     };
-    let direct = rows_in::<D>(alloc, pool, net, &wanted, false)?;
-    let inverted = rows_in::<D>(alloc, pool, net, &wanted, true)?;
+    let direct = rows_in(space, fit, &wanted, false)?;
+    let inverted = rows_in(space, fit, &wanted, true)?;
     Ok(costly(found, direct, inverted))
 }
 
@@ -108,10 +97,19 @@ pub fn costly_polarities<D: Device>(
     requires { IsSoundNetlist D.table net.now }
     ensures { IfOk result (λ list. All IsCostly list) }
 {
-    let mut pool = CubePool::with_room(alloc, POOL)?;
+    let mut space = Workspace::new(alloc)?;
+    let fit = SoundFit::<D> {
+        over: Covering {
+            net,
+            flip: D::FLIP,
+            turned: turn_mask::<D>(net),
+            vars: pair_count::<D>(),
+        },
+        device: PhantomData,
+    };
     let mut list = Vec::new(alloc);
     for cell in 0..D::CELLS {
-        if let Some(found) = costly_at::<D>(alloc, &mut pool, net, cell, pins)? {
+        if let Some(found) = costly_at(&mut space, &fit, cell, pins)? {
             list.push(found)?;
         }
     }
