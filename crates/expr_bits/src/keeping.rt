@@ -37,6 +37,15 @@ fn signal_reads<D: Device>(declared: &Declared) -> Reads
     }
 }
 
+/// Whether a constant of this name is refused. Any answer gives right rows: a source with such a constant is refused before
+/// a row of it is read, and sets that double would be built in full.
+fn is_refused(scope: &Scope<'_>, name: &[u8]) -> bool {
+    match scope.get(name) {
+        Some(known) => known.checked.fault.is_some(),
+        None => false,
+    }
+}
+
 /// The row of a constant. Where its own extensions read no leaf, it is built with its other signals as `.CLK`, under which
 /// they read none. It is kept where it made no node, and has the same bits under each extension with which it makes none.
 fn constant_row<D: Device>(
@@ -87,6 +96,9 @@ fn row_of<D: Device>(
     match &declared.meaning {
         Meaning::Pin { pin: _, negated: _ } => Ok(Row::of(signal_reads::<D>(declared))),
         Meaning::Node(_) => Ok(Row::of(signal_reads::<D>(declared))),
+        Meaning::Constant(expr) if is_refused(scope, declared.name.bytes()) => {
+            Ok(Row::of(expr_reads(alloc, scope, rows, expr)?))
+        }
         Meaning::Constant(expr) => constant_row::<D>(alloc, scope, rows, expr),
         Meaning::DeviceName => Ok(Row::of(Reads::none())),
     }
