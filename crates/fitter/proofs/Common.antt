@@ -105,7 +105,7 @@ pub use Rattle.fitter.specs.Answers.{FitAnswers, HasControls, IsFitOf, IsTooMany
 pub use Rattle.fitter.specs.CellCovered.{CanCoverCell, HasChecked, HasCheckedAs, HasCovers, HasCoversAs, HasRows, IsChecked, IsCheckedAt, IsCovered}
 pub use Rattle.fitter.specs.CellCovered.{IsCoveredAt, IsFirstBelow, IsFirstNumber, IsListed, IsWideAt}
 pub use Rattle.fitter.specs.Coverable.{IsSoundId, SoundCover}
-pub use Rattle.fitter.specs.Covered.{AreCovered, CoversBelow}
+pub use Rattle.fitter.specs.Covered.{AreCovered, CoversBelow, EachCoveredBelow}
 pub use Rattle.fitter.specs.Evaluating.{AreNext, CanEvaluate, HasValues, IsWired}
 pub use Rattle.fitter.specs.Missing.{FindsApart, FindsMissed, IsApart, IsMissed}
 pub use Rattle.fitter.specs.Order.{AreRowsInOrder}

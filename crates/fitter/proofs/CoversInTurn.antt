@@ -1,6 +1,6 @@
 -- The covers of the cells in turn.
 use Rattle.std.proofs.Common.{◌≡◌, ◌⊎◌, ℕ, ◌+◌, ◌<◌, ◌≤◌, Bool, true, false, List, [], ◌∷◌, ◌++◌, length, get_or, Option, Some, None, Result, Ok, Err, refl, sym, subst, arith, inl, inr}
-use Rattle.fitter.proofs.Common.{cases_lt, false≢true, get_or_append_left, length-append, get_or-append_seam, Table, CellWanted, Netlist, IsSoundNetlist, LowerFault, cell_wanted, SharedControl, Preset, Reset, AllListed, CellCovers, HasCheckedAs, HasCoversAs, IsCheckedAt, IsCoveredAt, IsFirstNumber, IsWideAt, IsControlTooWide, IsTooWide, NoneWide, CoversBelow, EachFitsBelow, OneFitsAt}
+use Rattle.fitter.proofs.Common.{cases_lt, false≢true, get_or_append_left, length-append, get_or-append_seam, Table, CellWanted, Netlist, IsSoundNetlist, LowerFault, cell_wanted, SharedControl, Preset, Reset, AllListed, CellCovers, HasCheckedAs, HasCoversAs, IsCheckedAt, IsCoveredAt, IsFirstNumber, IsWideAt, IsControlTooWide, IsTooWide, NoneWide, CoversBelow, EachCoveredBelow, EachFitsBelow, OneFitsAt}
 use Rattle.sop_lowering.specs.declared.fault.LowerFault.TheVariants as lower
 use Rattle.fitter.proofs.Widths.{cell_low, checked_not_wide, covered_checked}
 
@@ -37,6 +37,18 @@ below_more t mask net c list found before here own = record {
         rw (same, last_at list found c before.count) (own (fits_grown t list found c c before.count (omega arith) fits))
   ];
 }
+
+pub covered_none : (t : Table) (mask : ℕ) (net : Netlist) → EachCoveredBelow t mask net 0 []
+covered_none t mask net d low = absurd (omega (arith, low))
+
+pub covered_more : (t : Table) (mask : ℕ) (net : Netlist) (c : ℕ) (list : List (Option CellCovers)) (found : Option CellCovers) → length list ≡ c → EachCoveredBelow t mask net c list
+    → HasCoversAs t mask net (cell_wanted net c) found → EachCoveredBelow t mask net (c + 1) (list ++ found ∷ [])
+covered_more t mask net c list found count before here d low = elim (cases_lt d c) [
+  | inl less ↦ subst (HasCoversAs t mask net (cell_wanted net d)) (sym (grown_at list found d c count less)) (before d less)
+  | inr more ↦
+      let same : d ≡ c = omega (arith, low, more) in
+      rw (same, last_at list found c count) here
+]
 
 -- what is covered is checked
 pub covered_at : (t : Table) (mask : ℕ) (net : Netlist) (c : ℕ) (result : Result (Option CellCovers) LowerFault) → IsCoveredAt t mask net c result → IsCheckedAt t mask net c result

@@ -32,6 +32,7 @@ pub mod SeenPairs
 pub mod SharedChosen
 pub mod Stepping
 pub mod Stops
+pub mod ToldCells
 mod TurnBits
 pub mod TurnedCovers
 pub mod TurnedPlans

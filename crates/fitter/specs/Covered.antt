@@ -15,6 +15,10 @@ pub record CoversBelow (t : Table) (mask : ℕ) (net : Netlist) (c : ℕ) (list 
   pub each : (d : ℕ) → d < c → HasCheckedAs t mask net (cell_wanted net d) (get_or list d None)
   pub tried : (d : ℕ) → d < c → EachFitsBelow t list d → HasCoversAs t mask net (cell_wanted net d) (get_or list d None)
 
+-- each of the cells below a number has its covers
+abbrev pub EachCoveredBelow : Table → (mask : ℕ) → Netlist → ℕ → List (Option CellCovers) → Type 0
+EachCoveredBelow t mask net c list = (d : ℕ) → d < c → HasCoversAs t mask net (cell_wanted net d) (get_or list d None)
+
 -- those of all cells; TooWide with the first cell that is, by the place of its target
 abbrev pub AreCovered : Table → (mask : ℕ) → Netlist → Result (Vec (Option CellCovers)) FitFault → Type 0
 AreCovered t mask net (Ok list) = CoversBelow t mask net (length t.cells) list.items

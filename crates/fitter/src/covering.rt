@@ -1,9 +1,9 @@
 //! The covers of the assigned cells and of their enables.
 
-ghost use Rattle.std.specs.Prelude.{◌≡◌, ◌⊎◌, ◌<◌, ◌≤◌, Ok, false, length, true};
+ghost use Rattle.std.specs.Prelude.{◌≡◌, ◌⊎◌, ◌<◌, ◌≤◌, IfOk, Ok, false, length, true};
 ghost use Rattle.fitter.specs.Prelude.{IsSoundNetlist, FitsRoom};
 ghost use Rattle.fitter.specs.CellCovered.{IsCheckedAt, IsCoveredAt};
-ghost use Rattle.fitter.specs.Covered.{AreCovered};
+ghost use Rattle.fitter.specs.Covered.{AreCovered, EachCoveredBelow};
 ghost use Rattle.fitter.specs.Planned.{OneFitsAt};
 
 use crate::cell_covering::{CellCovers, check_at, cover_at};
@@ -41,7 +41,8 @@ fn is_over<D: Device>(cell: u8, covers: &Option<CellCovers>) -> bool
 /// Whether a cell is refused for its rows: one before, or else this one where that is asked.
 fn is_refused<D: Device>(before: bool, stops: bool, cell: u8, covers: &Option<CellCovers>) -> bool
     requires { cell < length D.table.cells }
-    ensures { result ≡ true → (before ≡ true) ⊎ (OneFitsAt D.table cell covers.now → ⊥) }
+    ensures over { result ≡ true → (before ≡ true) ⊎ (OneFitsAt D.table cell covers.now → ⊥) }
+    ensures goes_on { before ≡ false → stops ≡ false → result ≡ false }
 {
     if before {
         return true;
@@ -75,7 +76,8 @@ pub(crate) fn cover_cells<D: Device>(
     stops: bool,
 ) -> Result<Vec<Option<CellCovers>>, FitFault>
     requires sound { IsSoundNetlist D.table fit.now.over.net.now }
-    ensures { AreCovered D.table fit.now.over.turned fit.now.over.net.now result }
+    ensures covered { AreCovered D.table fit.now.over.turned fit.now.over.net.now result }
+    ensures all { stops ≡ false → IfOk result (λ list. EachCoveredBelow D.table fit.now.over.turned fit.now.over.net.now (length D.table.cells) list.items) }
 {
     let mut list = Vec::new(space.alloc);
     let mut refused = false;

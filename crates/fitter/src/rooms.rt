@@ -1,9 +1,9 @@
 //! The cells that are over their room, all of them.
 
-ghost use Rattle.std.specs.Prelude.{◌≡◌, ℕ, ◌<◌, ◌≤◌, IfOk, IfSome, length};
-ghost use Rattle.fitter.specs.Prelude.{IsSoundNetlist, FitsRoom};
+ghost use Rattle.std.specs.Prelude.{◌≡◌, ◌<◌, IfOk, IfSome, Some, length, min};
+ghost use Rattle.fitter.specs.Prelude.{IsSoundNetlist};
 ghost use Rattle.std.specs.List.{All};
-ghost use Rattle.fitter.specs.Rooms.{IsOver};
+ghost use Rattle.fitter.specs.Rooms.{AddsTold, AreOverfull, HasSomeCover, IsOver, IsToldBy, fewest_rows};
 
 use crate::cell_covering::CellCovers;
 use crate::covering::cover_cells;
@@ -29,16 +29,14 @@ pub struct Overfull {
 
 /// The lesser of two numbers.
 fn lesser(one: usize, other: usize) -> usize
-    ensures one { result ≤ one }
-    ensures other { result ≤ other }
-    ensures bound { (n : ℕ) → n < one → n < other → n < result }
+    ensures { result ≡ min one other }
 {
     if one < other { one } else { other }
 }
 
 /// How many rows the smaller one of the covers has, if there is one.
 fn fewest(tried: &Tried) -> Option<usize>
-    ensures { IfSome result (λ rows. (room : ℕ) → (FitsRoom room tried.now.direct → ⊥) → (FitsRoom room tried.now.inverted → ⊥) → room < rows) }
+    ensures { result ≡ fewest_rows tried.now.direct tried.now.inverted }
 {
     match (&tried.direct, &tried.inverted) {
         (None, None) => None,
@@ -50,8 +48,10 @@ fn fewest(tried: &Tried) -> Option<usize>
 
 /// Whether the covers of a cell are over its room, and by how much.
 fn overfull_at<D: Device>(cell: u8, covers: CellCovers) -> Option<Overfull>
-    requires { cell < length D.table.cells }
-    ensures { IfSome result IsOver }
+    requires cell { cell < length D.table.cells }
+    requires some { HasSomeCover (Some covers) }
+    ensures over { IfSome result IsOver }
+    ensures told { IsToldBy D.table cell (Some covers) result }
 {
     let found = D::cell(cell);
     match choose(covers.tried, usize::from(found.room)) {
@@ -74,8 +74,10 @@ fn add_overfull<D: Device>(
     covers: Option<CellCovers>,
 ) -> Result<(), OutOfMemory>
     requires cell { cell < length D.table.cells }
+    requires some { HasSomeCover covers }
     requires over { All IsOver list.old.items }
-    ensures { IfOk result (λ _. All IsOver list.new.items) }
+    ensures over { IfOk result (λ _. All IsOver list.new.items) }
+    ensures told { IfOk result (λ _. AddsTold D.table cell covers list.old.items list.new.items) }
 {
     let Some(covers) = covers else {
         return Ok(());
@@ -92,7 +94,8 @@ pub fn cells_over_room<D: Device>(
     net: &Netlist,
 ) -> Result<ListOf<Overfull>, FitFault>
     requires { IsSoundNetlist D.table net.now }
-    ensures { IfOk result (λ list. All IsOver list) }
+    ensures over { IfOk result (λ list. All IsOver list) }
+    ensures told { AreOverfull D.table net.now result }
 {
     let mut space = Workspace::new(alloc)?;
     let fit = SoundFit::<D> {

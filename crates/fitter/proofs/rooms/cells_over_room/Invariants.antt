@@ -1,11 +1,13 @@
--- All covers are there, and each cell that is told is over its room.
-use Rattle.std.proofs.Common.{◌≡◌, length}
+-- The cells so far are told, and the covers of the others are left.
+use Rattle.std.proofs.Common.{◌≡◌, ◌≤◌, ℕ, None, get_or, length}
 use Rattle.fitter.proofs.Common.{All}
-use Rattle.fitter.specs.Rooms.{IsOver}
+use Rattle.fitter.specs.Rooms.{IsOver, TellsBelow}
 use Rattle.fitter.proofs.rooms.cells_over_room.Given as goal
 
 abbrev pub invariant-loop-cell : goal.invariant-loop-cell
 invariant-loop-cell g l = record {
   long : length l.left.items ≡ length g.D.Device.table.cells;
+  left : (d : ℕ) → l.cell ≤ d → get_or l.left.items d None ≡ get_or l.initial.left.items d None;
   over : All IsOver l.list.items;
+  told : TellsBelow g.D.Device.table l.fit.over.turned l.fit.over.net.now l.cell l.list.items;
 }
