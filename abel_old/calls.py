@@ -52,23 +52,23 @@ class Asking:
         return re.sub(r'\?([\w~]+)', lambda found: texts.get(found[1], found[0]), line(self.body))
 
 
-def definitions(text: Text) -> list[Asking]:
+def definitions(text: Text, behind: Token) -> list[Asking]:
     found = []
     for x in text.t:
         if x.kind == 'id' and x.out and text.next(x).word == 'MACRO' \
                 and text.look(x.at + 2).text == '(':
             opened = x.at + 2
             body = text.close(opened) + 1
-            if text.look(body).text == '{':
+            if text.look(body).text == '{' and text.close(body) < behind.at:
                 found.append(Asking(text, x, opened, body))
     return found
 
 
-def put_in(text: Text, macro: Asking, call: Token) -> bool:
+def put_in(text: Text, macro: Asking, call: Token, behind: Token) -> bool:
     """Puts the macro's text in place of a call, unless the call has other arguments."""
     closed = text.close(call.at + 1)
     given = arguments(text.t[call.at + 2:closed])
-    if len(given) != len(macro.parameters):
+    if len(given) != len(macro.parameters) or closed >= behind.at:
         return False
     was = text.t[call.at:closed + 1]
     text.say.change(call, squeeze(was), 'the text of the macro, which asks about its arguments')
@@ -97,11 +97,11 @@ def take_out(text: Text, macro: Asking) -> None:
     text.number()
 
 
-def fix_asking(text: Text) -> None:
+def fix_asking(text: Text, behind: Token) -> None:
     """Of a macro that is called in place everywhere, the definition becomes a comment."""
     done: dict[str, bool] = {}
     for _ in range(ROUNDS):
-        found = definitions(text)
+        found = definitions(text, behind)
         names = [m.name.text for m in found]
         macros = {m.name.text: m for m in found if m.asks and names.count(m.name.text) == 1}
         calls = [x for x in text.t if x.text in macros and x.at > macros[x.text].last.at
@@ -109,9 +109,9 @@ def fix_asking(text: Text) -> None:
         for x in reversed(calls):
             if len(text.t) > TOO_MANY:
                 raise Stop('%d: macro %s is called too often' % (x.line, x.text))
-            done[x.text] = put_in(text, macros[x.text], x) and done.get(x.text, True)
+            done[x.text] = put_in(text, macros[x.text], x, behind) and done.get(x.text, True)
         if not any(done.get(x.text) for x in calls):
             break
-    for macro in reversed(definitions(text)):
+    for macro in reversed(definitions(text, behind)):
         if done.get(macro.name.text):
             take_out(text, macro)

@@ -30,7 +30,7 @@ class Source(Names):
         super().__init__(text, path, report)
         self.elsewhere = elsewhere
         first, behind = one_module(self, module, elsewhere)
-        fix_asking(self)
+        fix_asking(self, behind)
         fix_reserved_names(self)
         self.walk = Walk(self)
         self.macros = self.walk.macros
