@@ -68,14 +68,20 @@ class Registers:
                 self.noded |= set(names)
 
     def needs_nodes(self, uses: list[Assignment]) -> bool:
-        """K, R and T may be given once and under no condition, J and S so without a partner."""
+        """K, R and T may be given once and under no condition, J and S so without a partner.
+
+        An equation of the complement may be given once, and under no condition.
+        """
         extensions = [a.extension for a in uses]
+        negative = [a.extension for a in uses if a.target[0].text == '!']
         for a in uses:
             within = a.under or a.where != 'equations'
             alone = a.extension in PARTNERS and PARTNERS[a.extension] not in extensions
             if a.extension in ('.T', '.K', '.R') and (within or extensions.count(a.extension) > 1):
                 return True
-            if alone and within or '?' in a.sign.text:
+            if alone and within or '?' in a.sign.text or negative.count(a.extension) > 1:
+                return True
+            if within and a.target[0].text == '!':
                 return True
         return False
 
