@@ -42,11 +42,11 @@ class Text:
         opener = self.look(i).text
         closer = {'(': ')', '[': ']', '{': '}'}.get(opener)
         depth = 0
-        for x in self.t[i:] if closer else []:
-            if x.kind == 'op':
-                depth += (x.text == opener) - (x.text == closer)
+        for k in range(i, len(self.t) if closer else i):
+            if self.t[k].kind == 'op':
+                depth += (self.t[k].text == opener) - (self.t[k].text == closer)
                 if depth == 0:
-                    return x.at
+                    return k
         raise Stop('%d: a %s without its end' % (self.look(i).line, opener or 'block'))
 
     def open_before(self, closer: Token) -> int:
