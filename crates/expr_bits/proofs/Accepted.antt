@@ -1,4 +1,4 @@
--- What an accepted expression comes to: what is X in it has the bit 0.
+-- What an accepted expression amounts to: what is X in it has the bit 0.
 use Rattle.std.proofs.Common.{◌≡◌, ℕ, zero, suc, Bool, true, false, List, [], ◌∷◌, ◌++◌, length, replicate, refl, sym, ap, ◌∙◌, arith, length-append, ◌<◌, ◌≤◌, Option, None, Some, Ok, subst}
 use Rattle.expr_bits.proofs.Common.{length-map, length-replicate, Formula, formula_value, Binary, Word, Context, bits_of, bits_of_all, met_by, resized, Shape, Single, Set, Value, width_of, member_width, meeting, met_unknown_by, Term, Terms, constant_of, set_value, empty_point, is_relation, binary_by, IsBlank, Node, arena, Names, entries_of, Tree, known_of, term_of, MakesBits, IsMade, IsShaped, refusal_of, SectionFault, Shaped, expression_found, Bits, Form, IsPart, HasForm, IsBits, term_part}
 use Rattle.abel_meaning.specs.Terms as term

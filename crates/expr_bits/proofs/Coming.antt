@@ -1,4 +1,5 @@
--- Steps come to what their terms come to, and work to terms: one more member, and work to be done first.
+-- Steps amount to what their terms amount to, and work to terms: one more member, and work to be done
+-- first.
 use Rattle.std.proofs.Common.{◌≡◌, Option, None, Some, List, ◌∷◌, refl, arith, ℕ, false, Bool, [], ◌++◌, if◌then◌else◌, Result, IfOk, bytes_eq, codes, sym, ap, ap₂, ◌∙◌, subst}
 use Rattle.expr_bits.proofs.Common.{Binary, Extension, Unary, Context, Term, Terms, extended, extended_each, extended_if, Part, Task, Push, Do, after_task, after_all, IfOk-weaker, Vec, Made, ◌>>=◌, Entry, Known, named_before, special_term, term_named, Work, ComesTo, Precedes, task_of, tasks_of, term_part, pushed, OutOfMemory}
 use Rattle.abel_meaning.specs.Terms as term
@@ -51,7 +52,7 @@ names_last ks (x ∷ names) n ts = ap (term.Before (term_named ks x)) (names_las
 
 -- ---- work to be done first
 
--- work that comes to a term and what was to be done before
+-- work that amounts to a term and what was to be done before
 abbrev pub ComesFirst : List Entry → (new old : List Work) → Term → Type 0
 ComesFirst es new old t = (d : Context) (ps : List Part) → after_all d (tasks_of es new) ps ≡ after_all d (Push t ∷ tasks_of es old) ps
 

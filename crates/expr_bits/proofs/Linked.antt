@@ -147,7 +147,7 @@ linked_if d (Some e) f t l = record { valued = l.valued; linked = linked_extende
 
 -- ---- names
 
--- what is found of a name, where it may be used, and its term
+-- what is found of a name, if it may be used, and its term
 abbrev IsFoundTerm : Context → NameFound → Term → Type 0
 IsFoundTerm d n t = n.is_pulse ≡ false → IsLinked d n.found t
 

@@ -1,4 +1,4 @@
--- What is found of an expression and what its term comes to: the same shape, and X only where nothing is made of it.
+-- What is found of an expression and what its term amounts to: the same shape, and X only if nothing is made of it.
 use Rattle.std.proofs.Common.{◌≡◌, ℕ, zero, suc, ◌+◌, Bool, true, false, None, Some, List, [], ◌∷◌, ◌++◌, replicate, refl, sym, ap, ap₂, ◌∙◌, subst}
 use Rattle.expr_bits.proofs.Common.{Binary, Extension, Unary, Context, Shape, Number, Single, Set, Value, width_of, member_width, meeting, met_unknown_by, Term, Terms, extended, extended_each, constant_of, set_value, empty_point, is_relation, binary_by, binary_value, unary_value}
 use Rattle.abel_meaning.specs.Terms as term

@@ -1,14 +1,14 @@
--- What a name stands for among the first names, by its place.
+-- What a name represents among the first names, by its place.
 use Rattle.std.proofs.Common.{◌≡◌, ℕ, zero, suc, ◌+◌, ◌<◌, ◌≤◌, Bool, true, false, Option, None, Some, List, [], ◌∷◌, ◌++◌, if◌then◌else◌, length, map, take, get_or, slice_get, option_map, cond, not, bytes_eq, ltb, min, refl, sym, ap, ◌∙◌, subst, arith}
 use Rattle.expr_bits.proofs.Common.{position_or_len, ltb-false, ltb-true, length-map, slice_get-get_or, slice_get-map, take-length, Names, Entry, entries_of, find, view_declared, Term, Known, term_named, term_meant, known_after, known_of, here_term, Declared}
 use Rattle.abel_meaning.specs.Terms.{Number}
 
--- what a name stands for among the first n of these entries, behind those that are known
+-- what a name represents among the first n of these entries, after those that are known
 abbrev among : (known : List Known) (s n : ℕ) → List Entry → List ℕ → Term
 among ks s (suc n) (e ∷ es) w = if bytes_eq w e.name then term_meant ks s e.kind else among (ks ++ record { name = e.name; term = term_meant ks s e.kind } ∷ []) (suc s) n es w
 among ks s _ _ w = Number 0
 
--- what a name stands for, and this where it is unknown
+-- what a name represents, and this if it is unknown
 abbrev named_or : List Known → List ℕ → Term → Term
 named_or [] w t = t
 named_or (k ∷ ks) w t = if bytes_eq w k.name then k.term else named_or ks w t
@@ -32,11 +32,11 @@ named_among n es w = or_number (known_of (take n es)) w ∙ after_among [] 0 n e
 
 -- ---- by place
 
--- where a name stands, past all of them where it is not declared
+-- the place of a name, past all of them if it is not declared
 abbrev place : List Entry → List ℕ → ℕ
 place es w = position_or_len (λ (e : Entry). bytes_eq w e.name) es
 
--- a name that is found stands at its place, and any other past all of them
+-- a name that is found is at its place, and any other past all of them
 abbrev IsPlace : List Entry → List ℕ → Option ℕ → Type 0
 IsPlace es w None = length es ≤ place es w
 IsPlace es w (Some k) = (place es w ≡ k) × (k < length es)
@@ -48,7 +48,7 @@ found_as es w o e = subst (IsPlace es w) e (by (ltb (place es w) (length es)) re
     by true h = (refl, ltb-true (place es w) (length es) h)
     by false h = ltb-false (place es w) (length es) h
 
--- a name that does not stand among the first n
+-- a name that is not among the first n
 outside : (ks : List Known) (s n : ℕ) (es : List Entry) (w : List ℕ) → min n (length es) ≤ place es w → among ks s n es w ≡ Number 0
 outside ks s (suc n) (e ∷ es) w h = by (bytes_eq w e.name) h (outside more (suc s) n es w)
   where
@@ -60,7 +60,7 @@ outside ks s (suc n) (e ∷ es) w h = by (bytes_eq w e.name) h (outside more (su
     by false h others = others (omega (arith, h))
 outside ks s _ _ w h = refl
 
--- what a declared name stands for over those that are known, a number where there is none
+-- what a declared name represents over those that are known, a number if there isn't one
 abbrev meant_at : List Known → ℕ → Option Entry → Term
 meant_at ks k None = Number 0
 meant_at ks k (Some e) = term_meant ks k e.kind
@@ -84,7 +84,7 @@ placed ks s (suc n) (x ∷ es) w h = by (bytes_eq w x.name) h (placed more (suc 
         let here : suc s + place es w ≡ s + suc (place es w) = omega arith in
         others (omega (arith, h)) ∙ ap (λ j. meant_at (known_after more (suc s) (take (place es w) es)) j (slice_get es (place es w))) here ∙ ap at next
 
--- ---- what a name stands for: nothing past the first n, else what it is declared as over the names before it
+-- ---- what a name represents: nothing past the first n, else what it is declared as over the names before it
 
 pub named_none : (n : ℕ) (es : List Entry) (w : List ℕ) → find es w ≡ None → term_named (known_of (take n es)) w ≡ Number 0
 named_none n es w e = named_among n es w ∙ outside [] 0 n es w (omega (arith, found_as es w None e))

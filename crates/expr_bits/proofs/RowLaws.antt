@@ -85,7 +85,7 @@ zero_of : (s : Source) → is_leaf s ≡ false → s ≡ Zero
 zero_of Zero h = refl
 zero_of (LeafRead c l) h = absurd cc
 
--- ---- it comes to the same
+-- ---- it amounts to the same
 
 read_alike : (d : Context) (s : ℕ) (e f : Option Extension) → is_leaf (source_of d s e) ≡ false → is_leaf (source_of d s f) ≡ false → term_part d (term.Read s e) ≡ term_part d (term.Read s f)
 read_alike d s e f h k =

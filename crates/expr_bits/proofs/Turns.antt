@@ -1,4 +1,5 @@
--- A stack of values while the arena grows, and the walk over it turn by turn: what was built, and what is left comes to the whole.
+-- A stack of values while the arena grows, and the walk over it turn by turn: what was built, and what is left amounts to
+-- the whole.
 use Rattle.std.proofs.Common.{◌≡◌, ℕ, ◌-◌, List, [], ◌∷◌, ◌++◌, length, reverse, refl, sym, ap, ◌∙◌, subst, take, append-nil, arith, ◌+◌, map, Ok, Err}
 use Rattle.expr_bits.proofs.Common.{reverse-append, Vec, Node, arena, Grew, Made, Formula, Context, Set, Term, IsMade, Bits, Form, Part, IsPart, no_part, HasForm, AreParts, AreStacked, ShowsStack, as_set, pushed, set_by, term_part, IsKept, ExprFault, Entry, Makes, Work, task_of, tasks_of, Task, Push, Do, made_by, top, after_task, after_all}
 use Rattle.expr_bits.proofs.Making.{in_kept, word_kept, Going, going_start, going_on, going_stop, going_done, stopped}
@@ -80,7 +81,7 @@ walking_start d old vs x e =
     going_start ShowsStack old vs (after_all d (x ∷ [])) (after_task d x []) []
     (subst (λ bs. AreStacked (arena old) bs []) (sym e) tt) refl (omega arith)
 
--- what is left as other tasks that come to the same
+-- what is left as other tasks that amount to the same
 pub walking_as : (d : Context) (old now : List Node) (vs : Vec Bits) (ts us : List Task) (x : Task) → ((ps : List Part) → after_all d us ps ≡ after_all d ts ps) → Walking d old now vs ts x → Walking d old now vs us x
 walking_as d old now vs ts us x same g =
     let here = sym (same g.part.what) in

@@ -46,7 +46,7 @@ module _ {A B C R S T : Type 0} (ShowsA : List Formula → R → A → Type 0) (
         let c = made_at old xs ys i g.part.what in
         going_on ShowsA ShowsB ShowsA old now new r s new_r (rest old xs ys i) all c (rest old xs ys (i + 1)) (put g.part.what c.what) g m (shows c m) (ap (λ p. p.what) step) (ap (λ p. p.nodes) step)
 
-    -- and where it is refused
+    -- and if it is refused
     pub fold_stops : (e : ExprFault) → Makes ShowsB now new (Err e) (one last (formula_at (arena now) (get_or xs i (record { 0 = 0 }))) (formula_at (arena now) (get_or ys i (record { 0 = 0 }))) g.part.what) → Makes ShowsC old new (Err e) all
     fold_stops e made =
         let n = ap (λ p. p.nodes) step in

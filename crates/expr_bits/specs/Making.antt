@@ -7,11 +7,11 @@ use Rattle.bit_expr.specs.declared.fault.ExprFault.TheVariants as fault
 abbrev pub IsPast : List Formula → ℕ → Type 0
 IsPast old nodes = PassesLimit MOST (length old) nodes
 
--- an id stands for a formula
+-- an id represents a formula
 abbrev pub ShowsOne : List Formula → ExprId → Formula → Type 0
 ShowsOne fs id f = (id.0 < length fs) × (formula_at fs id ≡ f)
 
--- two ids stand for two formulas
+-- two ids represent two formulas
 abbrev pub ShowsTwo : List Formula → ExprId × ExprId → Formula × Formula → Type 0
 ShowsTwo fs ids p = ShowsOne fs ids.0 p.0 × ShowsOne fs ids.1 p.1
 
@@ -36,7 +36,7 @@ pub record IsMade {A R : Type 0} (Shows : List Formula → R → A → Type 0) (
   pub grew : Grew old new m.nodes
   pub within : IsPast old m.nodes → ⊥
 
--- what making leaves: NodeLimit comes just where the nodes pass the limit
+-- what making leaves: NodeLimit is answered just if the nodes pass the limit
 abbrev pub Makes : {A R : Type 0} → (List Formula → R → A → Type 0) → (old new : List Node) → Result R ExprFault → Made A → Type 0
 Makes Shows old new (Ok r) m = IsMade Shows (arena old) (arena new) r m
 Makes Shows old new (Err fault.NodeLimit) m = Keeps (arena old) (arena new) × IsPast (arena old) m.nodes

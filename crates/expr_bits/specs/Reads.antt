@@ -8,7 +8,7 @@ use Rattle.abel_meaning.specs.Terms as term
 use Rattle.name_uses.specs.NamesUsed.{UsedName}
 use Rattle.expr_bits.specs.declared.reads.Reads.{Reads}
 
--- some read passes, by its signal and its extension, or that under which it stands
+-- some read passes, by its signal and its extension, or that under which it is
 abbrev mutual
   pub some_read : (passes : ℕ → Option Extension → Bool) → Option Extension → Term → Bool
   some_read passes e (term.Number n) = false

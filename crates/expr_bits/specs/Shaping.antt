@@ -12,7 +12,7 @@ shape_of (form.Number n) k = shape.Number n
 shape_of form.Single k = shape.Single
 shape_of form.Set k = shape.Set k
 
--- a position, none where it is X
+-- a position, none if it is X
 abbrev pub place_of : ExprId → (unknown : Bool) → Option ExprId
 place_of id true = None
 place_of id false = Some id

@@ -26,7 +26,7 @@ pub record Standing (fs : List Formula) (bs : List Bits) : Type 0 where
   pub parts : List Part
   pub are : AreStacked fs bs parts
 
--- what the name of a number stands for over those before it, a number where there is none
+-- what the name of a number represents over those before it, a number if there isn't one
 abbrev pub here_term : List Entry → ℕ → Option Entry → Term
 here_term es k None = term.Number 0
 here_term es k (Some x) = term_meant (known_of (take k es)) k x.kind
@@ -47,7 +47,7 @@ task_of es (work.Do s) = Do s
 abbrev pub tasks_of : List Entry → List Work → List Task
 tasks_of es ws = map (task_of es) (reverse ws)
 
--- ---- work that comes to a term
+-- ---- work that amounts to a term
 
 abbrev pub ComesTo : List Entry → Work → Term → Type 0
 ComesTo es w t = (d : Context) (ps : List Part) → after_task d (task_of es w) ps ≡ after_task d (Push t) ps

@@ -6,11 +6,11 @@ use Rattle.expr_bits.specs.Parts.{Part, with_value, number_part, under_part, bot
 use Rattle.expr_bits.specs.declared.work.Step.{Step}
 use Rattle.expr_bits.specs.declared.work.Step.TheVariants as step
 
--- what a term comes to
+-- what a term amounts to
 abbrev pub term_part : Context → Term → Made Part
 term_part d t = with_value (constant_of d t) (bits_of d t)
 
--- the value on top, the number 0 where there is none, and those below it
+-- the value on top, the number 0 if there isn't one, and those below it
 abbrev pub top : List Part → Part
 top [] = number_part 0
 top (p ∷ ps) = p
@@ -23,7 +23,7 @@ below (p ∷ ps) = ps
 abbrev pub pushed : Made Part → List Part → Made (List Part)
 pushed m ps = record { what = m.what ∷ ps; nodes = m.nodes }
 
--- a part as the set that it is; what is none as a set without members
+-- a part as the set that it is; what isn't one as a set without members
 abbrev pub set_by : Shape → Part → Part
 set_by Number p = no_part
 set_by Single p = no_part

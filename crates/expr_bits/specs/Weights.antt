@@ -51,7 +51,7 @@ text_weight es number text = 1 + found_weight number (find es text)
 abbrev pub declared_weight : List Entry → (number : ℕ → ℕ) → ℕ → ℕ
 declared_weight es number k = 1 + entry_weight (text_weight es number) (slice_get es k)
 
--- the name with this number where it is among the first, 0 where it isn't
+-- the name with this number if it is among the first, 0 if it isn't
 abbrev pub number_weight : List Entry → (count : ℕ) → ℕ → ℕ
 number_weight es zero k = 0
 number_weight es (suc n) k = if k == n then declared_weight es (λ j. number_weight es n j) n else number_weight es n k

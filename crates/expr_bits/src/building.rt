@@ -16,7 +16,7 @@ use pld_device::Device;
 use set_expr::Scope;
 use std::alloc::Global;
 
-/// Takes the value on top; the number 0 where there is none.
+/// Takes the value on top; the number 0 if there isn't one.
 pub(crate) fn taken(alloc: Global, values: &mut Vec<Bits>) -> Bits
     ensures top { (fs : List Formula) (ps : List Part) → AreStacked fs values.old.items ps → IsPart fs result (top ps) }
     ensures below { (fs : List Formula) (ps : List Part) → AreStacked fs values.old.items ps → AreStacked fs values.new.items (below ps) }
@@ -40,7 +40,7 @@ pub(crate) fn copied(alloc: Global, bits: &Bits) -> Result<Bits, OutOfMemory>
     })
 }
 
-/// Takes the set on top; one without members where there is none.
+/// Takes the set on top; one without members if there isn't one.
 fn taken_set(alloc: Global, values: &mut Vec<Bits>) -> Bits
     ensures form { result.form ≡ form.Set }
     ensures top { (fs : List Formula) (ps : List Part) → AreStacked fs values.old.items ps → IsPart fs result (as_set (top ps)) }

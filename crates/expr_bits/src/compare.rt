@@ -50,7 +50,7 @@ fn equal_word(
     found_along(exprs, Relation::Equal, xs.as_slice(), ys.as_slice())
 }
 
-/// How two words of one width compare, as one bit; 0 where the sign is no relation's.
+/// How two words of one width compare, as one bit; 0 if the sign is no relation's.
 pub fn relation_word(
     alloc: Global,
     exprs: &mut Exprs,

@@ -81,8 +81,8 @@ impl<'a, D: Device> DeviceScope<'a, D> {
         Ok(reads.signal)
     }
 
-    /// The bits of an expression of which nothing is refused, so that only `NodeLimit` or want of memory can come. Each read
-    /// of a signal and each operator makes its nodes anew, also of equal operands.
+    /// The bits of an expression of which nothing is refused, so that only `NodeLimit` or lack of memory can occur. Each
+    /// read of a signal and each operator makes its nodes anew, also of equal operands.
     pub fn bits(&self, alloc: Global, expr: &Expr, exprs: &mut Exprs) -> Result<Shaped, ExprFault>
         requires accepted { refusal_of self.now (view expr.now) ≡ None }
         ensures { MakesBits (context_for D.table self.now) (view expr.now) exprs.old exprs.new result }

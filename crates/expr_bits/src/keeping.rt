@@ -46,8 +46,8 @@ fn is_refused(scope: &Scope<'_>, name: &[u8]) -> bool {
     }
 }
 
-/// The row of a constant. Where its own extensions read no leaf, it is built with its other signals as `.CLK`, under which
-/// they read none. It is kept where it made no node, and has the same bits under each extension with which it makes none.
+/// The row of a constant. If its own extensions read no leaf, it is built with its other signals as `.CLK`, under which
+/// they read none. It is kept if it made no node, and has the same bits under each extension with which it makes none.
 fn constant_row<D: Device>(
     alloc: Global,
     scope: &Scope<'_>,
@@ -104,7 +104,7 @@ fn row_of<D: Device>(
     }
 }
 
-/// The rows of all names. Each constant is gone through once, and built once where it is kept.
+/// The rows of all names. Each constant is gone through once, and built once if it is kept.
 pub(crate) fn rows_of<D: Device>(alloc: Global, scope: &Scope<'_>) -> Result<Vec<Row>, OutOfMemory>
     ensures rows { IfOk result (λ rs. AreRows (entries_of scope.now) (context_for D.table scope.now) 0 rs.items) }
     ensures all { IfOk result (λ rs. length rs.items ≡ length (entries_of scope.now)) }

@@ -13,7 +13,7 @@ use pld_device::Device;
 use set_expr::Scope;
 use std::alloc::Global;
 
-/// The bit of what is read: a leaf, with a Not where it reads the complement; 0 makes nothing.
+/// The bit of what is read: a leaf, with a Not if it reads the complement; 0 makes nothing.
 fn source_bit(exprs: &mut Exprs, reading: Option<Reading>) -> Result<ExprId, ExprFault>
     requires { HasLeaf reading }
     ensures { Makes ShowsOne exprs.old exprs.new result (make_source (view_reading reading)) }
@@ -31,7 +31,7 @@ fn source_bit(exprs: &mut Exprs, reading: Option<Reading>) -> Result<ExprId, Exp
     }
 }
 
-/// What the name of a number reads; 0 where there is no such name.
+/// What the name of a number reads; 0 if there is no such name.
 pub(crate) fn signal_source<D: Device>(
     scope: &Scope<'_>,
     signal: u32,
@@ -47,7 +47,7 @@ pub(crate) fn signal_source<D: Device>(
     }
 }
 
-/// The bit that a signal of this number reads under its extension: the source's leaf, with a Not where it reads the complement.
+/// The bit that a signal of this number reads under its extension: the source's leaf, with a Not if it reads the complement.
 /// A number that no name has reads 0, and so does a signal without a source.
 pub fn read_signal<D: Device>(
     scope: &Scope<'_>,

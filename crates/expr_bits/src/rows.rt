@@ -13,7 +13,7 @@ use pld_base::OutOfMemory;
 use set_expr::Scope;
 use std::alloc::Global;
 
-/// What a name reads; the bits of a constant, under each extension with which it reads no leaf, where they are kept.
+/// What a name reads; the bits of a constant, under each extension with which it reads no leaf, if they are kept.
 #[derive(Drop)]
 pub(crate) struct Row {
     pub reads: Reads,

@@ -1,4 +1,4 @@
-//! What an expression comes to, from its bits.
+//! What an expression amounts to, from its bits.
 
 ghost use Rattle.std.specs.Prelude.{◌≡◌, ◌<◌, List, length, IfOk};
 ghost use Rattle.expr_bits.specs.Prelude.{Formula, Word, Value, IsShaped};
@@ -22,7 +22,7 @@ fn shape_of(bits: &Bits) -> Shape
     }
 }
 
-/// A position, None where it is X.
+/// A position, None if it is X.
 fn place_of(bit: ExprId, unknown: bool) -> Option<ExprId>
     ensures { result ≡ place_of bit unknown }
 {
@@ -45,7 +45,7 @@ fn shown_ids(
     Ok(places)
 }
 
-/// The shape and the positions of bits, of which there are few, and which are 0 where they are X.
+/// The shape and the positions of bits, of which there are few, and which are 0 if they are X.
 pub(crate) fn shaped(alloc: Global, bits: &Bits) -> Result<Shaped, OutOfMemory>
     requires few { length bits.now.word < 256 }
     requires positions { length bits.now.unknown ≡ length bits.now.word }

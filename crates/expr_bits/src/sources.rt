@@ -85,7 +85,7 @@ fn on_pin<D: Device>(
     }
 }
 
-/// What a declared name reads, bare or with an extension; nothing where it is 0. Takes no memory.
+/// What a declared name reads, bare or with an extension; nothing if it is 0. Takes no memory.
 pub(crate) fn source_of<D: Device>(
     declared: &Declared,
     extension: Option<Extension>,

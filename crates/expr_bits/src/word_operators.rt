@@ -10,7 +10,7 @@ use abel_tree::{Binary, Unary};
 use bit_expr::{ExprFault, ExprId, Exprs};
 use std::alloc::Global;
 
-/// The ids of the constants, which stand in every arena.
+/// The ids of the constants, which are in every arena.
 pub(crate) const ZERO: ExprId = ExprId(0);
 
 pub(crate) const ONE: ExprId = ExprId(1);

@@ -9,7 +9,7 @@ use Rattle.fitter.proofs.SeenPairs.{seen_carries, seen_long, seen_pairs}
 use Rattle.fitter.proofs.WantedIds.{found_id, preset_id, reset_id, sound_id_at, wanted_is, zero_is}
 use Rattle.fitter.proofs.FirstNames.{none_first, own_is}
 
--- what a map gave came from something
+-- what a map gave resulted from something
 pub record CameFrom {X Y : Type 0} (f : X → Y) (o : Option X) (y : Y) : Type 0 where
   pub from : X
   pub is : o ≡ Some from
@@ -31,7 +31,7 @@ pub own_id : (t : Table) (net : Netlist) → IsSoundNetlist t net → (which : S
 own_id t net sound Reset c w control is own = reset_id t net sound c w control (sound_id_at t net sound c w is) own
 own_id t net sound Preset c w control is own = preset_id t net sound c w control (sound_id_at t net sound c w is) own
 
--- a cell of the list is found by its number, since each stands once
+-- a cell of the list is found by its number, since each is once
 found_at : (ws : List CellWanted) → ((i j : ℕ) (d : CellWanted) → i < j → j < length ws → (get_or ws i d).cell ≢ (get_or ws j d).cell) → (i : ℕ) (d : CellWanted) → i < length ws
     → find (λ (w : CellWanted). w.cell == (get_or ws i d).cell) ws ≡ Some (get_or ws i d)
 found_at [] apart i d within = absurd (omega arith)
@@ -119,7 +119,7 @@ module _ (t : Table) (laws : IsDevice t) (net : Netlist) (sound : IsSoundNetlist
             none_has off = let both : true ≡ false = sym is_first.has ∙ off in absurd cc
         by_own (Some control) is = ap (formula_at (arena net.exprs)) (is_first.own control is)
 
-    -- the function of a cell, and where it comes from
+    -- the function of a cell, and its origin
     pub record IsOwnAt (c : ℕ) (w : Wanted) (f : Formula) : Type 0 where
       pub cell : CellWanted
       pub wanted : cell_wanted net c ≡ Some cell
@@ -207,7 +207,7 @@ module _ (t : Table) (laws : IsDevice t) (net : Netlist) (sound : IsSoundNetlist
         before = below;
       }
 
--- where no cell has such an equation, the shared function is 0
+-- if no cell has such an equation, the shared function is 0
 pub none_shared : (t : Table) (net : Netlist) (which : SharedControl) → IsFirstWith net which None → IsSoundId t net (record { 0 = 0 })
     → formula_at (arena net.exprs) (record { 0 = 0 }) ≡ Const false → (bit_list net (record { 0 = 0 }) true ≡ None → ⊥) → IsSharedBit t net which (record { 0 = 0 })
 none_shared t net which none id zero_formula listed = record {

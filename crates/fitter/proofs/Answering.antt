@@ -133,7 +133,7 @@ module _ (t : Table) (laws : IsDevice t) (net : Netlist) (sound : IsSoundNetlist
           let fit = of.fit in
           omega (arith, fit, ap length of.rows_are, length_permutation (all_turned is.choice r.plan.rows) y.rows new.same, length-map r.plan.rows (turned is.choice))
 
-      -- an assigned cell is inverted only where its direct form doesn't fit
+      -- an assigned cell is inverted only if its direct form doesn't fit
       direct_over : (c : ℕ) (wanted : Option CellWanted) (w : CellWanted) (found : Option CellCovers) (r : CellRows) → wanted ≡ Some w → HasCoversAs t mask net wanted found → AreRowsOf t c found r
           → r.form.inverted ≡ true → IsDirectOver t net c w
       direct_over c None w found r e has of on = absurd cc

@@ -7,7 +7,7 @@ sum_none : (a : Products) → sum_of a (Some []) ≡ a
 sum_none None = refl
 sum_none (Some rows) = refl
 
--- where a control is allowed it is needed
+-- if a control is allowed it is needed
 pub control_allowed : (net : Netlist) (bit : ExprId) → allowed_of net (control_function bit) true ≡ bit_list net bit true
 control_allowed net bit =
     ap (λ f. written net (Or (formula_at (arena net.exprs) bit) f) true) (zero_is net) ∙ sum_none (bit_list net bit true)

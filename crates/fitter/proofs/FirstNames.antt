@@ -13,7 +13,7 @@ some_is fs which w = ap is_some (own_is fs which w) ∙ mapped (own_control whic
     mapped None = refl
     mapped (Some c) = refl
 
--- the best so far, or one of the rest that comes before it
+-- the best so far, or one of the rest that precedes it
 abbrev pub merged : Option Wanted → Option Wanted → Option Wanted
 merged None rest = rest
 merged (Some best) rest = Some (earlier_name best rest)

@@ -13,7 +13,7 @@ found_at test xs i d within before here =
     let place = position_or_len_is test xs i d (omega arith) before (λ less. here) in
     rw (place, lt-ltb i (length xs) within) refl
 
--- an entry that isn't what stands past the end is there
+-- an entry that isn't what is past the end is there
 pub other_default : (xs : List ℕ) (k d e v : ℕ) → get_or xs k d ≡ v → v ≢ d → get_or xs k e ≡ v
 other_default xs k d e v is apart =
     elim (cases_lt k (length xs)) [

@@ -59,7 +59,7 @@ after_flips Always is = absurd cc
 after_flips AfterRegister is = λ e. absurd cc
 after_flips BeforeRegister is = absurd cc
 
--- a device that leaves a register free complements behind it
+-- a device that leaves a register free complements after it
 free_behind : (t : Table) (net : Netlist) → IsSoundNetlist t net → (c : ℕ) → is_free_wanted (wanted_at (plain_netlist net) c) ≡ true → t.flip ≡ AfterRegister
 free_behind t net sound c free = by (wanted_at (plain_netlist net) c) refl free
   where
@@ -110,7 +110,7 @@ module _ (t : Table) (laws : IsDevice t) (net : Netlist) (sound : IsSoundNetlist
   low_z : (c : ℕ) → z c ≡ true → c < 32
   low_z c on = let few = laws.sizes.few_cells in omega (arith, (may_z c on).0, few)
 
-  -- a cell stores where the netlist has a register
+  -- a cell stores if the netlist has a register
   kind_as : (c : ℕ) → c < length t.cells → (found : Option CellWanted) → cell_wanted net c ≡ found → (x : CellPlan) → PlansAs t mask net c found x (form_at forms c)
       → stores t fuses c ≡ registers_as (cell_at t c).kinds (option_map (plain_wanted (arena net.exprs)) found)
   kind_as c within None is x planned_as =
@@ -153,7 +153,7 @@ module _ (t : Table) (laws : IsDevice t) (net : Netlist) (sound : IsSoundNetlist
     ids : IsSoundIdCell t net sound c w
     ids = sound_id_at t net sound c w is
 
-    -- it is chosen to store the complement where it is free and inverted
+    -- it is chosen to store the complement if it is free and inverted
     z_is : z w.cell ≡ (w.free && (form_at forms c).inverted)
     z_is = ap z (found_id (λ (v : CellWanted). Unit {0}) net.cells c w (λ k v low. tt) is).cell ∙ ap (λ found. is_free_cell found && (form_at forms c).inverted) is
 

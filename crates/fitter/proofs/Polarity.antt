@@ -1,4 +1,4 @@
--- Where the OR of a cell's rows is needed and where it is allowed, by its function's `one` and `any`.
+-- If the OR of a cell's rows is needed and if it is allowed, by its function's `one` and `any`.
 use Rattle.std.proofs.Common.{◌≡◌, Bool, true, false, not, ◌&&◌, ◌||◌, refl, ap, sym, ◌∙◌, inl, inr}
 use Rattle.fitter.proofs.Common.{cases_Bool, same_level, complement_if, allows, allows_plain, Wanted, as_named}
 use Rattle.abel_meaning.specs.Functions.{Function}
@@ -18,7 +18,7 @@ named_complement w a v =
           ∙ twice_complement w.negated (complement_if (w.registered && not w.buffer) a) v)
     ]
 
--- a value that the OR may have, where it is the complement of a level or a next Q
+-- a value that the OR may have, if it is the complement of a level or a next Q
 pub or_may : (w : Wanted) (f : Function Bool) (complements v : Bool)
     → allows f (as_named w (complement_if complements v)) ≡ allows_plain f.one f.any (complement_if (complement_if f.complement (as_named w complements)) v)
 or_may w f complements v =

@@ -3,7 +3,7 @@ use Rattle.std.proofs.Common.{◌≡◌, ℕ, ◌<◌, Bool, true, Option, None,
 use Rattle.fitter.proofs.Common.{option_map, Levels, exchanged_at, point_exchanged, IsDevice, Table, Formula, formula_value, PlainNetlist, Wanted, shared_function, wanted_at, MayExchangeIn, formula_exchanged, netlist_exchanged, wanted_exchanged, shared_exchanged, wanted_at_exchanged, value_exchanged, exchanged_means_so, IsValuedFor, AreShared}
 
 module _ (t : Table) (laws : IsDevice t) (net : PlainNetlist) (x : ℕ → Bool) (may : MayExchangeIn t net x) where
-  -- a point whose nodes are valued under the choice has them valued for the netlist where it sees it
+  -- a point whose nodes are valued under the choice has them valued for the netlist if it sees it
   pub valued_seen : (at : Levels) → IsValuedFor t (netlist_exchanged x net) at → IsValuedFor t net (exchanged_at x at)
   valued_seen at is =
       let means = exchanged_means_so t net x laws may in

@@ -3,7 +3,7 @@ use Rattle.std.proofs.Common.{◌≡◌, ℕ, ◌+◌, ◌<◌, ◌≤◌, Bool,
 use Rattle.fitter.proofs.Common.{cases_lt, get_or_append_left, length-append, get_or-append_seam, bits, is_on, Levels, is_on-zero, length-bits, complement_if, Function, Netlist, arena, Const, formula_value, arena_count, function_of_node, node_formula, HasValues}
 use Rattle.bit_expr.specs.declared.node.Node.{Node}
 
--- what stands for a function past the last one
+-- what represents a function past the last one
 abbrev pub no_function : Function
 no_function = record { one = record { 0 = 0 }; any = record { 0 = 0 }; complement = false }
 

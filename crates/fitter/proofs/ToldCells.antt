@@ -1,4 +1,4 @@
--- What is told of the cells in turn that are over their room.
+-- What is reported of the cells in turn that are over their room.
 use Rattle.std.proofs.Common.{◌≡◌, ℕ, ◌+◌, ◌<◌, min, List, [], ◌∷◌, ◌++◌, length, get_or, Option, Some, None, Err, filter_map, refl, sym, ap, ◌∙◌, subst, arith, inl, inr}
 use Rattle.std.proofs.lemmas.List.Elements.{filter_map-append}
 use Rattle.fitter.proofs.Common.{Vec, option_to_list, cases_lt, get_or_append_left, length-append, get_or-append_seam, Table, CellWanted, Netlist, Cube, FitsRoom, cell_wanted, CellCovers, HasCoversAs, FitFault, AreCovered}
@@ -14,7 +14,7 @@ some_same a b e = cc
 none_some : (n : ℕ) → None ≡ Some n → ⊥
 none_some n e = absurd cc
 
--- where neither cover fits the room, the smaller one is over it
+-- if neither cover fits the room, the smaller one is over it
 pub fewest_over : (room : ℕ) (direct inverted : Option (Vec Cube)) (rows : ℕ) → fewest_rows direct inverted ≡ Some rows → (FitsRoom room direct → ⊥) → (FitsRoom room inverted → ⊥) → room < rows
 fewest_over room None None rows is direct inverted = absurd (none_some rows is)
 fewest_over room (Some xs) None rows is direct inverted =
@@ -53,7 +53,7 @@ some_cover t mask net None (Some x) has = absurd has
 some_cover t mask net (Some w) None has = absurd has
 some_cover t mask net (Some w) (Some x) has = has.some
 
--- what is told by the covers of a cell is told of the cell
+-- what is given by the covers of a cell is reported of the cell
 told_at : (t : Table) (mask : ℕ) (net : Netlist) (c : ℕ) (found : Option CellCovers) (told : Option Overfull) → HasCoversAs t mask net (cell_wanted net c) found → IsToldBy t c found told
     → IsToldAt t mask net c told
 told_at t mask net c found None has is = λ w wanted. fitting_cover t mask net c (cell_wanted net c) w found refl wanted has is
@@ -89,7 +89,7 @@ tells_more t mask net c found before after below has adds =
           ∙ ap (λ (xs : List Overfull). filter_map (λ (o : Option Overfull). o) below.told ++ xs) (told_one adds.told));
     }
 
--- covers that are not found are why nothing is told
+-- covers that are not found are why nothing is reported
 pub told_stops : (t : Table) (mask : ℕ) (net : Netlist) (x : FitFault) → AreCovered t mask net (Err x) → AreOverfull t net (Err x)
 told_stops t mask net (TooWide c) is = is
 told_stops t mask net (NotShared which a b point) is = absurd is

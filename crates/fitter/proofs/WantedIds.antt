@@ -96,7 +96,7 @@ module _ (t : Table) (net : Netlist) (sound : IsSoundNetlist t net) where
       shared_has own (IsSoundFormula t (plain_netlist net)) (plain_netlist net)
       (λ k d within f is. (law _ (sound.sound.cells k d within) f is).formula) (const_sound t net false (Const false) refl)
 
--- the formula of an enable, which is always 1 where there is none
+-- the formula of an enable, which is always 1 if there isn't one
 pub enable_is : (net : Netlist) (w : CellWanted) → formula_at (arena net.exprs) (enable_bit w) ≡ enable_of (plain_wanted (arena net.exprs) w)
 enable_is net w = by_control w.enable
   where

@@ -1,4 +1,4 @@
--- The order in which cells that are too wide are told.
+-- The order in which cells that are too wide are reported.
 use Rattle.std.proofs.Common.{◌≡◌, ℕ, ◌+◌, true, false, None, Some, length, refl, sym, ap, ◌∙◌, subst, arith, inl, inr}
 use Rattle.fitter.proofs.Common.{cases_lt, true≢false, nat_tests, none-some, same_Some, Table, CellWanted, Netlist, IsSoundNetlist, cell_wanted, IsFirstBelow, IsFirstNumber, IsFirstWide, IsTooWide, width_order}
 use Rattle.abel_tree.specs.FirstRefusal.{is_before, sooner}
@@ -17,7 +17,7 @@ not_itself : (w : CellWanted) → is_before width_order w w ≡ true → ⊥
 not_itself w e = true≢false (sym e ∙ (before_by w w ∙ not_sooner w.place.line w.place.column w.cell))
 
 module _ (t : Table) (net : Netlist) where
-  -- one cell more, which doesn't come before the first so far or isn't too wide
+  -- one cell more, which doesn't precede the first so far or isn't too wide
   pub first_kept : (n : ℕ) (first : CellWanted) → IsFirstBelow t net n first
       → ((v : CellWanted) → cell_wanted net n ≡ Some v → is_before width_order v first ≡ true → IsTooWide t net v → ⊥) → IsFirstBelow t net (n + 1) first
   first_kept n first is not = record {

@@ -35,7 +35,7 @@ pub record IsTooMany (t : Table) (net : Netlist) (c : ℕ) (tried : Tried) : Typ
   pub over : IsOverRoom t mask net c tried
   pub before : CoversFitBelow t mask net c
 
--- each answer with its cause; want of memory tells nothing
+-- each answer with its cause; lack of memory says nothing
 abbrev pub FitAnswers : Table → Netlist → Result Fitted FitFault → Type 0
 FitAnswers t net (Ok fitted) = IsFitOf t net fitted
 FitAnswers t net (Err (TooWide c)) = IsFirstWide t net c

@@ -17,13 +17,13 @@ pub record CanCoverCell (t : Table) (net : Netlist) (w : CellWanted) : Type 0 wh
   pub reset : (control : Control) → w.reset ≡ Some control → IsSoundId t net control.bit
   pub preset : (control : Control) → w.preset ≡ Some control → IsSoundId t net control.bit
 
--- rows that cover a control; TooWide where it has no written list
+-- rows that cover a control; TooWide if it has no written list
 abbrev pub HasRows : Table → (mask : ℕ) → Netlist → ExprId → Result (Vec Cube) LowerFault → Type 0
 HasRows t mask net bit (Ok rows) = PlansRows (length t.pairs) mask net (control_function bit) true rows.items
 HasRows t mask net bit (Err lower.TooWide) = bit_list net bit true ≡ None
 HasRows t mask net bit (Err lower.OutOfMemory) = Unit {0}
 
--- an equation that there may be has a written list; TooWide where it has none
+-- an equation that there may be has a written list; TooWide if it has none
 abbrev pub IsListed : Netlist → Option Control → Result (Unit {0}) LowerFault → Type 0
 IsListed net control (Ok done) = IsControlTooWide net control → ⊥
 IsListed net control (Err lower.TooWide) = IsControlTooWide net control
@@ -46,7 +46,7 @@ pub record HasChecked (t : Table) (mask : ℕ) (net : Netlist) (w : CellWanted) 
   pub reset : IsControlTooWide net w.reset → ⊥
   pub preset : IsControlTooWide net w.preset → ⊥
 
--- so is one assigned cell; TooWide where a list of it would be too long
+-- so is one assigned cell; TooWide if a list of it would be too long
 abbrev pub IsChecked : Table → (mask : ℕ) → Netlist → CellWanted → Result CellCovers LowerFault → Type 0
 IsChecked t mask net w (Ok x) = HasChecked t mask net w x
 IsChecked t mask net w (Err lower.TooWide) = IsTooWide t net w
@@ -59,7 +59,7 @@ HasCheckedAs t mask net None (Some x) = ⊥
 HasCheckedAs t mask net (Some w) None = ⊥
 HasCheckedAs t mask net (Some w) (Some x) = HasChecked t mask net w x
 
--- the covers of one assigned cell; TooWide where a list of it would be too long
+-- the covers of one assigned cell; TooWide if a list of it would be too long
 abbrev pub IsCovered : Table → (mask : ℕ) → Netlist → CellWanted → Result CellCovers LowerFault → Type 0
 IsCovered t mask net w (Ok x) = HasCovers t mask net w x
 IsCovered t mask net w (Err lower.TooWide) = IsTooWide t net w

@@ -18,13 +18,13 @@ pub record IsLastOf (net : Netlist) (last : ExprId) : Type 0 where
   pub inside : last.0 < length (arena net.exprs)
   pub each : (n : ℕ) → n < length net.nodes → (function_of_node net n).one.0 ≤ last.0
 
--- each node has the value of its function at the point, with any as 0, and past the last node stand zeros
+-- each node has the value of its function at the point, with any as 0, and past the last node are zeros
 pub record AreNext (net : Netlist) (at : Levels) (nodes : List Bool) : Type 0 where
   pub each : (n : ℕ) → n < length net.nodes
       → is_on nodes n ≡ complement_if (function_of_node net n).complement (formula_value at (node_formula net n))
   pub past : (n : ℕ) → length net.nodes ≤ n → n < 128 → is_on nodes n ≡ false
 
--- pin or cell k has the level of its pair, as the list of pairs tells it
+-- pin or cell k has the level of its pair, as the list of pairs gives it
 abbrev pub AreWired : (pairs : List ℕ) → (levels wired : ℕ) → Type 0
 AreWired pairs levels wired =
     (k : ℕ) → k < 25 → get_or pairs k 0 < 32 → is_on (bits 32 wired) k ≡ is_on (bits 32 levels) (get_or pairs k 0)

@@ -12,7 +12,7 @@ abbrev pub plan_of : (mask : ℕ) → SharedRows → List CellPlan → Plan
 plan_of mask shared plans =
     record { cells = plans; reset = option_map (turned mask) shared.reset; preset = option_map (turned mask) shared.preset }
 
--- the rows are turned where the free registers that are inverted store the complement; the fuses hold them, and the entries are
+-- the rows are turned if the free registers that are inverted store the complement; the fuses hold them, and the entries are
 -- those of the cells
 pub record IsBurnedPlan (t : Table) (net : Netlist) (shared : SharedRows) (rows : AllRows) (fitted : Fitted) : Type 0 where
   pub choice : ℕ

@@ -51,7 +51,7 @@ abbrev pub IsOverAt : Table → ℕ → Option CellCovers → Tried → Type 0
 IsOverAt t c None tried = ⊥
 IsOverAt t c (Some x) tried = IsOver t c x tried
 
--- the rows of one cell; TooManyProducts with its number where no form fits
+-- the rows of one cell; TooManyProducts with its number if no form fits
 abbrev pub ArePlannedAt : Table → ℕ → Option CellCovers → Result CellRows FitFault → Type 0
 ArePlannedAt t c found (Ok rows) = AreRowsOf t c found rows
 ArePlannedAt t c found (Err (fault.TooManyProducts d tried)) = (d ≡ c) × IsOverAt t c found tried

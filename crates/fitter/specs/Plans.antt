@@ -12,7 +12,7 @@ abbrev pub carries_complement : Table → PlainNetlist → Carry → Bool
 carries_complement t net (carry.Pin p) = false
 carries_complement t net (carry.Cell c) = netlist_stores t net c
 
--- so it does of what its leaf stands for, except where the register stores the complement of that
+-- so it does of what its leaf represents, except if the register stores the complement of that
 abbrev pub carries_chosen : Table → PlainNetlist → (chosen : ℕ → Bool) → Carry → Bool
 carries_chosen t net chosen (carry.Pin p) = false
 carries_chosen t net chosen (carry.Cell c) = netlist_stores t net c && not (chosen c)
@@ -22,7 +22,7 @@ pub record IsTurnMask (t : Table) (net : PlainNetlist) (mask : ℕ) : Type 0 whe
   pub low : mask < 2 ^ 32
   pub bits : (v : ℕ) → v < length t.pairs → (bit_at mask v == 1) ≡ carries_complement t net (get_or t.pairs v (carry.Pin 0))
 
--- bit v of the mask says so of pair v, where these registers store the complement
+-- bit v of the mask says so of pair v, if these registers store the complement
 pub record IsChosenMask (t : Table) (net : PlainNetlist) (chosen : ℕ → Bool) (mask : ℕ) : Type 0 where
   pub low : mask < 2 ^ 32
   pub bits : (v : ℕ) → v < length t.pairs → (bit_at mask v == 1) ≡ carries_chosen t net chosen (get_or t.pairs v (carry.Pin 0))
@@ -50,7 +50,7 @@ bit_or none (Some control) = control.bit
 abbrev pub enable_bit : CellWanted → ExprId
 enable_bit w = bit_or (record { 0 = 1 }) w.enable
 
--- what is asked of a cell; none where it is assigned nothing
+-- what is asked of a cell; none if it is assigned nothing
 abbrev pub cell_wanted : Netlist → ℕ → Option CellWanted
 cell_wanted net c = find (λ (w : CellWanted). w.cell == c) net.cells
 
@@ -71,7 +71,7 @@ pub record PlansCell (t : Table) (mask : ℕ) (net : Netlist) (c : ℕ) (w : Cel
   pub rows : PlansRows (length t.pairs) mask net w.function (rows_are_positive t.flip w form.inverted) x.rows
   pub fit : length x.rows ≤ (cell_at t c).room
 
--- that of a cell which is assigned nothing: combinational where it may be, inverted, and no row
+-- that of a cell which is assigned nothing: combinational if it may be, inverted, and no row
 pub record PlansSpare (x : CellPlan) (form : CellForm) : Type 0 where
   pub registered : form.registered ≡ false
   pub inverted : form.inverted ≡ true

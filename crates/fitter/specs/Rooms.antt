@@ -34,12 +34,12 @@ pub record IsOverfull (t : Table) (mask : ℕ) (net : Netlist) (c : ℕ) (over :
   pub is_over : IsOverRoom t mask net c tried
   pub tells : TellsCell t c tried over
 
--- what is told of a cell: its entry where it is over its room, and nothing where it isn't assigned or a cover of it fits
+-- what is reported of a cell: its entry if it is over its room, and nothing if it isn't assigned or a cover of it fits
 abbrev pub IsToldAt : Table → (mask : ℕ) → Netlist → ℕ → Option Overfull → Type 0
 IsToldAt t mask net c (Some over) = IsOverfull t mask net c over
 IsToldAt t mask net c None = (w : CellWanted) → cell_wanted net c ≡ Some w → HasFittingCover t mask net c w
 
--- the list has what is told of the cells below a number, in the order of cells
+-- the list has what is reported of the cells below a number, in the order of cells
 pub record TellsBelow (t : Table) (mask : ℕ) (net : Netlist) (c : ℕ) (list : List Overfull) : Type 0 where
   pub told : List (Option Overfull)
   pub count : length told ≡ c
@@ -66,7 +66,7 @@ pub record IsEntryOver (t : Table) (c : ℕ) (x : CellCovers) (over : Overfull) 
   pub is_over : IsOverBy t c x tried
   pub tells : TellsCell t c tried over
 
--- what is told of a cell by its covers
+-- what is reported of a cell by its covers
 abbrev pub IsToldBy : Table → ℕ → Option CellCovers → Option Overfull → Type 0
 IsToldBy t c found None = OneFitsAt t c found
 IsToldBy t c None (Some over) = ⊥

@@ -54,8 +54,8 @@ pub record IsDirectOver (t : Table) (net : Netlist) (c : ℕ) (w : CellWanted) :
   pub tried : IsTriedAs t.flip (length t.pairs) mask net w false cover
   pub over : FitsRoom (cell_at t c).room cover → ⊥
 
--- an entry says of an assigned cell whether its pin is the complement of what it makes, and the rows that it has; it is inverted
--- only where its direct form doesn't fit
+-- an entry says of an assigned cell whether its pin is the complement of what it makes, and the rows that it has; it is
+-- inverted only if its direct form doesn't fit
 pub record IsFittedEntry (t : Table) (net : Netlist) (fuses : List Bool) (x : FittedCell) : Type 0 where
   pub cell : CellWanted
   pub wanted : cell_wanted net x.cell ≡ Some cell

@@ -61,7 +61,7 @@ Shares t net which (Err Memory) = Unit {0}
 
 -- ---- private: on the way to the first cell and the first difference
 
--- the cell comes before the other one, by name
+-- the cell precedes the other one, by name
 abbrev pub is_earlier : CellWanted → Option CellWanted → Bool
 is_earlier w None = true
 is_earlier w (Some best) = nat_lt w.name best.name
@@ -85,7 +85,7 @@ pub record IsApartAt (net : Netlist) (which : SharedControl) (c vars : ℕ) (row
   pub list_is : bit_list net control.bit true ≡ Some list
   pub apart : IsApart rows list vars point
 
--- the cell's own written list, where it has an equation, has the points of the given one
+-- the cell's own written list, if it has an equation, has the points of the given one
 abbrev pub IsAlikeAt : Netlist → SharedControl → (c vars : ℕ) → List Cube → Type 0
 IsAlikeAt net which c vars rows =
     (w : CellWanted) (control : Control) (list : List Cube) → cell_wanted net c ≡ Some w → own_control which w ≡ Some control

@@ -27,11 +27,11 @@ IsTooWide t net w =
 abbrev pub NoneWide : Table → Netlist → Type 0
 NoneWide t net = (d : ℕ) (w : CellWanted) → cell_wanted net d ≡ Some w → IsTooWide t net w → ⊥
 
--- the order in which cells are told: by the first data target in the source, and at one place by number
+-- the order in which cells are reported: by the first data target in the source, and at one place by number
 abbrev pub width_order : Ranks CellWanted
 width_order = record { place = λ (w : CellWanted). w.place; rank = λ (w : CellWanted). w.cell }
 
--- the cell is too wide, and no assigned cell that comes before it in that order is
+-- the cell is too wide, and no assigned cell that precedes it in that order is
 pub record IsFirstWide (t : Table) (net : Netlist) (c : ℕ) : Type 0 where
   pub cell : CellWanted
   pub wanted : cell_wanted net c ≡ Some cell

@@ -24,7 +24,7 @@ pub struct CellCovers {
     pub enable: Vec<Cube>,
 }
 
-/// The bit of the cell's enable; always 1 where it has none of its own.
+/// The bit of the cell's enable; always 1 if it has none of its own.
 fn enable_bit(wanted: &CellWanted) -> ExprId
     ensures { result ≡ enable_bit wanted.now }
 {
@@ -34,7 +34,7 @@ fn enable_bit(wanted: &CellWanted) -> ExprId
     }
 }
 
-/// The cover of a control; TooWide where it has no written list.
+/// The cover of a control; TooWide if it has no written list.
 pub fn control_rows<D: Device>(
     space: &mut Workspace,
     fit: &SoundFit<D>,
@@ -51,7 +51,7 @@ pub fn control_rows<D: Device>(
     }
 }
 
-/// Whether the equation of a control that there may be has a written list: TooWide where it has none.
+/// Whether the equation of a control that there may be has a written list: TooWide if it has none.
 fn listed<D: Device>(
     alloc: Global,
     net: &Netlist,
@@ -78,7 +78,7 @@ fn has_none(tried: &Tried) -> bool
     tried.direct.is_none() && tried.inverted.is_none()
 }
 
-/// The covers of a cell; TooWide where its function has none in any form, or a control of it none.
+/// The covers of a cell; TooWide if its function has none in any form, or a control of it none.
 pub(crate) fn cover_cell<D: Device>(
     space: &mut Workspace,
     fit: &SoundFit<D>,
@@ -121,7 +121,7 @@ fn has_form<D: Device>(
     has_lists(alloc, net, wanted, D::FLIP, true)
 }
 
-/// The cover of a cell's enable, without those of its function; TooWide where this has no written lists in any form, or a
+/// The cover of a cell's enable, without those of its function; TooWide if this has no written lists in any form, or a
 /// control of the cell none.
 fn check_cell<D: Device>(
     space: &mut Workspace,
@@ -167,7 +167,7 @@ pub fn cover_at<D: Device>(
 }
 
 /// Of the cell of a number, if it is assigned, that it is not too wide, and the cover of its enable alone: for the cells
-/// that come after one which is refused.
+/// that follow one which is refused.
 pub fn check_at<D: Device>(
     space: &mut Workspace,
     fit: &SoundFit<D>,

@@ -38,7 +38,7 @@ fn is_over<D: Device>(cell: u8, covers: &Option<CellCovers>) -> bool
     !fits(&found.tried.direct, room) && !fits(&found.tried.inverted, room)
 }
 
-/// Whether a cell is refused for its rows: one before, or else this one where that is asked.
+/// Whether a cell is refused for its rows: one before, or else this one if that is asked.
 fn is_refused<D: Device>(before: bool, stops: bool, cell: u8, covers: &Option<CellCovers>) -> bool
     requires { cell < length D.table.cells }
     ensures over { result ≡ true → (before ≡ true) ⊎ (OneFitsAt D.table cell covers.now → ⊥) }
@@ -50,7 +50,7 @@ fn is_refused<D: Device>(before: bool, stops: bool, cell: u8, covers: &Option<Ce
     stops && is_over::<D>(cell, covers)
 }
 
-/// The covers of the cell of a number; behind a cell that is refused only that of its enable.
+/// The covers of the cell of a number; after a cell that is refused only that of its enable.
 fn next_covers<D: Device>(
     space: &mut Workspace,
     fit: &SoundFit<D>,
@@ -69,7 +69,7 @@ fn next_covers<D: Device>(
 }
 
 /// The covers of all assigned cells, one entry a cell of the device; or, of the cells that are too wide, the first in the
-/// source. With `stops` the functions of the cells behind the first that is over its room are not covered.
+/// source. With `stops` the functions of the cells after the first that is over its room are not covered.
 pub(crate) fn cover_cells<D: Device>(
     space: &mut Workspace,
     fit: &SoundFit<D>,

@@ -83,14 +83,14 @@ fn next_nodes(alloc: Global, net: &Netlist, at: &Point) -> Result<u128, AllocErr
     Ok(nodes)
 }
 
-/// The level of a pair; 0 where there is none.
+/// The level of a pair; 0 if there isn't one.
 fn pair_level(levels: u32, pair: u8) -> bool
     ensures { pair < 32 → result ≡ is_on (bits 32 levels) pair }
 {
     pair < 32 && level_at(levels, pair)
 }
 
-/// The levels of pins, or of cells, by those of the pairs that stand for them.
+/// The levels of pins, or of cells, by those of the pairs that represent them.
 fn wired(pairs: &[u8; 25], levels: u32) -> u32
     ensures { AreWired pairs.now levels result }
 {

@@ -109,7 +109,7 @@ fn burned<D: Device>(
 }
 
 /// The fuses of a netlist in a device, and the rows of its cells: of each cell a prime and irredundant cover, in its direct
-/// form where that may be and fits, else in its inverted one; a free register that is inverted stores the complement. It makes
+/// form if that may be and fits, else in its inverted one; a free register that is inverted stores the complement. It makes
 /// one pool for all covers.
 pub fn fit<D: Device>(alloc: Global, net: &Netlist) -> Result<Fitted, FitFault>
     requires sound { IsSoundNetlist D.table net.now }

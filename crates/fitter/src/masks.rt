@@ -10,7 +10,7 @@ use bit_expr::Netlist;
 use pld_base::with_level;
 use pld_device::{Carry, Device, Kinds};
 
-/// Whether a cell of these kinds is a register where it is assigned nothing.
+/// Whether a cell of these kinds is a register if it is assigned nothing.
 fn must_register(kinds: Kinds) -> bool
     ensures { result ≡ stores_by kinds false }
 {

@@ -24,7 +24,7 @@ pub(crate) struct AllRows {
     pub(crate) forms: Vec<CellForm>,
 }
 
-/// The rows of an assigned cell: those of its direct form where they fit its room, else those of the inverted one.
+/// The rows of an assigned cell: those of its direct form if they fit its room, else those of the inverted one.
 fn chosen_rows<D: Device>(cell: u8, covers: CellCovers) -> Result<CellRows, FitFault>
     requires { cell < length D.table.cells }
     ensures { ArePlannedAt D.table cell (Some covers) result }
@@ -62,7 +62,7 @@ fn no_rows(alloc: Global) -> CellRows
     }
 }
 
-/// The rows of a cell by its covers; no rows where it has none.
+/// The rows of a cell by its covers; no rows if it has none.
 fn rows_of<D: Device>(
     alloc: Global,
     cell: u8,

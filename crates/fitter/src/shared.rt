@@ -14,7 +14,7 @@ pub enum SharedControl {
     Preset,
 }
 
-/// What is asked of a cell; None where it is assigned nothing. Takes no memory.
+/// What is asked of a cell; None if it is assigned nothing. Takes no memory.
 pub fn cell_wanted(net: &Netlist, cell: u8) -> Option<CellWanted>
     ensures { result ≡ cell_wanted net.now cell }
 {

@@ -46,7 +46,7 @@ fn bit_of<D: Device>(
     }
 }
 
-/// What is refused where a control that all registers share is no product.
+/// What is refused if a control that all registers share is no product.
 fn no_product(which: SharedControl) -> FitFault
     ensures { result ≡ no_product which }
 {
@@ -56,7 +56,7 @@ fn no_product(which: SharedControl) -> FitFault
     }
 }
 
-/// The one row of a control, if any; refused where it is no product.
+/// The one row of a control, if any; refused if it is no product.
 fn row_of<D: Device>(
     space: &mut Workspace,
     fit: &SoundFit<D>,

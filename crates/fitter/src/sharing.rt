@@ -67,7 +67,7 @@ fn listed<D: Device>(alloc: Global, net: &Netlist, bit: ExprId) -> Result<Vec<Cu
     }
 }
 
-/// A point at which a cell's own equation, where it has one, differs from a written list.
+/// A point at which a cell's own equation, if it has one, differs from a written list.
 fn apart_at<D: Device>(
     space: &mut Workspace,
     fit: &SoundFit<D>,
@@ -91,7 +91,7 @@ fn apart_at<D: Device>(
     Ok(point_apart(&mut space.pool, rows, &own, fit.over.vars))
 }
 
-/// The bit of the first cell's equation, where that of each cell has its value.
+/// The bit of the first cell's equation, if that of each cell has its value.
 fn same_for_all<D: Device>(
     space: &mut Workspace,
     fit: &SoundFit<D>,

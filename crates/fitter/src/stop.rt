@@ -2,7 +2,7 @@
 
 use std::alloc::{AllocError, AllocFailed};
 
-/// Why there is no answer: a refusal, or want of memory, which no contract ties to a cause.
+/// Why there is no answer: a refusal, or lack of memory, which no contract ties to a cause.
 #[derive(Clone, Copy, PartialEq, Eq)]
 pub enum Stop<F> {
     Refused(F),

@@ -1,7 +1,7 @@
 //! The rows of all cells over what the columns carry in the forms that were chosen.
 //!
-//! Covers are made as if each free register stored what it stands for, since the forms of the others are not known then. Once
-//! all forms are, each row that reads a free register which is inverted asks its pair of columns for the other level.
+//! Covers are made as if each free register stored what it represents, since the forms of the others are not known then.
+//! Once all forms are, each row that reads a free register which is inverted asks its pair of columns for the other level.
 
 ghost use Rattle.std.specs.Prelude.{◌≡◌, ◌<◌, IfOk, get_or, length};
 ghost use Rattle.fitter.specs.Prelude.{option_map, turned, form_at};

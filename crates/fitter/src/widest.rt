@@ -1,4 +1,4 @@
-//! Which of the cells that are too wide is told.
+//! Which of the cells that are too wide is reported.
 
 ghost use Rattle.std.specs.Prelude.{◌≡◌, ◌+◌, ◌≤◌, IfOk, Ok, false, true};
 ghost use Rattle.fitter.specs.Prelude.{is_before, IsSoundNetlist};
@@ -14,7 +14,7 @@ use pld_device::Device;
 use sop_lowering::LowerFault;
 use std::alloc::{AllocError, Global};
 
-/// Whether a cell comes before another: by the line of its first data target, by the column, and at one place by number.
+/// Whether a cell precedes another: by the line of its first data target, by the column, and at one place by number.
 #[tactic(auto, using(crate::proofs::WidthOrder::before_by))]
 fn is_before(here: &CellWanted, there: &CellWanted) -> bool
     ensures { result ≡ is_before width_order here.now there.now }
@@ -46,7 +46,7 @@ fn is_wide<D: Device>(
     }
 }
 
-/// The cell of the number, where it is too wide and comes before the first of the cells below it; else that one.
+/// The cell of the number, if it is too wide and precedes the first of the cells below it; else that one.
 fn earlier<D: Device>(
     space: &mut Workspace,
     fit: &SoundFit<D>,
@@ -67,8 +67,8 @@ fn earlier<D: Device>(
     if wide { Ok(wanted) } else { Ok(first) }
 }
 
-/// The first in the source of the cells that are too wide; `cell` is the first by number. Of the cells behind it those are
-/// covered that come before it in the source.
+/// The first in the source of the cells that are too wide; `cell` is the first by number. Of the cells after it those are
+/// covered that precede it in the source.
 pub fn first_wide<D: Device>(
     space: &mut Workspace,
     fit: &SoundFit<D>,

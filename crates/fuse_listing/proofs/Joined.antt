@@ -3,7 +3,7 @@ use Rattle.std.proofs.Common.{◌≡◌, ℕ, ◌+◌, ◌<◌, ◌≤◌, Some,
 use Rattle.fuse_listing.proofs.Common.{zero-add, flat_map-append, drop_all, range_with_len, Declared, view_declared, is_on_pin, name_on, product_text}
 use Rattle.std.proofs.lemmas.List.FromFn.{filter_of_map_range_with_len_more, map-range_with_len_more}
 
--- a piece more behind what was appended
+-- a piece more after what was appended
 pub one_more : (old sofar piece before new : List ℕ) → before ≡ old ++ sofar → new ≡ before ++ piece → new ≡ old ++ (sofar ++ piece)
 one_more old sofar piece before new before_is new_is =
     new_is ∙ ap (λ (text : List ℕ). text ++ piece) before_is ∙ append_assoc old sofar piece
@@ -17,16 +17,16 @@ abbrev pub is_none : List ℕ → Bool
 is_none [] = true
 is_none (k ∷ ks) = false
 
--- the columns up to this one that pass are joined behind a text
+-- the columns up to this one that pass are joined after a text
 pub record HasJoined (literal : ℕ → List ℕ) (passes : ℕ → Bool) (before text : List ℕ) (is_first : Bool) (column : ℕ) : Type 0 where
   pub text_is : text ≡ before ++ joined literal (filter passes (range_with_len 0 column))
   pub first_is : is_first ≡ is_none (filter passes (range_with_len 0 column))
 
--- what stands between a literal and those before it
+-- what is between a literal and those before it
 abbrev pub between : Bool → List ℕ
 between is_first = if is_first then [] else codes " & "
 
--- one more literal behind those that there are
+-- one more literal after those that there are
 joined-more : (literal : ℕ → List ℕ) (ks : List ℕ) (k : ℕ) → joined literal (ks ++ k ∷ []) ≡ joined literal ks ++ between (is_none ks) ++ literal k
 joined-more literal [] k = append-nil (literal k)
 joined-more literal (first ∷ rest) k =
@@ -65,7 +65,7 @@ module _ (literal : ℕ → List ℕ) (passes : ℕ → Bool) (before : List ℕ
       let same : filter passes (range_with_len 0 (c + 1)) ≡ ks = range_more passes c ∙ (rw fail (append-nil ks)) in
       record { text_is = rw same has.text_is; first_is = rw same has.first_is }
 
-  -- with `1` where there is none, it is the product
+  -- with `1` if there isn't one, it is the product
   pub all_joined : (text : List ℕ) (is_first : Bool) (c : ℕ) → HasJoined literal passes before text is_first c → (if is_first then text ++ codes "1" else text) ≡ before ++ product_text literal (filter passes (range_with_len 0 c))
   all_joined text is_first c has = by_list (filter passes (range_with_len 0 c)) is_first has.first_is has.text_is
     where

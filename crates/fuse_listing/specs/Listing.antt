@@ -28,7 +28,7 @@ abbrev pub name_on : List Entry → (pin : ℕ) → Option Entry
 name_on [] pin = None
 name_on (e ∷ es) pin = if is_on_pin pin e.kind then Some e else name_on es pin
 
--- a pin that has no name is told by its number
+-- a pin that has no name is given by its number
 abbrev pub name_text : (pin : ℕ) → Option Entry → List ℕ
 name_text pin (Some e) = e.name
 name_text pin None = codes "pin" ++ decimal pin
@@ -59,7 +59,7 @@ abbrev pub carries_complement : Table → List Bool → Carry → Bool
 carries_complement t fuses (carry.Pin pin) = false
 carries_complement t fuses (carry.Cell c) = stores t fuses c && not (complements_output t fuses c)
 
--- a name, with `!` where the column carries the complement of what the name reads
+-- a name, with `!` if the column carries the complement of what the name reads
 abbrev pub literal_text : (complement : Bool) → List ℕ → List ℕ
 literal_text complement name = (if complement then codes "!" else []) ++ name
 

@@ -109,7 +109,7 @@ fn put_polarity<D: Device>(out: &mut Vec<u8>, fuses: &[bool], cell: u8) -> Resul
     Ok(())
 }
 
-/// Appends a number behind a text.
+/// Appends a number after a text.
 pub(crate) fn put_numbered(
     alloc: Global,
     out: &mut Vec<u8>,

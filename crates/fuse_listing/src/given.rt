@@ -10,7 +10,7 @@ use declared_names::is_unnumbered;
 use pld_base::OutOfMemory;
 use std::alloc::Global;
 
-/// Appends a name behind a space, and ends the line.
+/// Appends a name after a space, and ends the line.
 fn put_last_name(out: &mut Vec<u8>, name: &[u8]) -> Result<(), OutOfMemory>
     ensures { OnOk result (out.new.items ≡ out.old.items ++ codes " " ++ name.now ++ codes "\n") }
 {

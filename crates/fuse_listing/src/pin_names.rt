@@ -54,7 +54,7 @@ pub fn names_complement(name: Option<&Declared>) -> bool
     }
 }
 
-/// Appends a pin's name, or its number where it has none.
+/// Appends a pin's name, or its number if it has none.
 pub fn put_name(
     alloc: Global,
     out: &mut Vec<u8>,

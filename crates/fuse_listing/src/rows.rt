@@ -47,7 +47,7 @@ pub fn is_in_use<D: Device>(fuses: &[bool], row: u16) -> bool
     has_opened::<D>(fuses, row) && is_switched_on::<D>(fuses, row)
 }
 
-/// Appends the literal of a column, behind others or not.
+/// Appends the literal of a column, after others or not.
 fn put_literal<D: Device>(
     alloc: Global,
     out: &mut Vec<u8>,

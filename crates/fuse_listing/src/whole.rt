@@ -45,10 +45,10 @@ fn put_common<D: Device>(
 /// The listing of a device's fuses: for each pin that was given to a signal which drives no cell its number and name; for
 /// each assigned cell its pin and name, whether it is a register, how its pin follows its output, its data rows in use of
 /// those that it has room for, what enables it, and these rows, as products of the names; then the reset and preset of all
-/// registers, where the device has such rows. The names are given as they are declared, and as they are placed.
+/// registers, if the device has such rows. The names are given as they are declared, and as they are placed.
 ///
 /// # Errors
-/// Only want of memory.
+/// Only lack of memory.
 pub fn listing<D: Device>(
     alloc: Global,
     declared: &Names,

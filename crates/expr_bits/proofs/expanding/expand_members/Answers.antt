@@ -1,4 +1,4 @@
--- The first member behind the others, or a set without members.
+-- The first member after the others, or a set without members.
 use Rattle.std.proofs.Common.{arith, map, refl, take, sym, ap, ◌∷◌, ◌∙◌}
 use Rattle.expr_bits.proofs.Common.{nil_from_length, IfOk-weaker, entries_of, members_of, view_member, extended_if, known_of, terms_of, tasks_of, Push, after_all, members_weight, name_weight}
 use Rattle.abel_meaning.specs.Terms as term

@@ -1,4 +1,4 @@
--- The member is joined behind the value.
+-- The member is joined after the value.
 use Rattle.std.proofs.Common.{arith}
 use Rattle.expr_bits.proofs.Common.{IfOk-weaker}
 use Rattle.expr_bits.specs.declared.work.Step.TheVariants as step

@@ -1,4 +1,4 @@
--- The member's positions stand behind the others.
+-- The member's positions follow the others.
 use Rattle.std.proofs.Common.{◌++◌, ap₂, ◌∙◌, refl}
 use Rattle.expr_bits.proofs.OperatedBits.{joined_shown}
 use Rattle.expr_bits.proofs.sets.with_member.Goals as goal

@@ -1,4 +1,4 @@
--- What was built, and what is left comes to the whole.
+-- What was built, and what is left amounts to the whole.
 use Rattle.expr_bits.proofs.Common.{entries_of, context_for, task_of, tasks_of, stack_weight}
 use Rattle.expr_bits.proofs.Turns.{Walking}
 use Rattle.expr_bits.proofs.walking.walk.Given as goal

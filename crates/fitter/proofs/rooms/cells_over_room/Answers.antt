@@ -1,4 +1,4 @@
--- Each cell is told by its covers.
+-- Each cell is given by its covers.
 use Rattle.std.proofs.Common.{◌<◌, length, refl, ◌∙◌, subst, sym, arith}
 use Rattle.fitter.proofs.Common.{cell_wanted, HasCoversAs}
 use Rattle.fitter.proofs.ToldCells.{tells_more}

@@ -1,4 +1,4 @@
--- The cells so far are told, and the covers of the others are left.
+-- The cells so far are reported, and the covers of the others are left.
 use Rattle.std.proofs.Common.{◌≡◌, ◌≤◌, ℕ, None, get_or, length}
 use Rattle.fitter.proofs.Common.{All}
 use Rattle.fitter.specs.Rooms.{IsOver, TellsBelow}

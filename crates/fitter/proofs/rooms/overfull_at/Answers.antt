@@ -1,4 +1,4 @@
--- Where neither cover fits the room, the smaller one is over it.
+-- If neither cover fits the room, the smaller one is over it.
 use Rattle.std.proofs.Common.{◌≡◌, ◌<◌, sym, ap, ◌∙◌, arith, subst}
 use Rattle.fitter.proofs.Common.{get_or_from_slice_get, FitsRoom, cell_at, no_cell, Cell}
 use Rattle.fitter.proofs.ToldCells.{fewest_over}

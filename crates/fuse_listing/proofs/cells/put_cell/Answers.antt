@@ -1,4 +1,4 @@
--- Five pieces were appended, one behind the other.
+-- Five pieces were appended, one after the other.
 use Rattle.std.proofs.Common.{◌++◌, codes, flat_map}
 use Rattle.fuse_listing.proofs.Common.{on_ok_weaker, entries_of, view_declared, cell_at, enable_text, head_text, line_if_used}
 use Rattle.pld_device.specs.Macrocells.{data_rows}

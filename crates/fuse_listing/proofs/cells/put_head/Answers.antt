@@ -1,4 +1,4 @@
--- Five pieces were appended, one behind the other.
+-- Five pieces were appended, one after the other.
 use Rattle.std.proofs.Common.{◌++◌, refl, codes}
 use Rattle.fuse_listing.proofs.Common.{on_ok_weaker, view_declared, chosen_text, kind_text, pin_text, polarity_text, use_text}
 use Rattle.fuse_listing.proofs.Joined.{one_more}
