@@ -106,7 +106,7 @@ appends_then old mid new gs hs ps qs more later rest rest_places k a b =
     places cs = map (λ (c : Contribution). c.place) cs
 
 -- a front of what is given is one of more
-leaves_less : (old new : Contributions) (gs hs : List (meant.Contribution Formula)) (ps qs : List Place) → Leaves old new gs ps → Leaves old new (gs ++ hs) (ps ++ qs)
+pub leaves_less : (old new : Contributions) (gs hs : List (meant.Contribution Formula)) (ps qs : List Place) → Leaves old new gs ps → Leaves old new (gs ++ hs) (ps ++ qs)
 leaves_less old new gs hs ps qs l =
     record {
       keeps = l.keeps;
@@ -121,7 +121,7 @@ leaves_less old new gs hs ps qs l =
       };
     }
 
-leaves_then : (old mid new : Contributions) (gs hs : List (meant.Contribution Formula)) (ps qs : List Place) (nodes : ℕ) → Contributed old mid gs ps nodes → Leaves mid new hs qs → Leaves old new (gs ++ hs) (ps ++ qs)
+pub leaves_then : (old mid new : Contributions) (gs hs : List (meant.Contribution Formula)) (ps qs : List Place) (nodes : ℕ) → Contributed old mid gs ps nodes → Leaves mid new hs qs → Leaves old new (gs ++ hs) (ps ++ qs)
 leaves_then old mid new gs hs ps qs nodes c l =
     record {
       keeps = keeps_on (arena old.exprs) (arena mid.exprs) (arena new.exprs) c.grew.keeps l.keeps;

@@ -12,4 +12,5 @@ pub mod Refused
 pub mod SideTerms
 pub mod SignalLists
 pub mod SmallTargets
+pub mod StandingFronts
 pub mod WalksBehind

@@ -11,7 +11,7 @@ pub record Appends (old new : Contributions) (given : List (meant.Contribution F
   pub gives : given ≡ map (view_contribution (arena new.exprs)) more ++ later
   pub stand : places ≡ map (λ (c : Contribution). c.place) more ++ later_places
 
--- after an answer other than Ok the nodes that were there stand, and a front of what is given was appended
+-- the nodes that were there stand, and a front of what is given was appended
 pub record Leaves (old new : Contributions) (given : List (meant.Contribution Formula)) (places : List Place) : Type 0 where
   pub keeps : Keeps (arena old.exprs) (arena new.exprs)
   pub more : List Contribution

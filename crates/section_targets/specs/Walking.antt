@@ -6,7 +6,7 @@ use Rattle.abel_meaning.specs.Contributions as meant
 use Rattle.set_expr.specs.declared.fault.SectionFault.TheVariants as fault
 use Rattle.section_targets.specs.declared.walked.Walked.{Walked}
 use Rattle.section_targets.specs.declared.manner.Manner.{Manner}
-use Rattle.section_targets.specs.Appending.{Contributed}
+use Rattle.section_targets.specs.Appending.{Leaves, Contributed}
 use Rattle.section_targets.specs.Manners.{AreFirsts}
 use Rattle.section_targets.specs.Units.{CountedUnit, units_refused, units_nodes, all_refused}
 
@@ -26,6 +26,12 @@ pub record Walks (all : List Manner) (us : List CountedUnit) (gs : List (meant.C
   pub fault : new.fault ≡ fault_behind old.fault (length (arena old.exprs)) us
   pub manners : AreFirsts new.before (all ++ ms)
   pub given : new.fault ≡ None → Contributed (standing old) (standing new) gs ps (units_nodes us)
+
+-- whatever the answer, the nodes that were there stand, and behind the contributions that were there stands a front of what
+-- is given at these places; once something is refused, nothing is made
+pub record StillStands (gs : List (meant.Contribution Formula)) (ps : List Place) (old new : Walked) : Type 0 where
+  pub front : Leaves (standing old) (standing new) gs ps
+  pub stays : (f : SectionFault) → old.fault ≡ Some f → standing new ≡ standing old
 
 -- the limit is kept where making a unit passed it; want of memory ends the walk
 abbrev pub AfterMaking : Result Unit SectionFault → (old new : Walked) → Type 0

@@ -3,7 +3,7 @@
 ghost use Rattle.std.specs.Prelude.{◌≡◌, [], None, OnOk};
 ghost use Rattle.section_targets.specs.Prelude.{section_order, is_some};
 ghost use Rattle.abel_tree.specs.FirstRefusal as first;
-ghost use Rattle.section_targets.specs.{AfterMaking};
+ghost use Rattle.section_targets.specs.{AfterMaking, standing};
 
 use crate::assigned::Assigned;
 use abel_tree::earlier;
@@ -13,7 +13,8 @@ use set_expr::{Contribution, SectionFault};
 use std::alloc::Global;
 
 /// What was walked so far: its nodes and contributions, how it assigns signals, and the first refusal by place. Once
-/// something is refused, units are only checked, and `exprs` and `list` stay.
+/// something is refused, units are only checked, and `exprs` and `list` stay. Where memory runs out, the nodes that were
+/// there stand, and `list` has a front of what was to be appended.
 #[derive(Drop)]
 pub struct Walked {
     pub exprs: Exprs,
@@ -49,7 +50,8 @@ impl Walked {
 
     /// Keeps why a unit could not be made: it passes the limit of nodes.
     pub fn keep_limit(&mut self, made: Result<(), SectionFault>) -> Result<(), OutOfMemory>
-        ensures { OnOk result (AfterMaking made self.old self.new) }
+        ensures kept { OnOk result (AfterMaking made self.old self.new) }
+        ensures stands { standing self.new ≡ standing self.old }
     {
         match made {
             Ok(()) => Ok(()),
