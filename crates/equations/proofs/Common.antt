@@ -33,6 +33,7 @@ pub use Rattle.section_targets.proofs.Built.{builds_stop, builds_then, keeps_on,
 pub use Rattle.section_targets.proofs.OneUnit.{AreParts, one_unit, two_parts}
 pub use Rattle.section_targets.proofs.SideTerms.{positions_of, side_positions}
 pub use Rattle.section_targets.proofs.SmallTargets.{side_few, side_whole}
+pub use Rattle.section_targets.proofs.StandingFronts.{none_so_far, stands_alike, stands_less, stands_made, stands_same, stands_then}
 pub use Rattle.section_targets.proofs.WalksBehind.{both_clear, clear_before, walks_alike, walks_made, walks_none, walks_refused, walks_then}
 pub use Rattle.section_targets.specs.Building.{AreBits, Builds, IsBit, IsBuilt, NoMemory, StopsWith}
 pub use Rattle.section_targets.specs.Given.{AreNamed, places_of}
@@ -40,7 +41,7 @@ pub use Rattle.section_targets.specs.Manners.{AreFirsts, aims_refused, manner_of
 pub use Rattle.section_targets.specs.TargetSignals.{TargetFound, left_side}
 pub use Rattle.section_targets.specs.Units.{CountedUnit, part, units_nodes, units_refused}
 pub use Rattle.section_targets.specs.ValueWidths.{value_refused, value_width}
-pub use Rattle.section_targets.specs.Walking.{AfterMaking, Walks, standing}
+pub use Rattle.section_targets.specs.Walking.{AfterMaking, StillStands, Walks, standing}
 pub use Rattle.section_targets.specs.declared.aim.Aim.{Aim}
 pub use Rattle.section_targets.specs.declared.manner.Manner.{Manner}
 pub use Rattle.section_targets.specs.declared.walked.Walked.{Walked}
@@ -54,6 +55,6 @@ pub use Rattle.set_expr.specs.SectionOrder.{section_order}
 pub use Rattle.set_expr.specs.declared.contributions.Contributions.{Contributions}
 pub use Rattle.set_expr.specs.declared.contributions.Guard.{Guard}
 pub use Rattle.set_expr.specs.declared.fault.SectionFault.{SectionFault}
-pub use Rattle.equations.specs.{AreBothGuards, GivesAssign, WalksCondition, WalksStatement, assign_refused, assigned_aims, assigned_manners, condition_refused}
+pub use Rattle.equations.specs.{AreBothGuards, GivesAssign, StandsStatement, WalksCondition, WalksStatement, assign_refused, assigned_aims, assigned_manners, condition_refused}
 pub use Rattle.equations.specs.{condition_unit, else_manners, else_places, statement_manners, statement_places, statements_manners, statements_places}
 pub use Rattle.equations.specs.{taken_refused, units_of_else, units_of_statement, units_of_statements, unless_any, view_assign, view_list, view_when}

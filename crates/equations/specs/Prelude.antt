@@ -21,7 +21,7 @@ pub use Rattle.section_targets.specs.Manners.{AreFirsts, aims_refused, manner_of
 pub use Rattle.section_targets.specs.TargetSignals.{TargetFound, left_side}
 pub use Rattle.section_targets.specs.Units.{CountedUnit, part}
 pub use Rattle.section_targets.specs.ValueWidths.{value_refused, value_width}
-pub use Rattle.section_targets.specs.Walking.{Walks, standing}
+pub use Rattle.section_targets.specs.Walking.{StillStands, Walks, standing}
 pub use Rattle.section_targets.specs.declared.manner.Manner.{Manner}
 pub use Rattle.section_targets.specs.declared.walked.Walked.{Walked}
 pub use Rattle.set_expr.specs.Answer.{IsShaped, Keeps, refusal_of}

@@ -1,6 +1,6 @@
 -- What a walk over statements under a guard leaves (ABEL-HDL Reference Manual, equations and WHEN-THEN-ELSE).
 use Rattle.std.specs.Prelude.{◌≡◌, ◌<◌, Bool, true, None, List, [], ◌∷◌, length}
-use Rattle.equations.specs.Prelude.{Place, Table, arena, formula_at, Names, Tree, Statement, Statements, condition_of, choice_nodes, guard_then, guard_else, formulas, statement_gives, statements_give, Guard, view_guard, Manner, Walked, context_for, AreFirsts, Walks}
+use Rattle.equations.specs.Prelude.{Place, Table, arena, formula_at, Names, Tree, Statement, Statements, condition_of, choice_nodes, guard_then, guard_else, formulas, statement_gives, statements_give, Guard, view_guard, Manner, Walked, context_for, AreFirsts, StillStands, Walks}
 use Rattle.bit_expr.specs.declared.node.ExprId.{ExprId}
 use Rattle.equations.specs.declared.choices.BothGuards.{BothGuards}
 use Rattle.equations.specs.Builds.{condition_unit}
@@ -21,6 +21,18 @@ WalksStatements t n g ss old new =
     → Walks all (units_of_statements (context_for t n) (formula_at (arena old.exprs) g.when) all ss)
     (statements_give (formulas (context_for t n)) (context_for t n) (view_guard (arena old.exprs) g) ss)
     (statements_places (context_for t n) ss) (statements_manners (context_for t n) ss) old new
+
+-- what stands after a statement, whatever the answer
+abbrev pub StandsStatement : Table → Names → Guard → Statement → (old new : Walked) → Type 0
+StandsStatement t n g s old new =
+    StillStands (statement_gives (formulas (context_for t n)) (context_for t n) (view_guard (arena old.exprs) g) s)
+    (statement_places (context_for t n) s) old new
+
+-- after statements
+abbrev pub StandsStatements : Table → Names → Guard → Statements → (old new : Walked) → Type 0
+StandsStatements t n g ss old new =
+    StillStands (statements_give (formulas (context_for t n)) (context_for t n) (view_guard (arena old.exprs) g) ss)
+    (statements_places (context_for t n) ss) old new
 
 -- a condition as a unit at its place, with an ELSE or without one
 abbrev pub WalksCondition : Table → Names → (guard : ExprId) → Place → Tree → (other : Bool) → (old new : Walked) → Type 0

@@ -1,7 +1,7 @@
 //! Conditions, and the guards of what stands under them.
 
 ghost use Rattle.std.specs.Prelude.{◌≡◌, ◌<◌, None, true, false, [], ◌∷◌, length, IfOk};
-ghost use Rattle.equations.specs.Prelude.{arena, formula_at, view, condition_of, choice_nodes, Keeps, refusal_of, BuildsNodes, IsBit, context_for, part};
+ghost use Rattle.equations.specs.Prelude.{arena, formula_at, view, condition_of, choice_nodes, Keeps, refusal_of, BuildsNodes, IsBit, context_for, part, StillStands};
 ghost use Rattle.abel_meaning.specs.CountedNodes as counted;
 ghost use Rattle.equations.specs.{WalksCondition, AreBothGuards};
 
@@ -107,6 +107,7 @@ pub fn walk_condition<D: Device>(
 ) -> Result<BothGuards, OutOfMemory>
     requires guard { guard.0 < length (arena out.old.exprs) }
     ensures walks { IfOk result (λ g. WalksCondition D.table scope.now guard condition.now.unit (view condition.now.expr.now) condition.now.otherwise out.old out.new) }
+    ensures stands { StillStands [] [] out.old out.new }
     ensures guards { IfOk result (AreBothGuards D.table scope.now guard (view condition.now.expr.now) condition.now.otherwise out.old out.new) }
 {
     let same = BothGuards {

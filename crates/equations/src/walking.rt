@@ -2,7 +2,7 @@
 
 ghost use Rattle.std.specs.Prelude.{◌≡◌, ◌<◌, length, OnOk};
 ghost use Rattle.equations.specs.Prelude.{arena, view_stmt};
-ghost use Rattle.equations.specs.{GivesAssign, IsAcceptedAssign, view_assign, view_when, view_list, WalksStatement, WalksStatements};
+ghost use Rattle.equations.specs.{GivesAssign, IsAcceptedAssign, view_assign, view_when, view_list, WalksStatement, WalksStatements, StandsStatement, StandsStatements};
 
 use crate::assigning::check_assign;
 use crate::choices::{Condition, walk_condition};
@@ -61,7 +61,8 @@ fn walk_assign<D: Device>(
     out: &mut Walked,
 ) -> Result<(), OutOfMemory>
     requires guard { guard.when.0 < length (arena out.old.exprs) }
-    ensures { OnOk result (WalksStatement D.table scope.now guard (view_assign assign.now) out.old out.new) }
+    ensures walks { OnOk result (WalksStatement D.table scope.now guard (view_assign assign.now) out.old out.new) }
+    ensures stands { StandsStatement D.table scope.now guard (view_assign assign.now) out.old out.new }
 {
     let fault = check_assign::<D>(alloc, scope, assign, &mut out.before)?;
     if out.refuse(fault) {
@@ -81,7 +82,8 @@ fn walk_when<D: Device>(
     out: &mut Walked,
 ) -> Result<(), OutOfMemory>
     requires guard { guard.when.0 < length (arena out.old.exprs) }
-    ensures { OnOk result (WalksStatement D.table scope.now guard (view_when when.now) out.old out.new) }
+    ensures walks { OnOk result (WalksStatement D.table scope.now guard (view_when when.now) out.old out.new) }
+    ensures stands { StandsStatement D.table scope.now guard (view_when when.now) out.old out.new }
 {
     let condition = Condition {
         unit: when.place,
@@ -116,7 +118,8 @@ fn walk_statement<D: Device>(
     out: &mut Walked,
 ) -> Result<(), OutOfMemory>
     requires guard { guard.when.0 < length (arena out.old.exprs) }
-    ensures { OnOk result (WalksStatement D.table scope.now guard (view_stmt stmt.now) out.old out.new) }
+    ensures walks { OnOk result (WalksStatement D.table scope.now guard (view_stmt stmt.now) out.old out.new) }
+    ensures stands { StandsStatement D.table scope.now guard (view_stmt stmt.now) out.old out.new }
 {
     match stmt {
         Stmt::Assign(assign) => walk_assign::<D>(alloc, scope, guard, assign, out),
@@ -137,7 +140,8 @@ pub fn walk_statements<D: Device>(
     out: &mut Walked,
 ) -> Result<(), OutOfMemory>
     requires guard { guard.when.0 < length (arena out.old.exprs) }
-    ensures { OnOk result (WalksStatements D.table scope.now guard (view_list stmts.now) out.old out.new) }
+    ensures walks { OnOk result (WalksStatements D.table scope.now guard (view_list stmts.now) out.old out.new) }
+    ensures stands { StandsStatements D.table scope.now guard (view_list stmts.now) out.old out.new }
 {
     for stmt in stmts {
         walk_statement::<D>(alloc, scope, guard, stmt, out)?;

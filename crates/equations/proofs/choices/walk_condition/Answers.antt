@@ -1,6 +1,6 @@
 -- A condition that is refused or stands behind what is, and one whose guards are made.
 use Rattle.std.proofs.Common.{[], ◌∷◌, ◌++◌, Ok, Err, refl, sym, ap, ◌∙◌, subst}
-use Rattle.equations.proofs.Common.{arena, formula_at, entries_of, view, choice_nodes, expression_found, Walked, Builds, context_for, part, value_width, standing, kept_inside, left_empty, condition_unit, condition_refused}
+use Rattle.equations.proofs.Common.{arena, formula_at, entries_of, view, choice_nodes, expression_found, Walked, Builds, context_for, part, value_width, standing, none_so_far, stands_made, stands_same, kept_inside, left_empty, condition_unit, condition_refused}
 use Rattle.equations.proofs.BuiltParts.{value_accepted}
 use Rattle.equations.proofs.WalkedUnits.{limit_kept, unit_clear, unit_made, unit_refused}
 use Rattle.equations.proofs.choices.walk_condition.Goals as goal
@@ -40,7 +40,7 @@ returns-in_ok-keep_limit-in-Err-clause-walks g c = λ all a.
     let made : Walked = record now { exprs = c.both_guards.new.exprs } in
     let here = subst (λ (w : Walked). Builds {R = Unit} (part x.unit (choice_nodes d (formula_at (arena w.exprs) c.args.guard) (view x.expr.now) x.otherwise) ∷ []) [] [] (standing w) (standing made) (Err c.in-Err.fault)) c.refuse.ensures.first (c.in-Err.ensures.builds now.list.items) in
     unit_made all x.unit (condition_refused d x.unit (view x.expr.now)) (choice_nodes d (formula_at (arena old.exprs) c.args.guard) (view x.expr.now) x.otherwise) [] [] c.in_ok-fault.fault old now made c.keep_limit.new.self (Err c.in-Err.fault)
-    (c.in_ok-fault.ensures d (ap entries_of (sym c.scope.ensures))) c.refuse.ensures.first (sym c.refuse.ensures.refused ∙ c.if-refuse.false) a refl refl here c.in_ok-keep_limit-in-Err.ensures
+    (c.in_ok-fault.ensures d (ap entries_of (sym c.scope.ensures))) c.refuse.ensures.first (sym c.refuse.ensures.refused ∙ c.if-refuse.false) a refl refl here c.in_ok-keep_limit-in-Err.ensures.kept
 
 pub returns-in_ok-keep_limit-in-Err-clause-guards : goal.returns-in_ok-keep_limit-in-Err-clause-guards
 returns-in_ok-keep_limit-in-Err-clause-guards g c =
@@ -49,6 +49,42 @@ returns-in_ok-keep_limit-in-Err-clause-guards g c =
     record {
       then_inside = inside;
       else_inside = inside;
-      then = λ e. absurd (limit_kept c.in-Err.fault made c.keep_limit.new.self c.in_ok-keep_limit-in-Err.ensures e);
-      otherwise = λ e o. absurd (limit_kept c.in-Err.fault made c.keep_limit.new.self c.in_ok-keep_limit-in-Err.ensures e);
+      then = λ e. absurd (limit_kept c.in-Err.fault made c.keep_limit.new.self c.in_ok-keep_limit-in-Err.ensures.kept e);
+      otherwise = λ e o. absurd (limit_kept c.in-Err.fault made c.keep_limit.new.self c.in_ok-keep_limit-in-Err.ensures.kept e);
     }
+
+pub returns-in_err-fault-clause-stands : goal.returns-in_err-fault-clause-stands
+returns-in_err-fault-clause-stands g c = stands_same [] [] c.args.out.now c.args.out.now refl
+
+pub returns-then-refuse-clause-stands : goal.returns-then-refuse-clause-stands
+returns-then-refuse-clause-stands g c = stands_same [] [] c.args.out.now c.refuse.new.self (ap standing c.refuse.ensures.first)
+
+pub returns-in-Ok-clause-stands : goal.returns-in-Ok-clause-stands
+returns-in-Ok-clause-stands g c =
+    let d = context_for g.D.Device.table c.args.scope.now in
+    let x = c.args.condition.now in
+    let old = c.args.out.now in
+    let now = c.refuse.new.self in
+    let made : Walked = record now { exprs = c.both_guards.new.exprs } in
+    let here = subst (λ (w : Walked). Builds {R = Unit} (part x.unit (choice_nodes d (formula_at (arena w.exprs) c.args.guard) (view x.expr.now) x.otherwise) ∷ []) [] [] (standing w) (standing made) (Ok tt)) c.refuse.ensures.first (c.in-Ok.ensures.builds now.list.items) in
+    stands_made {R = Unit} _ [] [] old made made (Ok tt) (none_so_far old.fault c.in_ok-fault.fault now (ap (λ (w : Walked). w.fault) c.refuse.ensures.first) (sym c.refuse.ensures.refused ∙ c.if-refuse.false)) here refl
+
+pub returns-in_err-keep_limit-in-Err-clause-stands : goal.returns-in_err-keep_limit-in-Err-clause-stands
+returns-in_err-keep_limit-in-Err-clause-stands g c =
+    let d = context_for g.D.Device.table c.args.scope.now in
+    let x = c.args.condition.now in
+    let old = c.args.out.now in
+    let now = c.refuse.new.self in
+    let made : Walked = record now { exprs = c.both_guards.new.exprs } in
+    let here = subst (λ (w : Walked). Builds {R = Unit} (part x.unit (choice_nodes d (formula_at (arena w.exprs) c.args.guard) (view x.expr.now) x.otherwise) ∷ []) [] [] (standing w) (standing made) (Err c.in-Err.fault)) c.refuse.ensures.first (c.in-Err.ensures.builds now.list.items) in
+    stands_made {R = Unit} _ [] [] old made c.keep_limit.new.self (Err c.in-Err.fault) (none_so_far old.fault c.in_ok-fault.fault now (ap (λ (w : Walked). w.fault) c.refuse.ensures.first) (sym c.refuse.ensures.refused ∙ c.if-refuse.false)) here c.keep_limit.ensures.stands
+
+pub returns-in_ok-keep_limit-in-Err-clause-stands : goal.returns-in_ok-keep_limit-in-Err-clause-stands
+returns-in_ok-keep_limit-in-Err-clause-stands g c =
+    let d = context_for g.D.Device.table c.args.scope.now in
+    let x = c.args.condition.now in
+    let old = c.args.out.now in
+    let now = c.refuse.new.self in
+    let made : Walked = record now { exprs = c.both_guards.new.exprs } in
+    let here = subst (λ (w : Walked). Builds {R = Unit} (part x.unit (choice_nodes d (formula_at (arena w.exprs) c.args.guard) (view x.expr.now) x.otherwise) ∷ []) [] [] (standing w) (standing made) (Err c.in-Err.fault)) c.refuse.ensures.first (c.in-Err.ensures.builds now.list.items) in
+    stands_made {R = Unit} _ [] [] old made c.keep_limit.new.self (Err c.in-Err.fault) (none_so_far old.fault c.in_ok-fault.fault now (ap (λ (w : Walked). w.fault) c.refuse.ensures.first) (sym c.refuse.ensures.refused ∙ c.if-refuse.false)) here c.keep_limit.ensures.stands
