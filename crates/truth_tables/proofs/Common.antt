@@ -65,12 +65,13 @@ pub use Rattle.section_targets.proofs.Looks.{next_of}
 pub use Rattle.section_targets.proofs.MetWords.{high_bit, low_bit}
 pub use Rattle.section_targets.proofs.OneUnit.{one_unit, two_parts}
 pub use Rattle.section_targets.proofs.OverNames.{found_in}
+pub use Rattle.section_targets.proofs.StandingFronts.{none_so_far, stands_less, stands_made, stands_same, stands_then}
 pub use Rattle.section_targets.proofs.WalksBehind.{both_clear, walks_alike, walks_made, walks_none, walks_then}
 pub use Rattle.section_targets.specs.Building.{AreBits, Builds, BuildsNodes, IsBit, IsBuilt, StopsWith}
 pub use Rattle.section_targets.specs.Given.{AreNamed, places_of}
 pub use Rattle.section_targets.specs.Manners.{AreFirsts, aims_refused, manner_of}
 pub use Rattle.section_targets.specs.Units.{CountedUnit, part, units_refused}
-pub use Rattle.section_targets.specs.Walking.{AfterMaking, Walks, standing}
+pub use Rattle.section_targets.specs.Walking.{AfterMaking, StillStands, Walks, standing}
 pub use Rattle.section_targets.specs.declared.aim.Aim.{Aim}
 pub use Rattle.section_targets.specs.declared.manner.Manner.{Manner}
 pub use Rattle.set_expr.proofs.FoundMembers.{front_more, whole_front}
@@ -95,7 +96,7 @@ pub use Rattle.set_expr.specs.declared.shaped.Shape.{Shape}
 pub use Rattle.truth_tables.specs.{AreClear, AreClearNames, AreClearParts, AreParts, AreSignals, GivesOutput, GivesPositions, HasInputs, HeaderFound, IsAdded}
 pub use Rattle.truth_tables.specs.{IsClear, IsClearMember, IsClearName, IsClearPair, IsClearPart, IsClearStand, IsDone, IsListed, IsMet, IsNumeral, IsOfKind}
 pub use Rattle.truth_tables.specs.{IsOperator, IsOver, IsPair, IsPart, IsPut, IsEntryRead, IsRow, IsSet, IsShapedTerm, IsStand, IsStep, IsUnrefused, LeadsBack}
-pub use Rattle.truth_tables.specs.{NamesOutputs, Opened, StandForInputs, Walked, Walking, WalksTable, WalksWork, Work, all_meet, all_name_positions}
+pub use Rattle.truth_tables.specs.{NamesOutputs, Opened, StandForInputs, Walked, Walking, StandsTable, WalksTable, StandsWork, WalksWork, Work, all_meet, all_name_positions}
 pub use Rattle.truth_tables.specs.{all_refused_inside, all_signs, any_holds_pulse, arrow_refused, assigned_by, before, behind, both_headers, both_sets}
 pub use Rattle.truth_tables.specs.{design_of, entry_refused, found_work, given_by, given_freely, given_output, headed_work, header_literals, header_name}
 pub use Rattle.truth_tables.specs.{header_of, header_range, header_refused, header_set, header_special, holds_pulse, if_none, inputs_nodes, inputs_term}

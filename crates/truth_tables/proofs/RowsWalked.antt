@@ -1,6 +1,6 @@
 -- Walks over the rows of a table, part by part.
 use Rattle.std.proofs.Common.{◌≡◌, Bool, true, false, Option, None, Some, List, [], ◌∷◌, ◌++◌, if◌then◌else◌, Result, Ok, Err, refl, sym, ap, subst, append-nil}
-use Rattle.truth_tables.proofs.Common.{is_some, OnOk, Vec, Place, ExprId, Formula, Names, earlier, first_refusal, is_before, SectionFault, section_order, Manner, context_for, AreFirsts, CountedUnit, units_refused, AfterMaking, Walks, standing, walks_alike, walks_made, walks_none, walks_then, whole, IsOver, WalksWork, nodes_left, units_behind, Work, before, given_freely, limit_kept, noted_refused}
+use Rattle.truth_tables.proofs.Common.{is_some, OnOk, Vec, Place, ExprId, Formula, Names, earlier, first_refusal, is_before, SectionFault, section_order, Manner, context_for, AreFirsts, CountedUnit, units_refused, AfterMaking, Walks, standing, walks_alike, walks_made, walks_none, walks_then, whole, IsOver, StillStands, StandsWork, WalksWork, stands_less, stands_made, stands_same, stands_then, nodes_left, units_behind, Work, before, given_freely, limit_kept, noted_refused}
 use Rattle.pld_device.specs.Table as device
 use Rattle.abel_meaning.specs.Contributions as meant
 use Rattle.section_targets.specs.declared.walked.Walked.{Walked}
@@ -53,6 +53,21 @@ work_made w old made new r o m e b h k = λ all a.
     walks_made all [] w.units w.gives w.places old made new r o m e
     (subst (λ ms. AreFirsts ms (all ++ [])) (sym b) (subst (AreFirsts old.before) (sym (append-nil all)) a)) h k
 
+-- what stands after works one after another, and where the walk ends at the first
+pub stands_before : (v w : Work) (old mid new : Walked) → WalksWork v old mid → StandsWork v old mid → StandsWork w mid new → StandsWork (before v w) old new
+stands_before v w old mid new a b c =
+    stands_then old.before [] v.units v.gives w.gives v.places w.places old mid new (a old.before (λ s p. refl)) b c
+
+pub stands_first : (v w : Work) (old new : Walked) → StandsWork v old new → StandsWork (before v w) old new
+stands_first v w old new s = stands_less v.gives w.gives v.places w.places old new s
+
+-- what is checked alone
+pub stands_still : (w : Work) (old new : Walked) → standing new ≡ standing old → StandsWork w old new
+stands_still w old new e = stands_same w.gives w.places old new e
+
+pub stands_done : (w : Work) (old made new : Walked) (r : Result Unit SectionFault) → old.fault ≡ None → DoesWork w (standing old) (standing made) r → standing new ≡ standing made → StandsWork w old new
+stands_done w old made new r o b e = stands_made w.units w.gives w.places old made new r o b e
+
 -- making a unit changes nothing behind it but what is refused
 pub after_exprs : (r : Result Unit SectionFault) (made new : Walked) → AfterMaking r made new → new.exprs ≡ made.exprs
 after_exprs (Ok t) made new k = ap (λ (w : Walked). w.exprs) k
@@ -81,3 +96,6 @@ header_stands all ms before (r ∷ rs) p us gs ps fault old new e k s a = noted_
 pub header_noted : (all ms firsts : List Manner) (us : List CountedUnit) (gs : List (meant.Contribution Formula)) (ps : List Place) (old new : Walked) → Walks (all ++ ms) us gs ps [] (record old { before = firsts }) new → Walks all us gs ps ms old new
 header_noted all ms firsts us gs ps old new w =
     record { keeps = w.keeps; fault = w.fault; manners = subst (AreFirsts new.before) (append-nil (all ++ ms)) w.manners; given = w.given }
+
+pub header_still : (gs : List (meant.Contribution Formula)) (ps : List Place) (firsts : List Manner) (old new : Walked) → StillStands gs ps (record old { before = firsts }) new → StillStands gs ps old new
+header_still gs ps firsts old new s = record { front = s.front; stays = s.stays }

@@ -31,7 +31,7 @@ pub use Rattle.section_targets.specs.Building.{Builds, BuildsNodes, IsBit, IsBui
 pub use Rattle.section_targets.specs.Given.{AreNamed}
 pub use Rattle.section_targets.specs.Manners.{AreFirsts, aims_refused, manner_of}
 pub use Rattle.section_targets.specs.Units.{CountedUnit, part}
-pub use Rattle.section_targets.specs.Walking.{Walks}
+pub use Rattle.section_targets.specs.Walking.{StillStands, Walks}
 pub use Rattle.section_targets.specs.declared.aim.Aim.{Aim}
 pub use Rattle.section_targets.specs.declared.manner.Manner.{Manner}
 pub use Rattle.section_targets.specs.declared.walked.Walked.{Walked}

@@ -9,7 +9,7 @@ use Rattle.truth_tables.specs.TableUnits.{row_places, row_refused, row_units, ro
 use Rattle.section_targets.specs.Given.{places_of}
 use Rattle.truth_tables.specs.declared.checked_rows.RowFound.{RowFound}
 use Rattle.truth_tables.specs.Gives.{signals_of}
-use Rattle.truth_tables.specs.Works.{Work, before, given_freely}
+use Rattle.truth_tables.specs.Works.{StandsWork, Work, before, given_freely}
 use Rattle.pld_device.specs.Table as device
 use Rattle.abel_tree.specs.declared.tables.Row.{Row}
 use Rattle.truth_tables.specs.declared.rows.Headed.{Headed}
@@ -165,3 +165,11 @@ headed_work v h out =
 
 abbrev pub WalksHeaded : {D : Type 0} → device.Table → Headed D → (old new : Walked) → Type 0
 WalksHeaded v h old new = WalksWork (headed_work v h old) old new
+
+-- what stands after a row, and after a table behind its header, whatever the answer
+abbrev pub StandsRow : {D : Type 0} → device.Table → Headed D → Row → (old new : Walked) → Type 0
+StandsRow v h row old new =
+    StandsWork (row_work (design_of v h) (view_guard (arena old.exprs) h.guard) h.table.now h.outputs.now 0 (view_row row)) old new
+
+abbrev pub StandsHeaded : {D : Type 0} → device.Table → Headed D → (old new : Walked) → Type 0
+StandsHeaded v h old new = StandsWork (headed_work v h old) old new

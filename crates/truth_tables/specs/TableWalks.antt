@@ -1,6 +1,6 @@
 -- What a walk over a truth table leaves (ABEL-HDL Reference Manual, truth tables).
 use Rattle.std.specs.Prelude.{List, map}
-use Rattle.truth_tables.specs.Prelude.{Place, arena, Formula, Names, Table, view, view_row, Context, formulas, table_gives, term_of, Guard, view_guard, Manner, Walked, context_for, AreFirsts, CountedUnit, Walks}
+use Rattle.truth_tables.specs.Prelude.{Place, arena, Formula, Names, Table, view, view_row, Context, formulas, table_gives, term_of, Guard, view_guard, Manner, Walked, context_for, AreFirsts, CountedUnit, StillStands, Walks}
 use Rattle.pld_device.specs.Table as device
 use Rattle.abel_meaning.specs.Contributions as meant
 use Rattle.truth_tables.specs.OutputHeaders.{output_header}
@@ -26,3 +26,8 @@ WalksTable v n g t old new =
     (all : List Manner) → AreFirsts old.before all
     → Walks all (units_of (context_for v n) all t) (given_by (context_for v n) g t (arena old.exprs)) (places_by (context_for v n) t)
     (assigned_by t.clocked (output_header (context_for v n) (view t.outputs))) old new
+
+-- what stands after a table, whatever the answer
+abbrev pub StandsTable : device.Table → Names → Guard → Table → (old new : Walked) → Type 0
+StandsTable v n g t old new =
+    StillStands (given_by (context_for v n) g t (arena old.exprs)) (places_by (context_for v n) t) old new

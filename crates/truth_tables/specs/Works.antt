@@ -1,6 +1,6 @@
 -- Private: units with what they give, and what is left by building them (this project's rule).
 use Rattle.std.specs.Prelude.{List, [], ◌++◌}
-use Rattle.truth_tables.specs.Prelude.{Place, Formula, IsBuilt, CountedUnit}
+use Rattle.truth_tables.specs.Prelude.{Place, Formula, IsBuilt, CountedUnit, StillStands, Walked}
 use Rattle.abel_meaning.specs.Contributions as meant
 use Rattle.set_expr.specs.declared.contributions.Contributions.{Contributions}
 
@@ -23,3 +23,7 @@ given_freely gs ps = record { units = []; gives = gs; places = ps }
 
 abbrev pub IsDone : Work → (old new : Contributions) → Type 0
 IsDone w old new = IsBuilt w.units w.gives w.places old new
+
+-- what stands after a walk over a work, whatever the answer
+abbrev pub StandsWork : Work → (old new : Walked) → Type 0
+StandsWork w old new = StillStands w.gives w.places old new

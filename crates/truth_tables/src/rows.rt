@@ -2,7 +2,7 @@
 
 ghost use Rattle.std.specs.Prelude.{◌≡◌, true, None, Some, ℕ, [], ◌∷◌, length, IfOk, OnOk};
 ghost use Rattle.truth_tables.specs.Prelude.{is_some, arena, AreIn, Keeps, BuildsNodes, part};
-ghost use Rattle.truth_tables.specs.{GivesRow, HasInputs, IsHeaderAccepted, WalksRow, nodes_left};
+ghost use Rattle.truth_tables.specs.{GivesRow, HasInputs, IsHeaderAccepted, StandsRow, WalksRow, nodes_left};
 
 use crate::checked_rows::{RowFound, read_row};
 use crate::giving::{Assigning, Matching, give_positions};
@@ -97,6 +97,7 @@ pub(crate) fn walk_row<D: Device>(
     requires inputs { HasInputs D.table headed.now inputs.old out.old.exprs }
     ensures walks { OnOk result ((n : ℕ) → (out.old.fault ≡ None → n ≡ nodes_left D.table headed.now inputs.old)
         → WalksRow D.table headed.now n row.now out.old out.new) }
+    ensures stands { StandsRow D.table headed.now row.now out.old out.new }
     ensures inputs { OnOk result (HasInputs D.table headed.now inputs.new out.new.exprs) }
     ensures made { OnOk result (out.new.fault ≡ None → is_some inputs.new ≡ true) }
 {

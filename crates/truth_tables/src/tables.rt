@@ -2,7 +2,7 @@
 
 ghost use Rattle.std.specs.Prelude.{◌≡◌, List, [], ◌++◌, if◌then◌else◌, IfOk, OnOk};
 ghost use Rattle.truth_tables.specs.Prelude.{is_some, view, Context, IsContextOf, Manner, AreFirsts};
-ghost use Rattle.truth_tables.specs.{output_header, assigned_by, some_aims, IsHeaderAccepted, IsWholeHeader, WalksHeaded, WalksTable};
+ghost use Rattle.truth_tables.specs.{output_header, assigned_by, some_aims, IsHeaderAccepted, IsWholeHeader, StandsHeaded, StandsTable, WalksHeaded, WalksTable};
 
 use crate::giving::{Assigning, give_no_matches};
 use crate::headings::push_outputs;
@@ -78,7 +78,8 @@ fn walk_headed<D: Device>(
     out: &mut Walked,
 ) -> Result<(), OutOfMemory>
     requires accepted { IsHeaderAccepted D.table headed.now }
-    ensures { OnOk result (WalksHeaded D.table headed.now out.old out.new) }
+    ensures walks { OnOk result (WalksHeaded D.table headed.now out.old out.new) }
+    ensures stands { StandsHeaded D.table headed.now out.old out.new }
 {
     if out.fault.is_none() {
         let assigning = Assigning {
@@ -113,7 +114,8 @@ pub fn walk_table<D: Device>(
     table: &Table,
     out: &mut Walked,
 ) -> Result<(), OutOfMemory>
-    ensures { OnOk result (WalksTable D.table scope.now guard table.now out.old out.new) }
+    ensures walks { OnOk result (WalksTable D.table scope.now guard table.now out.old out.new) }
+    ensures stands { StandsTable D.table scope.now guard table.now out.old out.new }
 {
     let names = scope.scope();
     let header = read_header::<D>(alloc, names, table, &mut out.before)?;

@@ -1,15 +1,15 @@
 -- A table whose header is refused, and one whose header isn't.
 use Rattle.std.proofs.Common.{◌++◌, map, refl, sym, ap, ◌∙◌, subst}
-use Rattle.truth_tables.proofs.Common.{is_some, on_ok_weaker, arena, Names, view, view_row, table_units, term_of, context_for, Walks, is_context, same_context, value_accepted, output_header, assigned_by, header_refused, row_units, WalksTable, given_by, places_by}
+use Rattle.truth_tables.proofs.Common.{is_some, on_ok_weaker, arena, Names, view, view_row, table_units, term_of, context_for, standing, StillStands, Walks, stands_same, is_context, same_context, value_accepted, output_header, assigned_by, header_refused, row_units, WalksTable, given_by, places_by}
 use Rattle.section_targets.specs.declared.walked.Walked.{Walked}
 use Rattle.truth_tables.proofs.OutputPositions.{outputs_inside}
-use Rattle.truth_tables.proofs.RowsWalked.{header_noted, header_stands, is_over, some_refused}
+use Rattle.truth_tables.proofs.RowsWalked.{header_noted, header_stands, header_still, is_over, some_refused}
 use Rattle.truth_tables.proofs.ClearHeaders.{outputs_unrefused}
 use Rattle.truth_tables.proofs.RowWorks.{inputs_clear, outputs_clear, outputs_named, table_works}
 use Rattle.truth_tables.proofs.tables.walk_table.Goals as goal
 
-pub returns-in-Some : goal.returns-in-Some
-returns-in-Some g c =
+pub returns-in-Some-clause-walks : goal.returns-in-Some-clause-walks
+returns-in-Some-clause-walks g c =
     let v = g.D.Device.table in
     let n = c.scope-names.result.now in
     let d = context_for v n in
@@ -43,8 +43,8 @@ walk_headed-requires g c =
       };
     }
 
-pub returns : goal.returns
-returns g c =
+pub returns-clause-walks : goal.returns-clause-walks
+returns-clause-walks g c =
     on_ok_weaker c.walk_headed.result
     (λ k.
     let n = c.args.scope.now in
@@ -61,4 +61,25 @@ returns g c =
     table_works (λ us gs ps. Walks all us gs ps ms old c.walk_headed.new.out) d all (arena old.exprs) c.args.guard t xs (outputs_named d all t xs outputs clear) outputs clear
     (header_noted all ms c.read_header.new.before _ _ _ old c.walk_headed.new.out
     (k (all ++ ms) (c.in_ok-header.ensures.before d all (same_context v c.scope-names.result.now n c.scope-names.ensures) a))))
-    c.walk_headed.ensures
+    c.walk_headed.ensures.walks
+
+pub returns-in_err-header-clause-stands : goal.returns-in_err-header-clause-stands
+returns-in_err-header-clause-stands g c = stands_same _ _ c.args.out.now _ refl
+
+pub returns-in-Some-clause-stands : goal.returns-in-Some-clause-stands
+returns-in-Some-clause-stands g c = stands_same _ _ c.args.out.now c.refuse.new.self (ap standing c.refuse.ensures.first)
+
+pub returns-clause-stands : goal.returns-clause-stands
+returns-clause-stands g c =
+    let n = c.args.scope.now in
+    let v = g.D.Device.table in
+    let d = context_for v n in
+    let t = c.args.table.now in
+    let old = c.args.out.now in
+    let all = old.before in
+    let xs = c.as_slice.result.now in
+    let header = c.in_ok-header.ensures.header d all (same_context v c.scope-names.result.now n c.scope-names.ensures) (λ s p. refl) in
+    let outputs = c.as_slice.ensures ∙ header.outputs in
+    let clear = sym c.in-None.is ∙ header.fault in
+    table_works (λ us gs ps. StillStands gs ps old c.walk_headed.new.out) d all (arena old.exprs) c.args.guard t xs (outputs_named d all t xs outputs clear) outputs clear
+    (header_still _ _ c.read_header.new.before old c.walk_headed.new.out c.walk_headed.ensures.stands)
