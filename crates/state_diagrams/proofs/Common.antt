@@ -47,13 +47,14 @@ pub use Rattle.equations.proofs.BuiltUnits.{at, guard_kept, guard_view}
 pub use Rattle.equations.proofs.WalkedUnits.{limit_kept, unit_clear, unit_made, unit_refused}
 pub use Rattle.equations.specs.Checks.{view_list}
 pub use Rattle.equations.specs.StatementUnits.{condition_refused, statements_manners, statements_places, units_of_statements, unless_any}
-pub use Rattle.equations.specs.StatementWalks.{AreBothGuards, WalksCondition, WalksStatements}
+pub use Rattle.equations.specs.StatementWalks.{AreBothGuards, StandsStatements, WalksCondition, WalksStatements}
 pub use Rattle.pld_base.specs.declared.place.Place.{Place}
 pub use Rattle.pld_device.specs.Table.{Table}
 pub use Rattle.section_targets.proofs.Built.{builds_none, builds_stop, builds_then, keeps_on, kept_formula, kept_inside, left_empty, right_empty}
 pub use Rattle.section_targets.proofs.MetWords.{high_bit}
 pub use Rattle.section_targets.proofs.OneUnit.{AreParts, one_unit, two_parts}
 pub use Rattle.section_targets.proofs.Parts.{built_nodes, leaves_nodes, limit_here}
+pub use Rattle.section_targets.proofs.StandingFronts.{none_so_far, stands_less, stands_made, stands_same, stands_then, stands_whole}
 pub use Rattle.section_targets.proofs.WalksBehind.{clear_before, walks_alike, walks_made, walks_none, walks_refused, walks_then}
 pub use Rattle.section_targets.specs.Building.{AreBits, Builds, BuildsNodes, IsBit, IsBuilt, NoMemory, StopsWith}
 pub use Rattle.section_targets.specs.Given.{AreIn, AreNamed, places_of}
@@ -61,7 +62,7 @@ pub use Rattle.section_targets.specs.Manners.{AreFirsts, aims_refused, manner_of
 pub use Rattle.section_targets.specs.TargetSignals.{TargetFound, target_member}
 pub use Rattle.section_targets.specs.Units.{CountedUnit, part, units_nodes, units_refused}
 pub use Rattle.section_targets.specs.ValueWidths.{value_refused, value_width}
-pub use Rattle.section_targets.specs.Walking.{AfterMaking, Walks, standing}
+pub use Rattle.section_targets.specs.Walking.{AfterMaking, StillStands, Walks, standing}
 pub use Rattle.section_targets.specs.declared.aim.Aim.{Aim}
 pub use Rattle.section_targets.specs.declared.manner.Manner.{Manner}
 pub use Rattle.section_targets.specs.declared.walked.Walked.{Walked}
@@ -77,7 +78,7 @@ pub use Rattle.set_expr.specs.declared.contributions.Guard.{Guard}
 pub use Rattle.set_expr.specs.declared.fault.SectionFault.{SectionFault}
 pub use Rattle.truth_tables.proofs.RowsWalked.{no_fault, not_clear, some_refused}
 pub use Rattle.truth_tables.proofs.WorkLaws.{AfterStep, DoesWork, IsLeft, left_done, left_step}
-pub use Rattle.truth_tables.specs.Works.{IsDone, Work, before}
+pub use Rattle.truth_tables.specs.Works.{IsDone, StandsWork, Work, before}
 pub use Rattle.state_diagrams.specs.{AreRegisters, BuildsConditions, IsState, MakesBit, StandsFor, WalksBranch, WalksBranches, WalksChoices, WalksConditions}
 pub use Rattle.state_diagrams.specs.{WalksStates, WalksUnder, WalksUnit, WalksValue, WalksWithin, WalksWork, aims_places, all_zero, arm_guards, bare_read}
 pub use Rattle.state_diagrams.specs.{branch_manners, branch_work, branches_manners, branches_work, case_arms, case_choices, case_place, case_unit}
@@ -90,3 +91,4 @@ pub use Rattle.state_diagrams.specs.{state_bits, state_guard, state_manners, sta
 pub use Rattle.state_diagrams.specs.{states_work, units_behind, units_of, units_of_diagram, units_of_other, units_of_states, units_within, view_arms}
 pub use Rattle.state_diagrams.specs.{view_choices, view_goal, view_if, where_holds, within_work}
 pub use Rattle.state_diagrams.specs.declared.machine.Machine.{Machine}
+pub use Rattle.state_diagrams.specs.{StandsBlock, StandsBranch, StandsBranches, StandsChoices, StandsDiagram, StandsHeader, StandsOthers, StandsStates, StandsUnder, StandsValue, WalksBlock}

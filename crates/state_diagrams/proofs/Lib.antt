@@ -7,6 +7,7 @@ pub mod GuardsOfStates
 pub mod MatchLaws
 pub mod NumberLaws
 pub mod StateBits
+pub mod StandingParts
 pub mod StateLaws
 pub mod WalkedBranches
 pub mod WalkedDiagrams

@@ -1,6 +1,6 @@
 -- What is refused of registers and of the values of states, and walks over states.
 use Rattle.std.proofs.Common.{◌≡◌, ℕ, true, false, Option, None, Some, List, [], ◌∷◌, ◌++◌, refl, ap, ◌≤◌, length, map, sym, ◌∙◌, subst, append-nil, ◌<◌, subst₂}
-use Rattle.state_diagrams.proofs.Common.{Tree, StateTree, none_refused, Context, known_of, SectionFault, section_order, Manner, manners_behind, register_manners, if_none, listed_after, listed_with, state_number, state_refused, listed_if, Aim, AreNamed, aims_refused, manner_of, TargetFound, target_member, unless_any, AreRegisters, is_some, not_clear, Table, ExprId, arena, formula_at, Formula, statements_of, state_gives, formulas, term_of, Guard, view_guard, Walked, IsBit, walks_then, statements_manners, WalksStatements, Machine, state_places, branches_manners, signals_of, state_guard, state_manners, states_manners, units_within, WalksBranches, WalksStates, WalksUnit, WalksWithin, WalksWork, context_of_machine, state_unit, branches_work, state_bit, state_work, states_work, where_holds, within_work, Work}
+use Rattle.state_diagrams.proofs.Common.{Tree, StateTree, none_refused, Context, known_of, SectionFault, section_order, Manner, manners_behind, register_manners, if_none, listed_after, listed_with, state_number, state_refused, listed_if, Aim, AreNamed, aims_refused, manner_of, TargetFound, target_member, unless_any, AreRegisters, is_some, not_clear, Table, ExprId, arena, formula_at, Formula, statements_of, state_gives, formulas, term_of, Guard, view_guard, Walked, IsBit, walks_then, statements_manners, WalksStatements, Machine, state_places, branches_manners, signals_of, state_guard, state_manners, states_manners, units_within, WalksBlock, WalksBranches, WalksStates, WalksUnit, WalksWithin, WalksWork, context_of_machine, state_unit, branches_work, state_bit, state_work, states_work, where_holds, within_work, Work}
 use Rattle.state_diagrams.proofs.GuardLaws.{first}
 use Rattle.section_targets.specs.declared.sides.Side.{Side}
 use Rattle.section_targets.specs.NamedTargets.{IsSide}
@@ -100,8 +100,23 @@ inside_work d h xs all s n f =
       places = state_places d xs s;
     }
 
-guard_is : (fs : List Formula) (g : Guard) (h : meant.Guard Formula) (f : Formula) → formula_at fs g.when ≡ f → h.dontcare ≡ g.dontcare → h.block ≡ g.block → view_guard fs g ≡ where_holds h f
+pub guard_is : (fs : List Formula) (g : Guard) (h : meant.Guard Formula) (f : Formula) → formula_at fs g.when ≡ f → h.dontcare ≡ g.dontcare → h.block ≡ g.block → view_guard fs g ≡ where_holds h f
 guard_is fs g h f e p q = rw (e, p, q) refl
+
+-- a state under its own guard
+pub state_walk : {D : Type 0} (t : Table) (m : Machine D) (g : Guard) (listed : List ℕ) (s : StateTree) (id : ExprId) (old mid far : Walked)
+    → WalksUnit t m listed s old mid → (mid.fault ≡ None → IsBit (arena mid.exprs) id (state_bit (context_of_machine t m) m.registers.now s)) → WalksWithin t m (record g { when = id }) s mid far
+    → WalksBlock g (λ h all. state_work (context_of_machine t m) h m.registers.now all listed s) (state_manners (context_of_machine t m) s) old far
+state_walk t m g listed s id old mid far unit bit within = λ h p q all a.
+    let d = context_of_machine t m in
+    let xs = m.registers.now in
+    let sig = signals_of xs in
+    let f = (state_guard d sig s.value).what in
+    let inside : Guard = record g { when = id } in
+    let u = unit all a in
+    let v = within (where_holds h f) (λ o. guard_is (arena mid.exprs) inside h f ((bit o).1 ∙ sym (guard_is_state d sig (term_of d.known s.value))) p q) all (still_firsts all mid u.manners) in
+    let held = subst₂ (λ (n : ℕ) (x : Formula). WalksWork all (inside_work d h xs all s n x) (state_manners d s) mid far) (sized xs) (guard_is_state d sig (term_of d.known s.value)) v in
+    unit_then all (state_manners d s) (record { units = state_unit d sig listed s ∷ []; gives = []; places = [] }) (inside_work d h xs all s (length sig) (state_bit d xs s)) old mid far u held
 
 -- a state before others
 pub states_walk : {D : Type 0} (t : Table) (m : Machine D) (g : Guard) (listed : List ℕ) (s : StateTree) (states : List StateTree) (id : ExprId) (old mid far new : Walked)
@@ -110,13 +125,7 @@ pub states_walk : {D : Type 0} (t : Table) (m : Machine D) (g : Guard) (listed :
 states_walk t m g listed s states id old mid far new unit bit within later = λ h p q all a.
     let d = context_of_machine t m in
     let xs = m.registers.now in
-    let f = (state_guard d (signals_of xs) s.value).what in
-    let inside : Guard = record g { when = id } in
-    let u = unit all a in
-    let v = within (where_holds h f) (λ o. guard_is (arena mid.exprs) inside h f ((bit o).1 ∙ sym (guard_is_state d (signals_of xs) (term_of d.known s.value))) p q) all (still_firsts all mid u.manners) in
-    let sig = signals_of xs in
-    let held = subst₂ (λ (n : ℕ) (x : Formula). WalksWork all (inside_work d h xs all s n x) (state_manners d s) mid far) (sized xs) (guard_is_state d sig (term_of d.known s.value)) v in
-    let one = unit_then all (state_manners d s) (record { units = state_unit d sig listed s ∷ []; gives = []; places = [] }) (inside_work d h xs all s (length sig) (state_bit d xs s)) old mid far u held in
+    let one = state_walk t m g listed s id old mid far unit bit within h p q all a in
     let after = listed_after d (length (signals_of xs)) listed s in
     let w = state_work d h xs all listed s in
     let ws = states_work d h xs (all ++ state_manners d s) after states in

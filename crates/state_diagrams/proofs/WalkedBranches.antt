@@ -10,7 +10,7 @@ use Rattle.state_diagrams.proofs.GuardLaws.{Choice, if_parts}
 -- ---- goals
 
 -- a unit that gives nothing
-abbrev unit_work : CountedUnit → Work
+abbrev pub unit_work : CountedUnit → Work
 unit_work u = record { units = u ∷ []; gives = []; places = [] }
 
 -- the statements of a WITH of the code
@@ -63,7 +63,7 @@ parts_walk t m g gs p c b o old mid far new a guards x y = λ h e all f.
     unit_then all (branch_manners d (AnIf p c b o)) (own h all) (before one other) old mid new unit
     (walks_then all (branch_manners d b) (other_manners d o) one.units other.units one.gives other.gives one.places other.places mid far new v (other_walk t m else j o (all ++ branch_manners d b) far new stands v.manners y))
 
-other_there : (o : Option Arm) → is_some o ≡ has_other (other_of (option_map view_arm o))
+pub other_there : (o : Option Arm) → is_some o ≡ has_other (other_of (option_map view_arm o))
 other_there None = refl
 other_there (Some a) = refl
 

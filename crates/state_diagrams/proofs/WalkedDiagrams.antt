@@ -79,7 +79,7 @@ header_there d h xs outputs old new r e b =
     (ap (λ ys. places_of (tables.some_aims ys)) e ∙ header_places xs) b
 
 -- registers of which nothing is refused are those of their term
-registers_clear : (rs more : List SectionFault) → if_none rs more ≡ [] → rs ≡ []
+pub registers_clear : (rs more : List SectionFault) → if_none rs more ≡ [] → rs ≡ []
 registers_clear [] more e = refl
 registers_clear (r ∷ rs) more e = absurd cc
 
@@ -87,7 +87,7 @@ some_positions : (xs : List Aim) → some_signals (positions_of xs) ≡ signals_
 some_positions [] = refl
 some_positions (x ∷ xs) = ap (λ ss. x.signal ∷ ss) (some_positions xs)
 
-register_signals : (d : Context) (t : Tree) → (target_member d t).refusals ≡ [] → some_signals (targets_of (term_of d.known t)) ≡ signals_of (target_member d t).aims
+pub register_signals : (d : Context) (t : Tree) → (target_member d t).refusals ≡ [] → some_signals (targets_of (term_of d.known t)) ≡ signals_of (target_member d t).aims
 register_signals d t e = ap some_signals (member_positions d t e) ∙ some_positions (target_member d t).aims
 
 -- ---- diagrams

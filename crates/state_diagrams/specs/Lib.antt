@@ -1,6 +1,7 @@
 pub mod ArmGuards
 pub mod Arms
 pub mod DiagramPlaces
+pub mod DiagramStands
 pub mod DiagramUnits
 pub mod DiagramWalks
 pub mod DiagramWorks
@@ -14,6 +15,7 @@ pub mod StateValues
 unfoldable pub use ArmGuards.*
 unfoldable pub use Arms.*
 unfoldable pub use DiagramPlaces.*
+unfoldable pub use DiagramStands.*
 unfoldable pub use DiagramUnits.*
 unfoldable pub use DiagramWalks.*
 unfoldable pub use DiagramWorks.*

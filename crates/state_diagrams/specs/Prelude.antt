@@ -33,6 +33,7 @@ pub use Rattle.section_targets.specs.Manners.{AreFirsts, aims_refused, manner_of
 pub use Rattle.section_targets.specs.TargetSignals.{TargetFound, target_member}
 pub use Rattle.section_targets.specs.Units.{CountedUnit, part}
 pub use Rattle.section_targets.specs.ValueWidths.{value_refused}
+pub use Rattle.section_targets.specs.Walking.{StillStands}
 pub use Rattle.section_targets.specs.declared.aim.Aim.{Aim}
 pub use Rattle.section_targets.specs.declared.manner.Manner.{Manner}
 pub use Rattle.section_targets.specs.declared.walked.Walked.{Walked}

@@ -2,7 +2,7 @@
 
 ghost use Rattle.std.specs.Prelude.{◌<◌, length, OnOk};
 ghost use Rattle.state_diagrams.specs.Prelude.{arena, entries_of, ACase, view_arm, AreNamed};
-ghost use Rattle.state_diagrams.specs.{case_choices, case_place, view_goal, view_if, view_arms, WalksBranch, WalksBranches};
+ghost use Rattle.state_diagrams.specs.{case_choices, case_place, view_goal, view_if, view_arms, StandsBranch, StandsBranches, WalksBranch, WalksBranches};
 
 use crate::choices::{under_arm, walk_conditions};
 use crate::goals::walk_value;
@@ -25,7 +25,8 @@ fn walk_goal<D: Device>(
 ) -> Result<(), OutOfMemory>
     requires signals { AreNamed (length (entries_of machine.now.scope.now)) machine.now.registers.now }
     requires guard { guard.when.0 < length (arena out.old.exprs) }
-    ensures { OnOk result (WalksBranch D.table machine.now guard (view_goal goal.now) out.old out.new) }
+    ensures walks { OnOk result (WalksBranch D.table machine.now guard (view_goal goal.now) out.old out.new) }
+    ensures stands { StandsBranch D.table machine.now guard (view_goal goal.now) out.old out.new }
 {
     walk_value::<D>(alloc, machine, guard, goal, out)?;
     match &goal.with {
@@ -45,7 +46,8 @@ fn walk_if<D: Device>(
 ) -> Result<(), OutOfMemory>
     requires signals { AreNamed (length (entries_of machine.now.scope.now)) machine.now.registers.now }
     requires guard { guard.when.0 < length (arena out.old.exprs) }
-    ensures { OnOk result (WalksBranch D.table machine.now guard (view_if choice.now) out.old out.new) }
+    ensures walks { OnOk result (WalksBranch D.table machine.now guard (view_if choice.now) out.old out.new) }
+    ensures stands { StandsBranch D.table machine.now guard (view_if choice.now) out.old out.new }
 {
     let condition = Condition {
         unit: choice.place,
@@ -81,7 +83,8 @@ fn walk_case<D: Device>(
 ) -> Result<(), OutOfMemory>
     requires signals { AreNamed (length (entries_of machine.now.scope.now)) machine.now.registers.now }
     requires guard { guard.when.0 < length (arena out.old.exprs) }
-    ensures { OnOk result (WalksBranch D.table machine.now guard (ACase (case_place case.now) (case_choices case.now)) out.old out.new) }
+    ensures walks { OnOk result (WalksBranch D.table machine.now guard (ACase (case_place case.now) (case_choices case.now)) out.old out.new) }
+    ensures stands { StandsBranch D.table machine.now guard (ACase (case_place case.now) (case_choices case.now)) out.old out.new }
 {
     let bits = walk_conditions::<D>(alloc, machine.scope, guard.when, case, out)?;
     let arms = case.arms.as_slice();
@@ -104,7 +107,8 @@ fn walk_arm<D: Device>(
 ) -> Result<(), OutOfMemory>
     requires signals { AreNamed (length (entries_of machine.now.scope.now)) machine.now.registers.now }
     requires guard { guard.when.0 < length (arena out.old.exprs) }
-    ensures { OnOk result (WalksBranch D.table machine.now guard (view_arm arm.now) out.old out.new) }
+    ensures walks { OnOk result (WalksBranch D.table machine.now guard (view_arm arm.now) out.old out.new) }
+    ensures stands { StandsBranch D.table machine.now guard (view_arm arm.now) out.old out.new }
 {
     match arm {
         Arm::Goal(goal) => walk_goal::<D>(alloc, machine, guard, goal, out),
@@ -123,7 +127,8 @@ pub(crate) fn walk_arms<D: Device>(
 ) -> Result<(), OutOfMemory>
     requires signals { AreNamed (length (entries_of machine.now.scope.now)) machine.now.registers.now }
     requires guard { guard.when.0 < length (arena out.old.exprs) }
-    ensures { OnOk result (WalksBranches D.table machine.now guard (view_arms arms.now) out.old out.new) }
+    ensures walks { OnOk result (WalksBranches D.table machine.now guard (view_arms arms.now) out.old out.new) }
+    ensures stands { StandsBranches D.table machine.now guard (view_arms arms.now) out.old out.new }
 {
     for arm in arms {
         walk_arm::<D>(alloc, machine, guard, arm, out)?;

@@ -1,7 +1,7 @@
 //! The conditions of CASE, and the guards of its arms.
 
-ghost use Rattle.std.specs.Prelude.{◌≡◌, ◌<◌, ℕ, None, get_or, length, IfOk};
-ghost use Rattle.state_diagrams.specs.Prelude.{arena, formula_at, first_refusal, section_order, context_for, AreBits, AreIn};
+ghost use Rattle.std.specs.Prelude.{◌≡◌, ◌<◌, ℕ, None, [], get_or, length, IfOk};
+ghost use Rattle.state_diagrams.specs.Prelude.{arena, formula_at, first_refusal, section_order, context_for, AreBits, AreIn, StillStands};
 ghost use Rattle.state_diagrams.specs.{case_arms, case_choices, case_place, arm_guards, AreClear, MakesGuards, choices_refused, WalksConditions};
 
 use abel_tree::{Case, earlier};
@@ -65,6 +65,7 @@ pub(crate) fn walk_conditions<D: Device>(
 ) -> Result<Vec<ExprId>, OutOfMemory>
     requires guard { guard.0 < length (arena out.old.exprs) }
     ensures walks { IfOk result (λ ids. WalksConditions D.table scope.now guard (case_place case.now) (case_choices case.now) out.old out.new) }
+    ensures stands { StillStands [] [] out.old out.new }
     ensures inside { IfOk result (λ ids. AreIn (length (arena out.new.exprs)) ids.items) }
     ensures guards { IfOk result (λ ids. out.new.fault ≡ None → AreBits (arena out.new.exprs) ids.items (arm_guards (context_for D.table scope.now) (formula_at (arena out.old.exprs) guard) (case_arms case.now))) }
 {

@@ -2,7 +2,7 @@
 
 ghost use Rattle.std.specs.Prelude.{◌≡◌, ◌<◌, None, length, OnOk};
 ghost use Rattle.state_diagrams.specs.Prelude.{arena, entries_of, view, Keeps, refusal_of, AreNamed};
-ghost use Rattle.state_diagrams.specs.{GivesRegister, GivesGoal, WalksValue};
+ghost use Rattle.state_diagrams.specs.{GivesRegister, GivesGoal, StandsValue, WalksValue};
 
 use crate::machine::Machine;
 use abel_tree::Goal;
@@ -103,7 +103,8 @@ pub(crate) fn walk_value<D: Device>(
 ) -> Result<(), OutOfMemory>
     requires signals { AreNamed (length (entries_of machine.now.scope.now)) machine.now.registers.now }
     requires guard { guard.when.0 < length (arena out.old.exprs) }
-    ensures { OnOk result (WalksValue D.table machine.now guard goal.now out.old out.new) }
+    ensures walks { OnOk result (WalksValue D.table machine.now guard goal.now out.old out.new) }
+    ensures stands { StandsValue D.table machine.now guard goal.now out.old out.new }
 {
     let value = machine.scope.scope().check(alloc, &goal.value)?;
     let fault = refuse_value(goal.place, machine.registers.len(), value);

@@ -1,8 +1,8 @@
 //! The walk over the states of a diagram, each under its guard.
 
 ghost use Rattle.std.specs.Prelude.{◌≡◌, ◌<◌, ◌≤◌, List, [], ℕ, None, length, map, IfOk, OnOk};
-ghost use Rattle.state_diagrams.specs.Prelude.{arena, entries_of, view_state, AreBits, IsBit, context_for, AreNamed};
-ghost use Rattle.state_diagrams.specs.{signals_of, WalksStates, WalksUnit, state_bit, state_bits, IsState};
+ghost use Rattle.state_diagrams.specs.Prelude.{arena, entries_of, view_state, AreBits, IsBit, context_for, AreNamed, StillStands};
+ghost use Rattle.state_diagrams.specs.{signals_of, StandsStates, WalksStates, WalksUnit, state_bit, state_bits, IsState};
 
 use crate::arms::walk_arms;
 use crate::guards::state_guard;
@@ -26,6 +26,7 @@ fn walk_unit<D: Device>(
     out: &mut Walked,
 ) -> Result<ExprId, OutOfMemory>
     ensures walks { IfOk result (λ id. (listed : List ℕ) → IsState (context_for D.table machine.now.scope.now) (length (signals_of machine.now.registers.now)) listed (view_state state.now) found → WalksUnit D.table machine.now listed (view_state state.now) out.old out.new) }
+    ensures stands { StillStands [] [] out.old out.new }
     ensures inside { IfOk result (λ id. id.0 < length (arena out.new.exprs)) }
     ensures bit { IfOk result (λ id. (listed : List ℕ) → IsState (context_for D.table machine.now.scope.now) (length (signals_of machine.now.registers.now)) listed (view_state state.now) found → out.new.fault ≡ None → IsBit (arena out.new.exprs) id (state_bit (context_for D.table machine.now.scope.now) machine.now.registers.now (view_state state.now))) }
 {
@@ -58,6 +59,7 @@ pub(crate) fn walk_states<D: Device>(
     requires signals { AreNamed (length (entries_of machine.now.scope.now)) machine.now.registers.now }
     requires few { length machine.now.registers.now ≤ 32 }
     ensures walks { IfOk result (λ ids. WalksStates D.table machine.now guard [] (map view_state states.now) out.old out.new) }
+    ensures stands { StandsStates D.table machine.now guard (map view_state states.now) out.old out.new }
     ensures bits { IfOk result (λ ids. out.new.fault ≡ None → AreBits (arena out.new.exprs) ids.items (state_bits (context_for D.table machine.now.scope.now) machine.now.registers.now (map view_state states.now))) }
 {
     let mut listed = Vec::new(alloc);

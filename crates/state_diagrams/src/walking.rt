@@ -2,7 +2,7 @@
 
 ghost use Rattle.std.specs.Prelude.{◌≡◌, ◌≤◌, Some, IfOk, OnOk, length, map};
 ghost use Rattle.state_diagrams.specs.Prelude.{entries_of, view_state, AreNamed};
-ghost use Rattle.state_diagrams.specs.{WalksDiagram, WalksHeader, WalksOthers};
+ghost use Rattle.state_diagrams.specs.{StandsDiagram, StandsHeader, StandsOthers, WalksDiagram, WalksHeader, WalksOthers};
 
 use crate::machine::Machine;
 use crate::matches::matches_beside;
@@ -32,7 +32,8 @@ fn walk_header<D: Device>(
     out: &mut Walked,
 ) -> Result<(), OutOfMemory>
     requires signals { AreNamed (length (entries_of machine.now.scope.now)) machine.now.registers.now }
-    ensures { OnOk result (WalksHeader D.table machine.now guard out.old out.new) }
+    ensures walks { OnOk result (WalksHeader D.table machine.now guard out.old out.new) }
+    ensures stands { StandsHeader D.table machine.now guard out.old out.new }
 {
     if out.fault.is_some() {
         return Ok(());
@@ -58,7 +59,8 @@ fn walk_others<D: Device>(
 ) -> Result<(), OutOfMemory>
     requires signals { AreNamed (length (entries_of machine.now.scope.now)) machine.now.registers.now }
     requires few { length machine.now.registers.now ≤ 32 }
-    ensures { OnOk result (WalksOthers D.table machine.now guard (map view_state states.now) out.old out.new) }
+    ensures walks { OnOk result (WalksOthers D.table machine.now guard (map view_state states.now) out.old out.new) }
+    ensures stands { StandsOthers D.table machine.now guard (map view_state states.now) out.old out.new }
 {
     let start = out.list.len();
     let bits = walk_states::<D>(alloc, machine, guard, states, out)?;
@@ -83,7 +85,8 @@ pub fn walk_diagram<D: Device>(
     diagram: &Diagram,
     out: &mut Walked,
 ) -> Result<(), OutOfMemory>
-    ensures { OnOk result (WalksDiagram D.table scope.now guard diagram.now out.old out.new) }
+    ensures walks { OnOk result (WalksDiagram D.table scope.now guard diagram.now out.old out.new) }
+    ensures stands { StandsDiagram D.table scope.now guard diagram.now out.old out.new }
 {
     let side = check_registers::<D>(alloc, scope, &diagram.registers, &mut out.before)?;
     match side.fault {

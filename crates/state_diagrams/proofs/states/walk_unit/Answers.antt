@@ -1,6 +1,6 @@
 -- A state that is refused or stands behind what is, and one whose bit is made.
 use Rattle.std.proofs.Common.{◌≡◌, ℕ, false, List, [], ◌∷◌, Result, Ok, Err, length, refl, sym, ap, ◌∙◌, subst, subst₂}
-use Rattle.state_diagrams.proofs.Common.{is_some, arena, Node, earlier, StateTree, view_state, Context, term_of, SectionFault, section_order, Manner, Walked, BuildsNodes, IsBit, AreFirsts, context_for, part, AfterMaking, Walks, high_bit, limit_kept, unit_clear, unit_refused, signals_of, state_guard, state_unit, number_guard, IsState, state_refused, Made, Formula}
+use Rattle.state_diagrams.proofs.Common.{is_some, arena, Node, earlier, StateTree, view_state, Context, term_of, SectionFault, section_order, Manner, Walked, BuildsNodes, IsBit, AreFirsts, context_for, part, AfterMaking, Builds, standing, none_so_far, stands_made, stands_same, Walks, high_bit, limit_kept, unit_clear, unit_refused, signals_of, state_guard, state_unit, number_guard, IsState, state_refused, Made, Formula}
 use Rattle.state_diagrams.specs.declared.values.StateFound.{StateFound}
 use Rattle.state_diagrams.proofs.StateBits.{guard_is_state}
 use Rattle.state_diagrams.proofs.AnyGuards.{nodes_made}
@@ -47,10 +47,10 @@ pub returns-in_ok-keep_limit-in-Err-clause-walks : goal.returns-in_ok-keep_limit
 returns-in_ok-keep_limit-in-Err-clause-walks g c = λ listed value.
     let m = c.args.machine.now in
     unit_walk (context_for g.D.Device.table m.scope.now) (signals_of m.registers.now) (view_state c.args.state.now) listed c.args.found c.args.out.now c.refuse.new.self c.keep_limit.new.self c.state_guard.new.exprs (Err c.in-Err.fault)
-    value c.refuse.ensures.first (sym c.refuse.ensures.refused ∙ c.if-refuse.false) c.in-Err.ensures.0 c.in_ok-keep_limit-in-Err.ensures
+    value c.refuse.ensures.first (sym c.refuse.ensures.refused ∙ c.if-refuse.false) c.in-Err.ensures.0 c.in_ok-keep_limit-in-Err.ensures.kept
 
 pub returns-in_ok-keep_limit-in-Err-clause-bit : goal.returns-in_ok-keep_limit-in-Err-clause-bit
-returns-in_ok-keep_limit-in-Err-clause-bit g c = λ listed value e. absurd (limit_kept c.in-Err.fault (record c.refuse.new.self { exprs = c.state_guard.new.exprs }) c.keep_limit.new.self c.in_ok-keep_limit-in-Err.ensures e)
+returns-in_ok-keep_limit-in-Err-clause-bit g c = λ listed value e. absurd (limit_kept c.in-Err.fault (record c.refuse.new.self { exprs = c.state_guard.new.exprs }) c.keep_limit.new.self c.in_ok-keep_limit-in-Err.ensures.kept e)
 
 -- any arena has the constants
 pub returns-then-refuse-clause-inside : goal.returns-then-refuse-clause-inside
@@ -58,3 +58,33 @@ returns-then-refuse-clause-inside g c = (high_bit c.refuse.new.self.exprs (recor
 
 pub returns-in_ok-keep_limit-in-Err-clause-inside : goal.returns-in_ok-keep_limit-in-Err-clause-inside
 returns-in_ok-keep_limit-in-Err-clause-inside g c = (high_bit c.keep_limit.new.self.exprs (record { 0 = 1 }) refl).0
+
+pub returns-then-refuse-clause-stands : goal.returns-then-refuse-clause-stands
+returns-then-refuse-clause-stands g c = stands_same [] [] c.args.out.now c.refuse.new.self (ap standing c.refuse.ensures.first)
+
+pub returns-in-Ok-clause-stands : goal.returns-in-Ok-clause-stands
+returns-in-Ok-clause-stands g c =
+    let m = c.args.machine.now in
+    let old = c.args.out.now in
+    let now = c.refuse.new.self in
+    let made : Walked = record now { exprs = c.state_guard.new.exprs } in
+    stands_made {R = Unit} _ [] [] old made made (Ok tt) (none_so_far old.fault c.args.found.fault now (ap (λ (w : Walked). w.fault) c.refuse.ensures.first) (sym c.refuse.ensures.refused ∙ c.if-refuse.false))
+    (subst (λ (w : Walked). Builds {R = Unit} (part c.args.state.now.place (number_guard (context_for g.D.Device.table m.scope.now) (signals_of m.registers.now) c.args.found.number).nodes ∷ []) [] [] (standing w) (standing made) (Ok tt)) c.refuse.ensures.first (c.in-Ok.ensures.0 now.list.items)) refl
+
+pub returns-in_err-keep_limit-in-Err-clause-stands : goal.returns-in_err-keep_limit-in-Err-clause-stands
+returns-in_err-keep_limit-in-Err-clause-stands g c =
+    let m = c.args.machine.now in
+    let old = c.args.out.now in
+    let now = c.refuse.new.self in
+    let made : Walked = record now { exprs = c.state_guard.new.exprs } in
+    stands_made {R = Unit} _ [] [] old made c.keep_limit.new.self (Err c.in-Err.fault) (none_so_far old.fault c.args.found.fault now (ap (λ (w : Walked). w.fault) c.refuse.ensures.first) (sym c.refuse.ensures.refused ∙ c.if-refuse.false))
+    (subst (λ (w : Walked). Builds {R = Unit} (part c.args.state.now.place (number_guard (context_for g.D.Device.table m.scope.now) (signals_of m.registers.now) c.args.found.number).nodes ∷ []) [] [] (standing w) (standing made) (Err c.in-Err.fault)) c.refuse.ensures.first (c.in-Err.ensures.0 now.list.items)) c.keep_limit.ensures.stands
+
+pub returns-in_ok-keep_limit-in-Err-clause-stands : goal.returns-in_ok-keep_limit-in-Err-clause-stands
+returns-in_ok-keep_limit-in-Err-clause-stands g c =
+    let m = c.args.machine.now in
+    let old = c.args.out.now in
+    let now = c.refuse.new.self in
+    let made : Walked = record now { exprs = c.state_guard.new.exprs } in
+    stands_made {R = Unit} _ [] [] old made c.keep_limit.new.self (Err c.in-Err.fault) (none_so_far old.fault c.args.found.fault now (ap (λ (w : Walked). w.fault) c.refuse.ensures.first) (sym c.refuse.ensures.refused ∙ c.if-refuse.false))
+    (subst (λ (w : Walked). Builds {R = Unit} (part c.args.state.now.place (number_guard (context_for g.D.Device.table m.scope.now) (signals_of m.registers.now) c.args.found.number).nodes ∷ []) [] [] (standing w) (standing made) (Err c.in-Err.fault)) c.refuse.ensures.first (c.in-Err.ensures.0 now.list.items)) c.keep_limit.ensures.stands
