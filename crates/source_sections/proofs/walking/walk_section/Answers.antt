@@ -24,7 +24,7 @@ returns-in-Equations g c =
     section_walked d c.args.guard.dontcare block all (record c.args.guard { block = None }) None (view_section c.args.section.now) (Equations (map view_stmt c.as_slice.result.now)) old c.walk_statements.new.out
     (λ h. Walks all (units_of_statements d h.holds all ss) (statements_give (formulas d) d h ss) (statements_places d ss) (statements_manners d ss) old c.walk_statements.new.out)
     (ap view_section c.in-Equations.is ∙ ap (λ xs. Equations (map view_stmt xs)) (sym c.as_slice.ensures)) (high_bit old.exprs c.args.guard.when c.requires).1 refl refl (λ w. w) (k all a))
-    c.walk_statements.ensures
+    c.walk_statements.ensures.walks
 
 pub returns-in-Table : goal.returns-in-Table
 returns-in-Table g c =
@@ -37,7 +37,7 @@ returns-in-Table g c =
     section_walked d c.args.guard.dontcare block all c.args.guard (Some block) (view_section c.args.section.now) s old c.walk_table.new.out
     (λ h. Walks all (units_of_section d all s) (table_gives (formulas d) d h t.clocked (term_of d.known (view t.inputs)) (term_of d.known (view t.outputs)) (map view_row t.rows)) (section_places d s) (section_manners d all s) old c.walk_table.new.out)
     (ap view_section c.in-Table.is) (high_bit old.exprs c.args.guard.when c.requires).1 refl b (λ w. w) (k all a))
-    c.walk_table.ensures
+    c.walk_table.ensures.walks
 
 pub returns-in-Diagram : goal.returns-in-Diagram
 returns-in-Diagram g c =
@@ -50,7 +50,7 @@ returns-in-Diagram g c =
     section_walked d c.args.guard.dontcare block all c.args.guard (Some block) (view_section c.args.section.now) s old c.walk_diagram.new.out
     (λ h. Walks all (units_of_section d all s) (diagram_gives (formulas d) d h (term_of d.known (view x.registers)) (map view_state x.states)) (section_places d s) (section_manners d all s) old c.walk_diagram.new.out)
     (ap view_section c.in-Diagram.is) (high_bit old.exprs c.args.guard.when c.requires).1 refl b (λ w. w) (k all a))
-    c.walk_diagram.ensures
+    c.walk_diagram.ensures.walks
 
 pub returns-in-Declarations : goal.returns-in-Declarations
 returns-in-Declarations g c =
