@@ -21,6 +21,7 @@ class Text:
         self.t = cut(text)
         self.included: list[str] = []
         self.given: set[str] = set()
+        self.counted = 0
         self.number()
 
     def number(self) -> None:
@@ -148,13 +149,20 @@ class Text:
 
     def free(self, name: str, ending: str = '') -> str:
         """A name that begins so, is new, and has at most 31 bytes."""
-        used = {x.text for x in self.t} | self.given
+        used = self.used_names()
         new = name[:LONGEST - len(ending)] + ending
         while new in used:
             ending += '_'
             new = name[:LONGEST - len(ending)] + ending
-        self.given.add(new)
+        used.add(new)
         return new
+
+    def used_names(self) -> set[str]:
+        """The names of the source, collected anew if tokens were added, and those that were added."""
+        if self.counted != len(self.t):
+            self.counted = len(self.t)
+            self.given |= {x.text for x in self.t}
+        return self.given
 
     def text(self) -> str:
         return ''.join(x.blanks + x.before + x.out + x.after for x in self.t)

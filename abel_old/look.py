@@ -20,8 +20,9 @@ def look(s: Names) -> None:
 def loops(s: Names) -> None:
     """Equations that read themselves; those of macros are not looked at."""
     reads: dict[str, dict[str, Assignment]] = {}
+    kept = set(s.assignments)
     for a in s.module.assignments:
-        if a not in s.assignments or a.sign.text not in ('=', '?=') or a.enable \
+        if a not in kept or a.sign.text not in ('=', '?=') or a.enable \
                 or a.extension not in ('', '.COM'):
             continue
         names = s.targets(a)

@@ -1,4 +1,7 @@
-"""What is found in a source: declarations, assignments, tables, diagrams."""
+"""What is found in a source: declarations, assignments, tables, diagrams.
+
+Each is equal to itself alone, so that lists of thousands are searched at once.
+"""
 from __future__ import annotations
 
 from dataclasses import dataclass, field
@@ -6,14 +9,14 @@ from dataclasses import dataclass, field
 from .tokens import Token
 
 
-@dataclass
+@dataclass(eq=False)
 class Inward:
     """`IN device`, by which a part belongs to one of several devices."""
     word: Token
     device: Token
 
 
-@dataclass
+@dataclass(eq=False)
 class Declaration:
     """The keyword, of this kind, is `tokens[at]`; `names` stand before it."""
     tokens: list[Token]
@@ -28,7 +31,7 @@ class Declaration:
     inward: Inward | None = None
 
 
-@dataclass
+@dataclass(eq=False)
 class Signal:
     """`words` are its attributes; `plcc` its pin of the 28-pin package, if it had one."""
     pin: int | None
@@ -40,7 +43,7 @@ class Signal:
     plcc: int | None = None
 
 
-@dataclass
+@dataclass(eq=False)
 class Assignment:
     """`under` a condition or not; `where` is equations, state or with."""
     target: list[Token]
@@ -65,7 +68,7 @@ class Assignment:
         return self.target[:-1] if self.extension else self.target
 
 
-@dataclass
+@dataclass(eq=False)
 class Part:
     """A section, or another part that belongs to one device."""
     kind: str
@@ -74,7 +77,7 @@ class Part:
     inward: Inward | None = None
 
 
-@dataclass
+@dataclass(eq=False)
 class Row:
     left: list[Token]
     arrow: Token
@@ -83,7 +86,7 @@ class Row:
     last: Token
 
 
-@dataclass
+@dataclass(eq=False)
 class Table(Part):
     """A truth table, or test vectors; `double` if it has :> and -> both."""
     left: list[Token] = field(default_factory=list)
@@ -93,7 +96,7 @@ class Table(Part):
     rows: list[Row] = field(default_factory=list)
 
 
-@dataclass
+@dataclass(eq=False)
 class State:
     """`colon` is the last token of its header; `transitions` are their first tokens."""
     value: list[Token]
@@ -101,7 +104,7 @@ class State:
     transitions: list[Token] = field(default_factory=list)
 
 
-@dataclass
+@dataclass(eq=False)
 class Reset:
     kind: str
     state: list[Token]
@@ -110,14 +113,14 @@ class Reset:
     last: Token
 
 
-@dataclass
+@dataclass(eq=False)
 class Diagram(Part):
     registers: list[Token] = field(default_factory=list)
     states: list[State] = field(default_factory=list)
     resets: list[Reset] = field(default_factory=list)
 
 
-@dataclass
+@dataclass(eq=False)
 class Macro:
     """Its body is the flat list of what is between its braces."""
     name: str

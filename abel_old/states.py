@@ -58,11 +58,11 @@ class States:
 
     def stem(self, name: str, bits: int) -> str:
         """What the new names begin with, of which each ends in a number."""
-        used = {x.text for x in self.s.t} | self.s.given
+        used = self.s.used_names()
         stem = name[:LONGEST - 3] + '_'
         while any('%s%d' % (stem, k) in used for k in range(bits)):
             stem = stem[:LONGEST - 3].rstrip('_') + '_' * (len(stem) - len(stem.rstrip('_')) + 1)
-        self.s.given |= {'%s%d' % (stem, k) for k in range(bits)}
+        used |= {'%s%d' % (stem, k) for k in range(bits)}
         return stem
 
     def state_names(self, d: Declaration) -> None:
