@@ -158,7 +158,7 @@ class Text:
         return new
 
     def used_names(self) -> set[str]:
-        """The names of the source, collected anew if tokens were added, and those that were added."""
+        """All names, of the source and added ones; collected anew if tokens were added."""
         if self.counted != len(self.t):
             self.counted = len(self.t)
             self.given |= {x.text for x in self.t}
