@@ -1,8 +1,8 @@
 //! Where the places of the expanded text stand in the source.
 
-ghost use Rattle.std.specs.Prelude.{◌≤◌, length};
+ghost use Rattle.std.specs.Prelude.{◌≡◌, ◌≤◌, ◌<◌, ◌+◌, IfOk, IfSome, length};
 
-use abel_expand::{Reader, expand};
+use abel_expand::{ExpandFault, Reader, expand};
 use abel_tree::is_before;
 use pld_base::{OutOfMemory, Place};
 use std::alloc::Global;
@@ -82,6 +82,17 @@ fn found_at(reader: &Reader, places: &[Place], byte: u8, expanded: Place) -> Fou
     }
 }
 
+/// The next byte of the expanded text, none where the text ends or is refused.
+fn next_of(reader: &mut Reader) -> Result<Option<u8>, OutOfMemory>
+    ensures count { IfOk result (λ o. IfSome o (λ b. (reader.new.given ≡ reader.old.given + 1) × (reader.old.given < 1048576))) }
+{
+    match reader.next() {
+        Ok(byte) => Ok(byte),
+        Err(ExpandFault::OutOfMemory) => Err(OutOfMemory),
+        Err(_) => Ok(None),
+    }
+}
+
 /// Where the bytes of the expanded text of a source stand in it, as far as it is expanded.
 pub fn origins_of(alloc: Global, text: &[u8]) -> Result<Origins, OutOfMemory>
     requires { length text.now ≤ 1048576 }
@@ -90,7 +101,7 @@ pub fn origins_of(alloc: Global, text: &[u8]) -> Result<Origins, OutOfMemory>
     let mut reader = Reader::new(alloc, text);
     let mut bytes = Vec::new(alloc);
     let mut expanded = START;
-    'bytes: while let Ok(Some(byte)) = reader.next() {
+    'bytes: while let Some(byte) = next_of(&mut reader)? {
         bytes.push(found_at(&reader, &places, byte, expanded))?;
         expanded = place_behind(expanded, byte);
     }
@@ -136,6 +147,7 @@ pub fn expanded_text(alloc: Global, text: &[u8]) -> Result<Vec<u8>, OutOfMemory>
 {
     match expand(alloc, text) {
         Ok(expanded) => Ok(expanded),
+        Err(ExpandFault::OutOfMemory) => Err(OutOfMemory),
         Err(_) => Ok(Vec::from_slice(alloc, text)?),
     }
 }
