@@ -3,3 +3,6 @@ pub mod ControlOrder
 pub mod Counts
 pub mod NamedCells
 pub mod RefusedCells
+pub mod WarnedNames
+pub mod WarnedSums
+pub mod WarnedWords

@@ -6,3 +6,4 @@ pub mod Prelude
 pub mod RefusalTold
 pub mod SourceLines
 pub mod Summary
+pub mod Warnings

@@ -1,11 +1,20 @@
 //! `+` between single signals.
 
+ghost use Rattle.std.specs.Prelude.{◌≡◌, ◌++◌, OnOk, map, option_map};
+ghost use Rattle.std.specs.List.{flat_map};
+ghost use Rattle.abel_tree.specs.Entries.{entries_of, is_signal, kind_of, names_any, view_meaning};
+ghost use Rattle.abel_tree.specs.View.{view, view_stmt};
+ghost use Rattle.name_uses.specs.Rolls.{view_when};
+ghost use Rattle.reports.specs.Warnings.{is_single, is_sum, sum_if, sums_in, sums_in_statement};
+
 use crate::warning::{Cause, Found};
 use abel_tree::{Binary, Declared, Expr, Meaning, Names, Stmt, Unary, When};
-use pld_base::OutOfMemory;
+use pld_base::{OutOfMemory, Place};
 
 /// What a name is declared as.
-fn declared<'a>(names: &'a Names, name: &[u8]) -> Option<&'a Declared> {
+fn declared<'a>(names: &'a Names, name: &[u8]) -> Option<&'a Declared>
+    ensures { option_map (λ d. view_meaning d.now.meaning) result ≡ kind_of (entries_of names.now) name.now }
+{
     for declared in names.list.as_slice() {
         if declared.name.bytes() == name {
             return Some(declared);
@@ -14,14 +23,23 @@ fn declared<'a>(names: &'a Names, name: &[u8]) -> Option<&'a Declared> {
     None
 }
 
+/// Whether a name is that of a signal.
+fn is_signal(names: &Names, name: &[u8]) -> bool
+    ensures { result ≡ names_any is_signal (entries_of names.now) name.now }
+{
+    match declared(names, name) {
+        Some(found) => matches!(&found.meaning, Meaning::Pin { .. } | Meaning::Node(_)),
+        None => false,
+    }
+}
+
 /// Whether an expression is a signal or an operation on single signals, and so one bit wide.
 #[cycle(single)]
-fn is_single(names: &Names, expr: &Expr) -> bool {
+fn is_single(names: &Names, expr: &Expr) -> bool
+    ensures { result ≡ is_single (entries_of names.now) (view expr.now) }
+{
     match expr {
-        Expr::Name { word, extension: _ } => match declared(names, word.text.bytes()) {
-            Some(found) => matches!(&found.meaning, Meaning::Pin { .. } | Meaning::Node(_)),
-            None => false,
-        },
+        Expr::Name { word, extension: _ } => is_signal(names, word.text.bytes()),
         Expr::Paren { place: _, inner } => is_single(names, inner.get()),
         Expr::Unary {
             sign: Unary::Not,
@@ -38,9 +56,28 @@ fn is_single(names: &Names, expr: &Expr) -> bool {
     }
 }
 
+/// Whether an operator is `+` between single signals.
+fn is_sum(names: &Names, sign: Binary, left: &Expr, right: &Expr) -> bool
+    ensures { result ≡ is_sum (entries_of names.now) sign (view left.now) (view right.now) }
+{
+    matches!(sign, Binary::Plus) && is_single(names, left) && is_single(names, right)
+}
+
+/// Tells an operator that is `+` between single signals.
+fn find_sum(found: &mut Found, is_told: bool, place: Place) -> Result<(), OutOfMemory>
+    ensures { OnOk result (found.new ≡ found.old ++ sum_if is_told place) }
+{
+    if is_told {
+        found.add(Cause::PlusOfSingles, place, b"")?;
+    }
+    Ok(())
+}
+
 /// Finds each `+` of an expression that stands between single signals.
 #[cycle(sums)]
-pub fn find_sums(found: &mut Found, names: &Names, expr: &Expr) -> Result<(), OutOfMemory> {
+pub fn find_sums(found: &mut Found, names: &Names, expr: &Expr) -> Result<(), OutOfMemory>
+    ensures { OnOk result (found.new ≡ found.old ++ sums_in (entries_of names.now) (view expr.now)) }
+{
     let mut first = expr;
     'down: while let Expr::Binary {
         sign,
@@ -49,9 +86,8 @@ pub fn find_sums(found: &mut Found, names: &Names, expr: &Expr) -> Result<(), Ou
         right,
     } = first
     {
-        if *sign == Binary::Plus && is_single(names, left.get()) && is_single(names, right.get()) {
-            found.add(Cause::PlusOfSingles, *place, b"")?;
-        }
+        let is_told = is_sum(names, *sign, left.get(), right.get());
+        find_sum(found, is_told, *place)?;
         find_sums(found, names, right.get())?;
         first = left.get();
     }
@@ -72,7 +108,10 @@ pub fn find_in_statement(
     found: &mut Found,
     names: &Names,
     statement: &Stmt,
-) -> Result<(), OutOfMemory> {
+) -> Result<(), OutOfMemory>
+    ensures { OnOk result (found.new
+        ≡ found.old ++ sums_in_statement (entries_of names.now) (view_stmt statement.now)) }
+{
     match statement {
         Stmt::Assign(assign) => find_sums(found, names, &assign.value),
         Stmt::When(when) => find_in_when(found, names, when),
@@ -87,7 +126,10 @@ pub fn find_in_statements(
     found: &mut Found,
     names: &Names,
     statements: &[Stmt],
-) -> Result<(), OutOfMemory> {
+) -> Result<(), OutOfMemory>
+    ensures { OnOk result (found.new
+        ≡ found.old ++ flat_map (sums_in_statement (entries_of names.now)) (map view_stmt statements.now)) }
+{
     for statement in statements {
         find_in_statement(found, names, statement)?;
     }
@@ -96,7 +138,10 @@ pub fn find_in_statements(
 
 /// The same in a choice.
 #[cycle(statements)]
-fn find_in_when(found: &mut Found, names: &Names, when: &When) -> Result<(), OutOfMemory> {
+fn find_in_when(found: &mut Found, names: &Names, when: &When) -> Result<(), OutOfMemory>
+    ensures { OnOk result (found.new
+        ≡ found.old ++ sums_in_statement (entries_of names.now) (view_when when.now)) }
+{
     find_sums(found, names, &when.condition)?;
     find_in_statement(found, names, when.then.get())?;
     match &when.otherwise {

@@ -1,7 +1,11 @@
 //! A warning.
 
+ghost use Rattle.std.specs.Prelude.{◌≡◌, ◌++◌, ◌∷◌, [], OnOk};
+ghost use Rattle.reports.specs.Warnings.{warned};
+
 use pld_base::{ListOf, NameText, OutOfMemory, Place};
 use std::alloc::Global;
+use std::marker::Model;
 
 /// What is rarely meant.
 #[derive(Clone, Copy, PartialEq, Eq)]
@@ -35,9 +39,20 @@ pub struct Found {
     list: Vec<Warning>,
 }
 
+impl Model for Found {
+    ghost use Rattle.std.specs.Prelude.{List};
+    ghost use Rattle.reports.specs.declared.warning.Warning.{Warning};
+
+    ghost Value = { List Warning };
+
+    ghost view = { λ f. f.list.items };
+}
+
 impl Found {
     /// No warning yet. Takes no memory.
-    pub fn new(alloc: Global) -> Found {
+    pub fn new(alloc: Global) -> Found
+        ensures { result ≡ [] }
+    {
         Found {
             alloc,
             list: Vec::new(alloc),
@@ -45,7 +60,9 @@ impl Found {
     }
 
     /// Adds a warning.
-    pub fn add(&mut self, cause: Cause, place: Place, name: &[u8]) -> Result<(), OutOfMemory> {
+    pub fn add(&mut self, cause: Cause, place: Place, name: &[u8]) -> Result<(), OutOfMemory>
+        ensures { OnOk result (self.new ≡ self.old ++ warned cause place name.now ∷ []) }
+    {
         self.list.push(Warning {
             cause,
             place,
@@ -55,7 +72,9 @@ impl Found {
     }
 
     /// The warnings, in the order in which they were found. Takes no memory.
-    pub fn into_list(self) -> ListOf<Warning> {
+    pub fn into_list(self) -> ListOf<Warning>
+        ensures { result ≡ self }
+    {
         ListOf::from_vec(self.list)
     }
 }
