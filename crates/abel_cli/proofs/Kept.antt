@@ -3,14 +3,7 @@ use Rattle.std.proofs.Common.{◌≡◌, ℕ, ◌≤◌, ◌⊎◌, List, [], �
 use Rattle.abel_cli.proofs.Common.{none-some, Map, bytes_at, Asked, Heard, HasRisen, HasStayed, table_of, Ending, Output, memory_line, file_fault, Puts, TakesFront, TakesFrontAndMemory, MeansOn, IsMeant, EndsAsCalled, EndsInFileFault, LeavesFiles, Promises, HasCompiled, IsRightOrOld, IsRight, Ends, Means, CallsFor, IsCalledFor, Comes, Runs, written, listed, source_at, Command, Task, Compile, ListSource, Simulate, Check, Demo, Decompile, Compare, IsCompile, command_of}
 use Rattle.abel_compile.specs.declared.compiled.Compiled.{Compiled}
 use Rattle.abel_compile.specs.Correct.{IsCompiled}
-use Rattle.abel_compile.specs.Statement.{fuses_and_vectors}
-use Rattle.abel_meaning.specs.Designs.{design_of}
-use Rattle.abel_meaning.specs.Vectors.{source_vectors}
-use Rattle.jedec_reader.specs.DeviceFiles.{IsFileOf}
-use Rattle.reports.specs.Summary.{design_cells}
-use Rattle.abel_commands.specs.CheckCommand.{CheckEnds}
-use Rattle.abel_cli.specs.Checked.{HasChecked}
-use Rattle.abel_commands.proofs.CheckMeaning.{check_means, checked_as}
+use Rattle.abel_commands.proofs.CheckMeaning.{check_means}
 use Rattle.abel_commands.proofs.Commands.{inputs_counted, one_only}
 use Rattle.abel_commands.proofs.CompareMeaning.{compare_means}
 use Rattle.abel_commands.proofs.DecompileMeaning.{decompile_means}
@@ -196,26 +189,6 @@ module _ (a : Asked) (h : Heard) where
 
   pub right : Promises a h → a.told → h.status ≡ 0 → IsRight a.words a.old a.new
   right p tells is i o w = let r = compiled p tells is i o w in (r.0.device, r.0.file.items, r.2, r.1.right)
-
-  -- `check` of OUT reads the file that is there, and gives its numbers
-  pub checked : Promises a h → a.told → h.status ≡ 0 → HasChecked a.words a.new h.told h.old h.new
-  checked p tells is i o w =
-      let r = compiled p tells is i o w in
-      let t = table_of r.0.device in
-      let own : bytes_at a.new o ≡ r.0.file.items = ap (λ (found : Option (List ℕ)). unwrap_or found []) r.2 in
-      let says = fuses_and_vectors t r.1.right.fuses (source_vectors t r.1.right.placed) in
-      let is_file : IsFileOf t (bytes_at a.new o) says =
-      subst (λ (bytes : List ℕ). IsFileOf t bytes says) (sym own)
-      (record { within = r.1.right.within; read = r.1.right.reads_back; mode = r.1.right.mode }) in
-      record {
-        device = r.0.device;
-        fuses = r.1.right.fuses;
-        vectors = source_vectors t r.1.right.placed;
-        is_file = is_file;
-        checked = λ e ends. checked_as t (bytes_at a.new o) says is_file e (subst (λ (s : List (List ℕ)). CheckEnds t (source_at s 0) e) (ends.own tt) ends.ends);
-        cells = design_cells (design_of t r.1.right.placed).context;
-        summary = λ reports. r.3 reports ∙ ap (λ (text : List ℕ). h.old ++ text) r.1.summary;
-      }
 
   abbrev Held : Type 0
   Held = (input output : List ℕ) × IsCompile a.words input output

@@ -1,4 +1,5 @@
 pub mod Called
+pub mod CheckedFiles
 pub mod Common
 pub mod Facts
 pub mod Kept
