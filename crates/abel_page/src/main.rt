@@ -7,7 +7,7 @@ use std::io::ErrorKind;
 use std::process::ExitCode;
 use std::{env, io};
 
-/// The words behind the program's name, each of which is UTF-8.
+/// The words after the program's name, each of which is UTF-8.
 fn text_words(rt: &HostRuntime) -> io::Result<Vec<String>> {
     let mut words = Vec::new(rt.alloc());
     for word in env::args(rt)?.skip(1) {
@@ -16,7 +16,7 @@ fn text_words(rt: &HostRuntime) -> io::Result<Vec<String>> {
     Ok(words)
 }
 
-/// The status that the program ends with. Where some word is no UTF-8 it is as if there were none.
+/// The status that the program ends with. If some word is no UTF-8 it is as if there were none.
 fn status(rt: &HostRuntime) -> u8 {
     let alloc = rt.alloc();
     let mut files = HostFiles::new(alloc, rt);

@@ -64,7 +64,7 @@ stops_longer p [] m k old new f s =
 stops_longer p (r ∷ rs) m k old new f s =
     (stops_on f (length (arena old.exprs)) (length (arena old.exprs)) (whole p (r ∷ rs) m ∷ []) (whole p (r ∷ rs) (m + k) ∷ []) (λ h. absurd cc) s.0, s.1)
 
--- what is made of a guard and a bit, behind a part of its unit that was made
+-- what is made of a guard and a bit, after a part of its unit that was made
 pub guard_behind : (p : Place) (m : ℕ) (make : Formula → Formula → Made Formula) (g f g1 f1 : Formula) (old mid new : Contributions) (r : Result ExprId SectionFault)
     → g1 ≡ g → f1 ≡ f → IsBuilt (part p m ∷ []) [] [] old mid → Builds (part p (make g1 f1).nodes ∷ []) [] [] mid new r → Builds (part p (m + (make g f).nodes) ∷ []) [] [] old new r
 guard_behind p m make g f g1 f1 old mid new r e h a b =
@@ -75,7 +75,7 @@ pub choice_stops : (p : Place) (d : Context) (g : Formula) (c : Tree) (other : B
 choice_stops p d g c false old new f s = s
 choice_stops p d g c true old new f s = stops_longer p [] (choice_nodes d g c false) (guard_else g (condition_of d c)).nodes old new f s
 
--- the guard of ELSE, behind a condition with its And
+-- the guard of ELSE, after a condition with its And
 pub choice_else : (p : Place) (d : Context) (g : Formula) (c : Tree) (other : Bool) (g1 f1 : Formula) (old mid new : Contributions) (r : Result ExprId SectionFault)
     → other ≡ true → g1 ≡ g → f1 ≡ condition_of d c → IsBuilt (part p (choice_nodes d g c false) ∷ []) [] [] old mid → Builds (part p (guard_else g1 f1).nodes ∷ []) [] [] mid new r
     → Builds (part p (choice_nodes d g c other) ∷ []) [] [] old new r
@@ -91,14 +91,14 @@ first_bit fs (x ∷ ids) id gs lt h = (h.0 0 x (omega arith), ap (λ xs. get_or 
 pub condition_made : (d : Context) (c : Tree) (fs : List Formula) (ids : List ExprId) (bit x : ExprId) → length ids ≡ 1 → bit ≡ get_or ids 0 x → AreBits fs ids ((formulas d).word 1 (term_of d.known c)) → IsBit fs bit (condition_of d c)
 condition_made d c fs ids bit x n e h = subst (λ id. IsBit fs id (condition_of d c)) (sym e) (first_bit fs ids x ((formulas d).word 1 (term_of d.known c)) (omega (arith, n)) h)
 
--- a bit stays where its node stands
+-- a bit stays if its node stays
 pub kept_bit : (old new : List Formula) (id : ExprId) (f : Formula) → Keeps old new → IsBit old id f → IsBit new id f
 kept_bit old new id f k h = (kept_inside old new id k h.0, kept_formula old new id k h.0 ∙ h.1)
 
 pub value_accepted : (n : Names) (t : Tree) → (expression_found (entries_of n) t).refusals ≡ [] → refusal_of n t ≡ None
 value_accepted n t e = ap (first_refusal section_order) e
 
--- an arena in which what was there stands is no shorter
+-- an arena in which what was there stays is no shorter
 pub keeps_longer : (old new : List Formula) → Keeps old new → length old ≤ length new
 keeps_longer [] new k = omega arith
 keeps_longer (f ∷ fs) new k = omega (arith, kept_inside (f ∷ fs) new (record { 0 = length fs }) k (omega arith))

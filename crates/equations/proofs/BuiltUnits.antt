@@ -29,7 +29,7 @@ each_parts_of fs g (b ∷ bs) = (refl, each_parts_of fs g bs)
 
 -- ---- assignments as units
 
--- what an assignment's signals are given behind the nodes of its value
+-- what an assignment's signals are given after the nodes of its value
 pub assign_built : (d : Context) (old mid new : Contributions) (g : Giving) (target value : Tree) (t : TargetFound) (aims : List Aim) (ids : List ExprId) (e : Option Extension) (k : Bool) (what : meant.Gives) (r : Result Unit SectionFault)
     → t.refusals ≡ [] → aims ≡ t.aims → targets_of (term_of d.known target) ≡ positions_of t.aims
     → g.extension ≡ e → g.clocked ≡ k → view_gives g.what ≡ what

@@ -7,7 +7,7 @@ use Rattle.abel_tree.specs.declared.words.Unary.TheVariants.{Not}
 use Rattle.set_expr.specs.declared.fault.SectionFault.TheVariants.{MisplacedSpecial, BadWidth, NotAnOutput, MixedAssignment}
 use Rattle.equations.proofs.Written.{at, number, unknown, name, dotted, set, assign, not_assign, clocked, when_then, when_else, design}
 
--- sources, and all refusals of the statements of each where nothing was assigned before
+-- sources, and all refusals of the statements of each if nothing was assigned before
 abbrev Example : Type 0
 Example = List Statement × List SectionFault
 
@@ -49,13 +49,13 @@ targets : AreRefused (
     ∷ (assign 1 (name 1 "k") 3 (name 5 "b") ∷ [], NotAnOutput (at 1) (Some 8) ∷ [])
     -- !k = b;    at the constant's name
     ∷ (not_assign 1 (name 2 "k") 4 (name 6 "b") ∷ [], NotAnOutput (at 2) (Some 8) ∷ [])
-    -- !a = b;    a signal stands where the target begins
+    -- !a = b;    a signal is at the beginning of the target
     ∷ (not_assign 1 (name 2 "a") 4 (name 6 "b") ∷ [], NotAnOutput (at 1) (Some 0) ∷ [])
-    -- !x = b;    both stand at the constant's name
+    -- !x = b;    both are at the constant's name
     ∷ (not_assign 1 (name 2 "x") 4 (name 6 "b") ∷ [], MisplacedSpecial (at 2) ∷ NotAnOutput (at 2) (Some 10) ∷ [])
-    -- e = b;    a signal with an extension of its own, behind a constant
+    -- e = b;    a signal with an extension of its own, after a constant
     ∷ (assign 1 (name 1 "e") 3 (name 5 "b") ∷ [], NotAnOutput (at 1) (Some 9) ∷ [])
-    -- x = b;    both stand at the name, and the special comes first
+    -- x = b;    both are at the name, and the special is first
     ∷ (assign 1 (name 1 "x") 3 (name 5 "b") ∷ [], MisplacedSpecial (at 1) ∷ NotAnOutput (at 1) (Some 10) ∷ [])
     -- a = b;
     ∷ (assign 1 (name 1 "a") 3 (name 5 "b") ∷ [], NotAnOutput (at 1) (Some 0) ∷ [])

@@ -1,4 +1,4 @@
--- What stands after walks over statements, part by part, whatever they answer.
+-- What is after walks over statements, part by part, whatever they answer.
 use Rattle.std.proofs.Common.{◌≡◌, Bool, Option, None, Some, List, [], ◌∷◌, ◌++◌, refl, sym, ap, ap₂, ◌∙◌, subst, option_map}
 use Rattle.equations.proofs.Common.{is_some, Place, Table, Names, Stmt, arena, Formula, Statement, AWhen, Statements, statements_of, otherwise_of, view, view_stmt, guarded, condition_of, Context, formulas, statement_gives, else_gives, statements_give, Guard, view_guard, context_for, Manner, Walked, kept_formula, clear_before, StillStands, stands_alike, stands_less, stands_then, view_when, WalksStatement, StandsStatement, units_of_statement, statement_manners, statement_places, else_places, statements_places, When, AreBothGuards, WalksCondition}
 use Rattle.abel_meaning.specs.Contributions as meant
@@ -7,21 +7,21 @@ use Rattle.equations.proofs.BuiltUnits.{guard_view}
 use Rattle.equations.proofs.CheckedUnits.{view_parts}
 use Rattle.equations.proofs.WalkedStatements.{Under, under_guard}
 
--- what stands after a statement under a guard of formulas
+-- what is after a statement under a guard of formulas
 abbrev pub StandsUnder : Context → meant.Guard Formula → Statement → (old new : Walked) → Type 0
 StandsUnder d g s old new = StillStands (statement_gives (formulas d) d g s) (statement_places d s) old new
 
 abbrev pub StandsAll : Context → meant.Guard Formula → Statements → (old new : Walked) → Type 0
 StandsAll d g ss old new = StillStands (statements_give (formulas d) d g ss) (statements_places d ss) old new
 
--- a guard counts only where nothing was refused before
+-- a guard counts only if nothing was refused before
 pub stands_under : (d : Context) (s : Statement) (g h : meant.Guard Formula) (old new : Walked) → (old.fault ≡ None → g ≡ h) → StandsUnder d g s old new → StandsUnder d h s old new
 stands_under d s g h old new k x =
     stands_alike (statement_gives (formulas d) d g s) (statement_gives (formulas d) d h s) (statement_places d s) old new (λ e. ap (λ y. statement_gives (formulas d) d y s) (k e)) x
 
 -- ---- WHEN
 
--- a condition where the walk ends
+-- a condition if the walk ends
 pub condition_stands : (t : Table) (n : Names) (g : Guard) (s : Statement) (old new : Walked) → StillStands [] [] old new → StandsStatement t n g s old new
 condition_stands t n g s old new x =
     stands_less [] (statement_gives (formulas (context_for t n)) (context_for t n) (view_guard (arena old.exprs) g) s) [] (statement_places (context_for t n) s) old new x
@@ -50,7 +50,7 @@ module _ (t : Table) (n : Names) (g : Guard) (w : When) (s : Stmt) (gs : BothGua
   then_part : StandsUnder d under (view_stmt s) mid far
   then_part = stands_under d (view_stmt s) (view_guard (arena mid.exprs) (record g { when = gs.then })) under mid far then_guard inner
 
-  -- behind the condition
+  -- after the condition
   behind : (gives : List (meant.Contribution Formula)) (places : List Place) (new : Walked) → StillStands gives places mid new → StillStands gives places old new
   behind gives places new x = stands_then old.before [] _ [] gives [] places old mid new (one old.before (λ i p. refl)) still x
 
@@ -61,7 +61,7 @@ module _ (t : Table) (n : Names) (g : Guard) (w : When) (s : Stmt) (gs : BothGua
       subst (λ v. StandsUnder d h v old new) (sym (view_parts w ∙ ap₂ (λ y z. AWhen w.place (view w.condition) (view_stmt y) (otherwise_of (option_map view_stmt z))) (sym is) e))
       (behind (statement_gives (formulas d) d under (view_stmt s) ++ else_gives (formulas d) d beside (otherwise_of (option_map view_stmt o))) (statement_places d (view_stmt s) ++ else_places d (otherwise_of (option_map view_stmt o))) new x)
 
-  -- where the walk ends behind its statement
+  -- if the walk ends after its statement
   pub then_stands : StandsStatement t n g (view_when w) old far
   then_stands =
       let z = otherwise_of (option_map view_stmt w.otherwise) in
@@ -87,7 +87,7 @@ next_stands d all g left more s old mid new e w a b =
     subst (λ zs. StandsAll d g (statements_of zs) old new) (sym e)
     (stands_then all (statement_manners d s) (units_of_statement d g.holds all s) (statement_gives (formulas d) d g s) (statements_give (formulas d) d g (statements_of more)) (statement_places d s) (statements_places d (statements_of more)) old mid new w a b)
 
--- where the walk ends at a statement
+-- if the walk ends at a statement
 pub last_stands : (d : Context) (g : meant.Guard Formula) (left more : List Statement) (s : Statement) (old new : Walked) → left ≡ s ∷ more → StandsUnder d g s old new → StandsAll d g (statements_of left) old new
 last_stands d g left more s old new e a =
     subst (λ zs. StandsAll d g (statements_of zs) old new) (sym e)

@@ -37,7 +37,7 @@ mutual
   any_guards d g h all (MoreStatements s ss) =
       simp (refused_append, any_guard d g h all s, any_guards d g h (all ++ statement_manners d s) ss)
 
--- so a guard counts only where nothing was refused before
+-- so a guard counts only if nothing was refused before
 pub under_guard : (d : Context) (all : List Manner) (s : Statement) (g h : meant.Guard Formula) (old new : Walked) → (old.fault ≡ None → g ≡ h) → Under d all g s old new → Under d all h s old new
 under_guard d all s g h old new e w = by_fault old.fault refl
   where
@@ -95,7 +95,7 @@ module _ (t : Table) (n : Names) (g : Guard) (w : When) (s : Stmt) (gs : BothGua
 
 -- ---- lists
 
--- behind a walk over the first of these statements: whatever one over those that are left leaves, one over all leaves
+-- after a walk over the first of these statements: whatever one over those that are left leaves, one over all leaves
 pub record LeftBehind (d : Context) (all : List Manner) (g : meant.Guard Formula) (ss left : Statements) (old mid : Walked) : Type 0 where
   pub seen : List Manner
   pub firsts : AreFirsts mid.before seen

@@ -4,7 +4,7 @@ use Rattle.equations.proofs.Common.{is_some, Place, Formula, earlier, first_refu
 use Rattle.abel_meaning.specs.Contributions as meant
 use Rattle.equations.proofs.BuiltParts.{whole}
 
--- one that is refused, or stands behind what is; how it assigns signals was noted
+-- one that is refused, or follows what is; how it assigns signals was noted
 pub noted_refused : (all ms : List Manner) (u : CountedUnit) (gs : List (meant.Contribution Formula)) (ps : List Place) (f : Option SectionFault) (before : List Manner) (old new : Walked)
     → f ≡ first_refusal section_order u.refusals → new ≡ record old { before = before; fault = earlier section_order old.fault f } → is_some new.fault ≡ true → AreFirsts before (all ++ ms)
     → Walks all (u ∷ []) gs ps ms old new
@@ -12,7 +12,7 @@ noted_refused all ms u gs ps f before old new e k s a =
     walks_refused all ms u gs ps f old new (e ∙ ap (first_refusal section_order) (sym (append-nil u.refusals))) (ap (λ (w : Walked). w.fault) k) s (ap (λ (w : Walked). w.exprs) k)
     (subst (λ (w : Walked). AreFirsts w.before (all ++ ms)) (sym k) a)
 
--- where nothing is refused so far
+-- if nothing is refused so far
 pub noted_clear : (rs : List SectionFault) (f : Option SectionFault) (old kept : Walked)
     → f ≡ first_refusal section_order rs → kept.fault ≡ earlier section_order old.fault f → is_some kept.fault ≡ false
     → (old.fault ≡ None) × ((f ≡ None) × (rs ≡ []))

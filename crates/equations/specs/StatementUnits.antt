@@ -76,7 +76,7 @@ abbrev mutual
   statements_places d NoStatement = []
   statements_places d (MoreStatements s ss) = statement_places d s ++ statements_places d ss
 
--- the units of statements under a guard, behind what was assigned before
+-- the units of statements under a guard, after what was assigned before
 abbrev mutual
   pub units_of_statement : Context → (guard : Formula) → List Manner → Statement → List CountedUnit
   units_of_statement d g before (AnAssign place complement target sign q value) =

@@ -6,7 +6,7 @@ use Rattle.equations.specs.declared.choices.BothGuards.{BothGuards}
 use Rattle.equations.specs.Builds.{condition_unit}
 use Rattle.equations.specs.StatementUnits.{units_of_statement, units_of_statements, statement_manners, statements_manners, statement_places, statements_places}
 
--- a statement behind what was walked before
+-- a statement after what was walked before
 abbrev pub WalksStatement : Table → Names → Guard → Statement → (old new : Walked) → Type 0
 WalksStatement t n g s old new =
     (all : List Manner) → AreFirsts old.before all
@@ -22,7 +22,7 @@ WalksStatements t n g ss old new =
     (statements_give (formulas (context_for t n)) (context_for t n) (view_guard (arena old.exprs) g) ss)
     (statements_places (context_for t n) ss) (statements_manners (context_for t n) ss) old new
 
--- what stands after a statement, whatever the answer
+-- what is after a statement, whatever the answer
 abbrev pub StandsStatement : Table → Names → Guard → Statement → (old new : Walked) → Type 0
 StandsStatement t n g s old new =
     StillStands (statement_gives (formulas (context_for t n)) (context_for t n) (view_guard (arena old.exprs) g) s)
@@ -42,7 +42,7 @@ WalksCondition t n g p c other old new =
     (condition_unit (context_for t n) p c (choice_nodes (context_for t n) (formula_at (arena old.exprs) g) c other) ∷ [])
     [] [] [] old new
 
--- the guards of what stands under a condition and of its ELSE, where nothing is refused
+-- the guards of what is under a condition and of its ELSE, if nothing is refused
 pub record AreBothGuards (t : Table) (n : Names) (g : ExprId) (c : Tree) (other : Bool) (old new : Walked) (gs : BothGuards) : Type 0 where
   pub then_inside : gs.then.0 < length (arena new.exprs)
   pub else_inside : gs.otherwise.0 < length (arena new.exprs)

@@ -14,7 +14,7 @@ use section_targets::{Assigned, SectionScope, Way, check_aims};
 use set_expr::SectionFault;
 use std::alloc::Global;
 
-/// The first refusal, by place, of an assignment behind what was assigned before; how it assigns signals is noted.
+/// The first refusal, by place, of an assignment after what was assigned before; how it assigns signals is noted.
 pub(crate) fn check_assign<D: Device>(
     alloc: Global,
     scope: &SectionScope<'_, D>,

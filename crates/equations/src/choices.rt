@@ -1,4 +1,4 @@
-//! Conditions, and the guards of what stands under them.
+//! Conditions, and the guards of what is under them.
 
 ghost use Rattle.std.specs.Prelude.{◌≡◌, ◌<◌, None, true, false, [], ◌∷◌, length, IfOk};
 ghost use Rattle.equations.specs.Prelude.{arena, formula_at, view, condition_of, choice_nodes, Keeps, refusal_of, BuildsNodes, IsBit, context_for, part, StillStands};
@@ -23,14 +23,14 @@ pub struct Condition<'a> {
     pub otherwise: bool,
 }
 
-/// A condition, and the guard of what counts where it is 1.
+/// A condition, and the guard of what counts if it is 1.
 #[derive(Clone, Copy, PartialEq, Eq)]
 pub struct Chosen {
     pub condition: ExprId,
     pub then: ExprId,
 }
 
-/// A condition of which nothing is refused and the guard of what stands under it, in its unit.
+/// A condition of which nothing is refused and the guard of what is under it, in its unit.
 pub fn then_guard<D: Device>(
     alloc: Global,
     scope: &SectionScope<'_, D>,
@@ -59,7 +59,7 @@ pub fn then_guard<D: Device>(
     })
 }
 
-/// The guards of what stands under a condition and of its ELSE; without an ELSE the second is that of the condition.
+/// The guards of what is under a condition and of its ELSE; without an ELSE the second is that of the condition.
 #[derive(Clone, Copy, PartialEq, Eq)]
 pub struct BothGuards {
     pub then: ExprId,
@@ -96,7 +96,7 @@ fn both_guards<D: Device>(
     }
 }
 
-/// A condition and its guards. Where something is refused, what stands under it is only checked, so that any guard
+/// A condition and its guards. Where something is refused, what is under it is only checked, so that any guard
 /// serves.
 pub fn walk_condition<D: Device>(
     alloc: Global,

@@ -20,7 +20,7 @@ pub(crate) fn is_clocked(sign: Sign) -> bool
     matches!(sign, Sign::Clocked | Sign::ClockedAny)
 }
 
-/// What the sign gives where the value is 1.
+/// What the sign gives if the value is 1.
 pub(crate) fn sign_gives(sign: Sign) -> Gives
     ensures { view_gives result ≡ given.sign_gives sign }
 {
@@ -30,7 +30,7 @@ pub(crate) fn sign_gives(sign: Sign) -> Gives
     }
 }
 
-/// Refused where a set meets another number of signals.
+/// Refused if a set meets another number of signals.
 fn refuse_width(place: Place, width: usize, shape: Option<Shape>) -> Option<SectionFault>
     ensures { (v : Option Value) → HasShapeIf shape v → result ≡ first_refusal section_order (value_width place width v) }
 {

@@ -19,7 +19,7 @@ pub struct Meets {
     pub signals: usize,
 }
 
-/// The bits of an expression of which nothing is refused, as nodes of the unit at this place; `NodeLimit` stands there.
+/// The bits of an expression of which nothing is refused, as nodes of the unit at this place; `NodeLimit` is there.
 pub fn unit_bits<D: Device>(
     alloc: Global,
     scope: &SectionScope<'_, D>,

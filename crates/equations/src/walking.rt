@@ -1,4 +1,4 @@
-//! The walk over statements: each unit is checked, and made where nothing is refused so far.
+//! The walk over statements: each unit is checked, and made if nothing is refused so far.
 
 ghost use Rattle.std.specs.Prelude.{◌≡◌, ◌<◌, length, OnOk};
 ghost use Rattle.equations.specs.Prelude.{arena, view_stmt};
@@ -129,7 +129,7 @@ fn walk_statement<D: Device>(
     }
 }
 
-/// Statements one after another under a guard, behind what was walked before. Calls go as deep as the nestings of
+/// Statements one after another under a guard, after what was walked before. Calls go as deep as the nestings of
 /// statements.
 #[cycle(walks)]
 pub fn walk_statements<D: Device>(

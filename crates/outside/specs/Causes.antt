@@ -1,7 +1,7 @@
 -- Counts of faults, and what a refused piece leaves.
 use Rattle.std.specs.Prelude.{◌≡◌, ℕ, ◌+◌, ◌-◌, ◌^◌, ◌≤◌, min, List, ◌++◌}
 
--- the count went up, or stands at the last value of a u64
+-- the count went up, or is at the last value of a u64
 abbrev pub Rose : ℕ → ℕ → Type 0
 Rose before now = min (before + 1) (2 ^ 64 - 1) ≤ now
 

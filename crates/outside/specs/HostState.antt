@@ -3,7 +3,7 @@ use Rattle.std.specs.Prelude.{ℕ}
 use Rattle.outside.specs.declared.real_files.HostFiles.{HostFiles}
 use Rattle.outside.specs.declared.real_sink.HostSink.{HostSink}
 
--- the writer behind a sink
+-- the writer after a sink
 abbrev pub writer_of : {W : Type 0} → HostSink W → W
 writer_of s = s.out
 

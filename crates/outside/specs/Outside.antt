@@ -6,7 +6,7 @@ use Rattle.outside.specs.Causes.{Begins}
 abbrev pub Map : Type 0
 Map = List ℕ → Option (List ℕ)
 
--- the bytes under a name, none where it is absent
+-- the bytes under a name, none if it is absent
 abbrev pub bytes_at : Map → List ℕ → List ℕ
 bytes_at files name = unwrap_or (files name) []
 

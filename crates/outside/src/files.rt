@@ -34,10 +34,10 @@ pub enum WriteFault {
 
 /// Files, each under a name.
 pub trait Files {
-    /// Whether an object tells what its files hold.
+    /// Whether an object shows what its files hold.
     ghost Tells: { Type 0 };
 
-    /// The bytes under each name, where they are told.
+    /// The bytes under each name, if they are reported.
     ghost file: { Self → List ℕ → Option (List ℕ) };
 
     /// How often a call has failed, a count that never falls.

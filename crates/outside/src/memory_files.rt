@@ -100,7 +100,7 @@ impl MemoryFiles {
         }
     }
 
-    /// Reads a file where the call is on no list.
+    /// Reads a file if the call is on no list.
     fn read_now(&mut self, alloc: Global, name: &str, limit: usize) -> Result<Vec<u8>, ReadFault>
         ensures bytes { IfOk result (λ v. bytes_in self.old.files name.now ≡ Some v.items) }
         ensures within { IfOk result (λ v. length v.items ≤ limit) }
@@ -141,8 +141,8 @@ impl Files for MemoryFiles {
 
     ghost write_faults = { λ m. m.write_faults };
 
-    /// `Failed` comes exactly where the call is on the list or the name is absent, `TooLong` exactly
-    /// where it is neither and the file is longer than the limit.
+    /// `Failed` is answered exactly if the call is on the list or the name is absent, `TooLong`
+    /// exactly if it is neither and the file is longer than the limit.
     fn read(&mut self, alloc: Global, name: &str, limit: usize) -> Result<Vec<u8>, ReadFault>
         ensures bytes { IfOk result (λ v. held self.old name.now ≡ Some v.items) }
         ensures within { IfOk result (λ v. length v.items ≤ limit) }
@@ -169,7 +169,7 @@ impl Files for MemoryFiles {
         self.read_now(alloc, name, limit)
     }
 
-    /// `Failed` comes exactly where the call is on the list.
+    /// `Failed` is answered exactly if the call is on the list.
     fn write(&mut self, name: &str, bytes: &[u8]) -> Result<(), WriteFault>
         ensures written { OnOk result (held self.new name.now ≡ Some bytes.now) }
         ensures failed_exactly { IsErrOf result WriteFault.Failed ↔ FailsNow self.old }

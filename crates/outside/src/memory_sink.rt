@@ -73,7 +73,7 @@ impl Sink for MemorySink {
 
     ghost faults = { λ s. s.faults };
 
-    /// `Failed` comes exactly where the call is on the list, and then nothing is taken.
+    /// `Failed` is answered exactly if the call is on the list, and then nothing is taken.
     fn put(&mut self, bytes: &[u8]) -> Result<(), SinkFault>
         ensures whole { OnOk result (taken_by self.new ≡ taken_by self.old ++ bytes.now) }
         ensures failed_exactly { IsErrOf result SinkFault.Failed ↔ RefusesNow self.old }

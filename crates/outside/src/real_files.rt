@@ -1,4 +1,4 @@
-//! The real files. Nothing is told of what they hold.
+//! The real files. Nothing is reported of what they hold.
 
 ghost use Rattle.std.specs.Prelude.{◌≡◌, None};
 ghost use Rattle.outside.specs.HostState.{host_faults, host_write_faults};
@@ -54,7 +54,7 @@ impl<R: rt::Files + Drop> Files for HostFiles<R> {
         result
     }
 
-    /// A file that is there is replaced in one piece. `OutOfMemory` comes before anything is written.
+    /// A file that is there is replaced in one piece. `OutOfMemory` precedes anything is written.
     fn write(&mut self, name: &str, bytes: &[u8]) -> Result<(), WriteFault> {
         let result = replace(&self.host, self.alloc, name, bytes);
         if matches!(&result, Err(WriteFault::Failed)) {

@@ -1,4 +1,4 @@
-//! A writer as a sink. Nothing is told of what it holds.
+//! A writer as a sink. Nothing is reported of what it holds.
 
 ghost use Rattle.std.specs.Io.KnownBytes.{Appends};
 ghost use Rattle.std.specs.Prelude.{◌≡◌, ◌≤◌, ◌⊎◌, [], OnOk, IsErrOf};
@@ -39,7 +39,7 @@ impl<W: Write + Drop> Sink for HostSink<W> {
 
     ghost faults = { λ h. h.faults };
 
-    /// Where the writer says what it holds, that grew by the whole piece.
+    /// If the writer says what it holds, that grew by the whole piece.
     fn put(&mut self, bytes: &[u8]) -> Result<(), SinkFault>
         ensures whole { OnOk result (Appends (W.contents (writer_of self.old))
             (W.contents (writer_of self.new)) bytes.now) }

@@ -20,7 +20,7 @@ const NAMES: u32 = 1000;
 /// The most bytes that the system takes for the name of a file in its folder.
 const LONGEST_NAME: usize = 255;
 
-/// Puts the bytes under a name. `OutOfMemory` comes before anything is written.
+/// Puts the bytes under a name. `OutOfMemory` precedes anything is written.
 pub fn replace<R: rt::Files>(
     host: &R,
     alloc: Global,
@@ -38,8 +38,8 @@ pub fn replace<R: rt::Files>(
     }
 }
 
-/// The path of the file that a name leads to, or the name itself where there is no file yet. None where
-/// it is a link with no such path: one that leads nowhere, or to a pipe.
+/// The path of the file that a name leads to, or the name itself if there is no file yet. None if it is a link with no such
+/// path: one that leads nowhere, or to a pipe.
 fn target_of<R: rt::Files>(
     host: &R,
     alloc: Global,
@@ -110,8 +110,8 @@ fn overwritten<R: rt::Files>(host: &R, name: &str, bytes: &[u8]) -> bool {
     }
 }
 
-/// Whether the target has the bytes: a new file where there is none or a regular one that may be
-/// written, else what is there takes them.
+/// Whether the target has the bytes: a new file if there isn't one or a regular one that may be written, else what is there
+/// takes them.
 fn replaced<R: rt::Files>(
     host: &R,
     alloc: Global,

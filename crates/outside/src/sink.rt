@@ -18,10 +18,10 @@ pub enum SinkFault {
 
 /// What takes bytes, piece after piece.
 pub trait Sink {
-    /// Whether an object tells what it has taken.
+    /// Whether an object shows what it has taken.
     ghost Tells: { Type 0 };
 
-    /// The bytes taken so far, where they are told.
+    /// The bytes taken so far, if they are reported.
     ghost taken: { Self → List ℕ };
 
     /// How often a call has failed, a count that never falls.

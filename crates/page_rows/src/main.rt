@@ -1,4 +1,4 @@
-//! Runs of the top call of `abel-page` over files in memory. Its rows stand in `stdin`.
+//! Runs of the top call of `abel-page` over files in memory. Its rows are in `stdin`.
 #![tactic(auto)]
 
 mod rows;

@@ -5,7 +5,7 @@ use crate::texts::{lines_of, number_of};
 use std::alloc::{AllocError, Global};
 use test_rows::{Report, Row, Section, unescaped};
 
-/// The words of a block, what is told of their run, and the bytes under `in`. With escapes.
+/// The words of a block, what is reported of their run, and the bytes under `in`. With escapes.
 fn parts(text: &str) -> Option<(&str, &str, &str)> {
     let (words, rest) = text.split_once('|')?;
     let (told, input) = rest.split_once('\n')?;
@@ -24,7 +24,8 @@ fn is_page_tried(alloc: Global, text: &str, number: usize, report: &mut Report<'
     true
 }
 
-/// Each block is the words, the status and the lines of the report, and `page` where one is written; and below what stands under `in`.
+/// Each block is the words, the status and the lines of the report, and `page` if one is written; and below what is under
+/// `in`.
 pub fn try_pages(
     alloc: Global,
     section: &Section<'_>,
@@ -39,7 +40,7 @@ pub fn try_pages(
     Ok(())
 }
 
-/// A row of calls that fail: that of the files, that of the report, the words, and what is told of their run.
+/// A row of calls that fail: that of the files, that of the report, the words, and what is reported of their run.
 fn call_parts(row: &str) -> Option<((u32, u32), &str, &str)> {
     let (files, rest) = row.split_once('|')?;
     let (sink, rest) = rest.split_once('|')?;
@@ -59,8 +60,8 @@ fn try_call(alloc: Global, row: &Row<'_>, input: &[u8], report: &mut Report<'_>)
     }
 }
 
-/// The first block stands under `in`; each row of the second is the call of the files and the call of the report that fail, from 1, or 0
-/// for none; the words; and what is told of their run, as for pages.
+/// The first block is under `in`; each row of the second is the call of the files and the call of the report that fail, from
+/// 1, or 0 for none; the words; and what is reported of their run, as for pages.
 pub fn try_calls(
     alloc: Global,
     section: &Section<'_>,

@@ -46,7 +46,7 @@ fn put_written(found: &mut Found, files: &MemoryFiles) {
     }
 }
 
-/// Appends what a run over the bytes under `in` came to: its status, the lines of its report, and which files were written.
+/// Appends what a run over the bytes under `in` gave: its status, the lines of its report, and which files were written.
 fn put_run(
     alloc: Global,
     found: &mut Found,
@@ -69,8 +69,8 @@ fn put_run(
     Ok(())
 }
 
-/// What a run over the bytes under `in` comes to. The call of the files and the call of the report of these numbers fail, where they are
-/// not 0.
+/// What a run over the bytes under `in` amounts to. The call of the files and the call of the report of these numbers fail,
+/// if they are not 0.
 pub fn run_found(alloc: Global, line: &str, bytes: &[u8], calls: (u32, u32)) -> Found {
     let mut found = Found::new(alloc);
     if put_run(alloc, &mut found, line, bytes, calls).is_err() {

@@ -13,7 +13,7 @@ pub fn lines_of(alloc: Global, rows: &[Row<'_>]) -> Result<String, AllocError> {
     Ok(text)
 }
 
-/// Where a block begins.
+/// The beginning of a block.
 pub fn number_of(rows: &[Row<'_>]) -> usize {
     match rows.first() {
         Some(row) => row.number,
@@ -21,7 +21,7 @@ pub fn number_of(rows: &[Row<'_>]) -> usize {
     }
 }
 
-/// Appends a text of lines, with `|` behind each.
+/// Appends a text of lines, with `|` after each.
 pub fn put_lines(found: &mut Found, text: &[u8]) {
     for byte in text {
         if *byte == b'\n' {

@@ -1,4 +1,5 @@
--- Where a block or an argument ends is told by its bytes up to there: it ends so in each text that begins with them.
+-- The end of a block or an argument depends only on its bytes up to there: it ends so in each text that begins with
+-- them.
 use Rattle.std.proofs.Common.{◌≡◌, ℕ, zero, suc, ◌-◌, ◌<◌, ◌≤◌, inl, inr, Bool, List, [], ◌∷◌, Some, length, take, drop, get_or, refl, sym, ap, ◌∙◌, arith, length-drop, ◌==◌, ◌&&◌, not, if◌then◌else◌}
 use Rattle.text_pieces.proofs.Common.{braces, closes_block, closing, open_in, ends_argument, argument_end, is_plain, starts_byte, passing, quoting, rest_of, Mode}
 use Rattle.abel_lexer.specs.Bytes.{note_mark, slash}
@@ -21,7 +22,7 @@ closing_short i m (x ∷ xs) ys e =
           omega (arith, closing_short (braces m i x) (passing m x xs) xs ys s)
     ]
 
--- texts that begin alike with one byte more have the same byte behind the first
+-- texts that begin alike with one byte more have the same byte after the first
 starts_alike : (n : ℕ) (xs ws : List ℕ) → take (suc n) xs ≡ take (suc n) ws → starts_byte slash xs ≡ starts_byte slash ws
 starts_alike n [] [] e = refl
 starts_alike n [] (w ∷ ws) e = absurd cc

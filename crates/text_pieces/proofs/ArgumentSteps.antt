@@ -1,4 +1,4 @@
--- The arguments that are open, where a byte is passed.
+-- The arguments that are open, if a byte is passed.
 use Rattle.std.proofs.Common.{◌≡◌, ℕ, zero, suc, ◌+◌, ◌-◌, ◌<◌, Bool, true, false, List, [], ◌∷◌, ◌++◌, Option, None, Some, length, drop, get_or, set, replicate, refl, sym, ap, ◌∙◌, arith, add-one, ◌==◌, ◌&&◌, IfSome, IfNone, if◌then◌else◌}
 use Rattle.text_pieces.proofs.Common.{ne_eqb, argument_end, EndsAt, is_plain, quoting, Opened, ArgumentsOpen, Ends, Mode}
 use Rattle.text_pieces.specs.declared.mode.Mode.TheVariants as mode
@@ -54,7 +54,7 @@ hidden_one mode.Escaped b j bs e = refl
 hidden_one mode.Note b j bs e = refl
 hidden_one mode.Line b j bs e = refl
 
--- ---- what is open behind the byte
+-- ---- what is open after the byte
 
 module _ (text : List ℕ) (at : ℕ) (h : at < length text) where
   abbrev from : ℕ → Option (List ℕ)
@@ -66,7 +66,7 @@ module _ (text : List ℕ) (at : ℕ) (h : at < length text) where
   abbrev next : Mode → ℕ → Option (List ℕ)
   next m j = argument_end j 0 (quoting m (get_or text at 0)) (drop (at + 1) text)
 
-  -- the same, but for the innermost
+  -- the same, except for the innermost
   abbrev outer : Mode → ℕ → Option (List ℕ)
   outer m j = next m (suc j)
 

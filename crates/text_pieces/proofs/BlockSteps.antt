@@ -1,11 +1,11 @@
--- The blocks that are open, where a byte is passed.
+-- The blocks that are open, if a byte is passed.
 use Rattle.std.proofs.Common.{◌≡◌, ℕ, suc, ◌+◌, ◌-◌, ◌<◌, Bool, true, false, List, [], ◌∷◌, ◌++◌, Some, length, drop, get_or, set, replicate, Option, None, refl, sym, ap, ◌∙◌, arith, add-one, ◌==◌, IfSome, IfNone, if◌then◌else◌}
 use Rattle.text_pieces.proofs.Common.{drop-cons, ne_eqb, closing, ClosesAt, is_plain, passing, Opened, BlocksOpen, Ends, Mode}
 use Rattle.text_pieces.specs.declared.mode.Mode.TheVariants as mode
 use Rattle.text_pieces.proofs.OpenPlaces.{stays, begins, ended, innermost}
 use Rattle.text_pieces.proofs.Tables.{tells_set, tells_none}
 
--- the byte at a place, and those behind it
+-- the byte at a place, and those after it
 pub front : (text : List ℕ) (at : ℕ) → at < length text → drop at text ≡ get_or text at 0 ∷ drop (at + 1) text
 front text at h = drop-cons text at 0 h ∙ ap (λ (n : ℕ). get_or text at 0 ∷ drop n text) (sym (add-one at))
 
@@ -50,7 +50,7 @@ hidden_one mode.Escaped b j bs e = refl
 hidden_one mode.Note b j bs e = refl
 hidden_one mode.Line b j bs e = refl
 
--- ---- what is open behind the byte
+-- ---- what is open after the byte
 
 module _ (text : List ℕ) (at : ℕ) (h : at < length text) where
   abbrev from : ℕ → Option (List ℕ)

@@ -1,4 +1,4 @@
--- Stretches in which no question mark stands.
+-- Stretches in which no question mark is.
 use Rattle.std.proofs.Common.{◌≡◌, ℕ, suc, ◌+◌, ◌-◌, ◌<◌, ◌≤◌, Bool, List, ◌∷◌, length, take, drop, get_or, refl, ap, ◌∙◌, arith, ◌==◌, if◌then◌else◌}
 use Rattle.text_pieces.proofs.Common.{count_by, ne_eqb, take-take, NoMark}
 use Rattle.std.proofs.lemmas.List.Sums.{sum_by-cons, sum_by-take-le}
@@ -15,7 +15,7 @@ fewer w n k h e =
 pub mark_here : (text : List ℕ) (at : ℕ) → at ≤ length text → NoMark text at at
 mark_here text at h = let z : at - at ≡ 0 = omega arith in (rw z refl, h)
 
--- a byte more, which is none
+-- a byte more, which isn't one
 pub mark_behind : (text : List ℕ) (at end : ℕ) → at < length text → (get_or text at 0 ≡ 63 → ⊥) → at + 1 ≤ end → NoMark text (at + 1) end → NoMark text at end
 mark_behind text at end h n more o =
     let b = get_or text at 0 in

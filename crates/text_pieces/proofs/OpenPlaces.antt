@@ -1,4 +1,4 @@
--- What is open, where a byte is passed: it stays open, something begins behind it, or the innermost ends.
+-- What is open, if a byte is passed: it stays open, something begins after it, or the innermost ends.
 use Rattle.std.proofs.Common.{◌≡◌, ℕ, suc, ◌+◌, List, [], ◌∷◌, ◌++◌, length, Option, ap, ◌∙◌, arith, length-append}
 use Rattle.text_pieces.proofs.Common.{Opened}
 
@@ -19,7 +19,7 @@ module _ (from here next : ℕ → Option (List ℕ)) where
       let n : length (ps ++ p ∷ []) ≡ suc (length ps) = omega (arith, length-append ps (p ∷ [])) in
       (o.0 ∙ ap here n ∙ step (length ps), ended ps p step o.1)
 
-  -- the innermost ends where a byte ends what has nothing open in it
+  -- the innermost ends if a byte ends what has nothing open in it
   pub innermost : (ps : List ℕ) (p : ℕ) → Opened from here (ps ++ p ∷ []) → from p ≡ here 0
   innermost [] p o = o.0
   innermost (q ∷ ps) p o = innermost ps p o.1

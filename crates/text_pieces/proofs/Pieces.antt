@@ -13,7 +13,7 @@ joined-append (p ∷ ps) qs = ap (λ (w : List ℕ). p ++ w) (joined-append ps q
 pub joined-push : (ps : List (List ℕ)) (p : List ℕ) → joined (ps ++ p ∷ []) ≡ joined ps ++ p
 joined-push ps p = joined-append ps (p ∷ []) ∙ ap (λ (w : List ℕ). joined ps ++ w) (append-nil p)
 
--- what stands behind bytes that reach past the first piece, and the bytes themselves
+-- what follows bytes that reach past the first piece, and the bytes themselves
 module _ (top : List ℕ) (items more : List (List ℕ)) (p : List ℕ) (left : ℕ) (past : length top ≤ left) (e : items ≡ more ++ p ∷ []) where
   pub skipped : (text : List ℕ) → drop left (top ++ stacked items) ≡ text → drop (left - length top) (p ++ stacked more) ≡ text
   skipped text h =
@@ -30,14 +30,14 @@ module _ (top : List ℕ) (items more : List (List ℕ)) (p : List ℕ) (left : 
   pub lengths : length top + length (p ++ stacked more) ≡ length (top ++ stacked items)
   lengths = omega (arith, length-append top (stacked items), ap length (popped items more p e))
 
--- a list of pieces is its last one behind the others
+-- a list of pieces is its last one after the others
 pub split_last : (ps : List (List ℕ)) (p d : List ℕ) → 0 < length ps → p ≡ get_or ps (length ps - 1) d → ps ≡ take (length ps - 1) ps ++ p ∷ []
 split_last ps p d h e =
     let lt : length ps - 1 < length ps = omega arith in
     let whole : take (suc (length ps - 1)) ps ≡ ps = let z : suc (length ps - 1) ≡ length ps = omega arith in ap (λ (n : ℕ). take n ps) z ∙ take-length ps in
     sym whole ∙ take-suc ps (length ps - 1) d lt ∙ ap (λ (w : List ℕ). take (length ps - 1) ps ++ w ∷ []) (sym e)
 
--- the last of some pieces stands behind the others
+-- the last of some pieces follows the others
 pub joined_last : (ps : List (List ℕ)) (p d : List ℕ) → 0 < length ps → p ≡ get_or ps (length ps - 1) d → joined (take (length ps - 1) ps) ++ p ≡ joined ps
 joined_last ps p d h e = sym (joined-push (take (length ps - 1) ps) p) ∙ ap joined (sym (split_last ps p d h e))
 

@@ -49,7 +49,7 @@ one_then (x ∷ y ∷ here) stack next more rest h e f s = absurd (omega arith)
 one_then (x ∷ []) stack [] more rest h e f s = absurd (omega arith)
 one_then (x ∷ []) stack (y ∷ next) more rest h e f s = (x, next ++ more, sym e ∙ ap (λ (w : List ℕ). x ∷ w) (sym f))
 
--- behind a piece of one byte
+-- after a piece of one byte
 pub one_behind : (here stack : List ℕ) → length here ≡ 1 → drop 1 (here ++ stack) ≡ stack
 one_behind [] stack h = absurd (omega arith)
 one_behind (x ∷ []) stack h = refl

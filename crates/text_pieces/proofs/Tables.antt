@@ -15,13 +15,13 @@ tells_at fact from (e ∷ es) (suc k) t n = moved (λ p. fact p (get_or es k 0))
 pub tells_first : (fact : ℕ → ℕ → Type 0) (es : List ℕ) (k : ℕ) → Tells fact 0 es → (get_or es k 0 ≡ 0 → ⊥) → fact k (get_or es k 0)
 tells_first fact es k t n = moved (λ p. fact p (get_or es k 0)) (0 + k) k (omega arith) (tells_at fact 0 es k t n)
 
--- what an entry tells that was looked up
+-- what an entry says that was looked up
 pub asked : (fact : ℕ → ℕ → Type 0) (es table : List ℕ) (k e : ℕ) → Tells fact 0 es → table ≡ es → e ≡ get_or table k 0 → (e ≡ 0 → ⊥) → fact k e
 asked fact es table k e t s r n =
     let q : e ≡ get_or es k 0 = r ∙ ap (λ (w : List ℕ). get_or w k 0) s in
     moved (fact k) (get_or es k 0) e (sym q) (tells_first fact es k t (λ z. n (q ∙ z)))
 
--- the same of marks, where 0 tells something too
+-- the same of marks, where 0 says something too
 pub asked_mark : (text es table : List ℕ) (k e : ℕ) → Tells (NoMark text) 0 es → table ≡ es → e ≡ get_or table k 0 → NoMark text k e
 asked_mark text es table k zero t s r = let z : 0 - k ≡ 0 = omega arith in (ap (λ (n : ℕ). count_by (λ b. b == 63) (take n (drop k text))) z, omega arith)
 asked_mark text es table k (suc e) t s r = asked (NoMark text) es table k (suc e) t s r (λ z. omega (arith, z))

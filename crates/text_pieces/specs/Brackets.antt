@@ -6,11 +6,11 @@ use Rattle.text_pieces.specs.Modes.{is_plain, quoting, passing}
 
 -- ---- blocks
 
--- how many of a pair of brackets are open behind a byte of the plain text
+-- how many of a pair of brackets are open after a byte of the plain text
 abbrev pub nested : ℕ → ℕ → ℕ → ℕ → ℕ
 nested opening shutting inside b = if b == opening then inside + 1 else if b == shutting then inside - 1 else inside
 
--- how many braces are open behind a byte that stands in such a mode
+-- how many braces are open after a byte that is in such a mode
 abbrev pub braces : Mode → ℕ → ℕ → ℕ
 braces m inside b = if is_plain m then nested 123 125 inside b else inside
 
@@ -18,14 +18,14 @@ braces m inside b = if is_plain m then nested 123 125 inside b else inside
 abbrev pub closes_block : Mode → ℕ → ℕ → Bool
 closes_block m inside b = is_plain m && b == 125 && inside == 0
 
--- from the brace on that closes a block; so many are open within it, and the first byte stands in such a mode
+-- from the brace on that closes a block; so many are open within it, and the first byte is in such a mode
 abbrev pub closing : ℕ → Mode → List ℕ → Option (List ℕ)
 closing inside m [] = None
 closing inside m (b ∷ bs) = if closes_block m inside b then Some (b ∷ bs) else closing (braces m inside b) (passing m b bs) bs
 
 -- ---- arguments
 
--- how many parentheses, or brackets, are open behind a byte that stands in such a mode
+-- how many parentheses, or brackets, are open after a byte that is in such a mode
 abbrev pub open_in : Mode → ℕ → ℕ → ℕ → ℕ → ℕ
 open_in m opening shutting inside b = if is_plain m then nested opening shutting inside b else inside
 

@@ -1,5 +1,5 @@
--- What is known of a text's places: where the block that begins there is closed, where the argument
--- ends, and up to where no question mark stands.
+-- What is known of a text's places: the end of the block that begins there, the end of the
+-- argument, and up to which place there is no question mark.
 use Rattle.std.specs.Prelude.{ℕ, ◌+◌, ◌-◌, ◌==◌, ◌≡◌, ◌≤◌, List, [], ◌∷◌, length, take, drop, Some}
 use Rattle.std.specs.List.{count_by}
 use Rattle.text_pieces.specs.Brackets.{closing, argument_end}
@@ -13,7 +13,7 @@ ClosesAt text from end = closing 0 mode.Plain (drop from text) ≡ Some (drop en
 abbrev pub EndsAt : List ℕ → ℕ → ℕ → Type 0
 EndsAt text from end = argument_end 0 0 mode.Plain (drop from text) ≡ Some (drop end text)
 
--- no question mark stands between two places
+-- no question mark is between two places
 abbrev pub NoMark : List ℕ → ℕ → ℕ → Type 0
 NoMark text from end = (count_by (λ b. b == 63) (take (end - from) (drop from text)) ≡ 0) × (end ≤ length text)
 

@@ -1,5 +1,5 @@
--- Where the bytes of a text stand: in the plain text, in a string or in a comment (ABEL-HDL Reference
--- Manual, comments and strings).
+-- The place of the bytes of a text: in the plain text, in a string or in a comment (ABEL-HDL
+-- Reference Manual, comments and strings).
 use Rattle.std.specs.Prelude.{ℕ, Bool, true, false, not, ◌==◌, ◌&&◌, ◌||◌, List, if◌then◌else◌}
 use Rattle.abel_lexer.specs.Bytes.{line_feed, note_mark, quote, slash, backslash, starts}
 use Rattle.text_pieces.specs.declared.mode.Mode.{Mode}
@@ -16,7 +16,7 @@ is_plain mode.Escaped = false
 is_plain mode.Note = false
 is_plain mode.Line = false
 
--- where the byte behind this one stands, where comments don't count in the plain text
+-- the place of the byte after this one, where comments don't count in the plain text
 abbrev pub quoting : Mode → ℕ → Mode
 quoting mode.Plain b = if b == quote then mode.Quoted else mode.Plain
 quoting mode.Quoted b = if b == backslash then mode.Escaped else if b == quote then mode.Plain else mode.Quoted
@@ -24,7 +24,7 @@ quoting mode.Escaped b = mode.Quoted
 quoting mode.Note b = if b == note_mark || b == line_feed then mode.Plain else mode.Note
 quoting mode.Line b = if b == line_feed then mode.Plain else mode.Line
 
--- the same where comments count; `bs` stand behind the byte
+-- the same where comments count; `bs` follow the byte
 abbrev pub passing : Mode → ℕ → List ℕ → Mode
 passing m b bs =
     if not (is_plain m) then quoting m b

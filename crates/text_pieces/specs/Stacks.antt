@@ -1,4 +1,4 @@
--- Texts that stand in pieces.
+-- Texts that are in pieces.
 use Rattle.std.specs.Prelude.{ℕ, List, [], ◌∷◌, ◌++◌, drop}
 
 -- the text of pieces, the first piece first

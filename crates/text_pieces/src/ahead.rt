@@ -81,7 +81,7 @@ impl<'r, 'a> Ahead<'r, 'a> {
         self.bytes - self.passed
     }
 
-    /// What is ahead fits a number: this does nothing, and tells it.
+    /// What is ahead fits a number: this does nothing, and states it.
     #[tactic(auto, using(crate::proofs::Stacked::drop_fits))]
     pub fn fits(&self)
         ensures { length (ahead self.now) < 2 ^ 63 }
@@ -89,7 +89,7 @@ impl<'r, 'a> Ahead<'r, 'a> {
         let _passed = self.passed;
     }
 
-    /// The next bytes, as far as they stand in one piece.
+    /// The next bytes, as far as they are in one piece.
     pub fn front(&self) -> &'r [u8]
         ensures text { take (length result.now) (ahead self.now) ≡ result.now }
         ensures within { length result.now ≤ length (ahead self.now) }
@@ -108,7 +108,7 @@ impl<'r, 'a> Ahead<'r, 'a> {
         }
     }
 
-    /// The byte behind the next one.
+    /// The byte after the next one.
     pub fn peek_second(&self) -> Option<u8>
         ensures some { IfSome result (λ b. (a : ℕ) × (bs : List ℕ) × (ahead self.now ≡ a ∷ b ∷ bs)) }
         ensures none { IfNone result (rest_of (ahead self.now) ≡ []) }
@@ -160,7 +160,7 @@ impl<'r, 'a> Ahead<'r, 'a> {
         self.passed += count;
     }
 
-    /// How many bytes stand before the brace that closes the block whose text begins here, if that is known.
+    /// How many bytes precede the brace that closes the block whose text begins here, if that is known.
     pub fn block_len(&self) -> Option<usize>
         ensures closes { IfSome result (λ n. closing 0 mode.Plain (ahead self.now) ≡ Some (drop n (ahead self.now))) }
         ensures within { IfSome result (λ n. n ≤ length (ahead self.now)) }

@@ -1,4 +1,4 @@
-//! Where the arguments of a text end.
+//! The ends of the arguments of a text.
 
 ghost use Rattle.std.specs.Prelude.{◌+◌, ◌<◌, ◌^◌, length, slice_index, IfOk, OnOk};
 ghost use Rattle.text_pieces.specs.Known.{EndsAt, Tells};
@@ -39,7 +39,7 @@ fn pass(ends: &mut Ends, mode: Mode, text: &[u8], at: usize) -> Result<(), Alloc
     Ok(())
 }
 
-/// For each place of a text, where the argument that begins there ends; 0 where it isn't known, as of one that has brackets.
+/// For each place of a text, the end of the argument that begins there; 0 if it isn't known, as of one that has brackets.
 pub fn argument_ends(alloc: Global, text: &[u8]) -> Result<Vec<u32>, AllocError>
     requires { length text.now < 2 ^ 32 }
     ensures { IfOk result (λ t. Tells (EndsAt text.now) 0 t.items) }

@@ -1,4 +1,4 @@
-//! Where the blocks of a text end.
+//! The ends of the blocks of a text.
 
 ghost use Rattle.std.specs.Prelude.{◌+◌, ◌<◌, ◌^◌, length, drop, slice_index, IfOk, OnOk};
 ghost use Rattle.text_pieces.specs.Known.{ClosesAt, Tells};
@@ -30,7 +30,7 @@ fn pass(ends: &mut Ends, mode: Mode, text: &[u8], at: usize) -> Result<(), Alloc
     Ok(())
 }
 
-/// For each place of a text, where the block whose text begins there is closed; 0 where none begins or it isn't closed.
+/// For each place of a text, the end of the block whose text begins there; 0 if none begins or it isn't closed.
 pub fn block_ends(alloc: Global, text: &[u8]) -> Result<Vec<u32>, AllocError>
     requires { length text.now < 2 ^ 32 }
     ensures { IfOk result (λ t. Tells (ClosesAt text.now) 0 t.items) }

@@ -32,7 +32,7 @@ impl Ends {
         Ok(())
     }
 
-    /// The innermost that is open ends at a place; where it began.
+    /// The innermost that is open ends at a place; if it began.
     pub fn end(&mut self, at: usize) -> Option<usize>
         requires { at < 2 ^ 32 }
         ensures begun { IfSome result (λ p. self.old.begun.items ≡ self.new.begun.items ++ p ∷ []) }

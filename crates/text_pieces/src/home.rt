@@ -37,7 +37,7 @@ impl<'a> Home<'a> {
         }
     }
 
-    /// Where a byte stands in the source.
+    /// The place of a byte in the source.
     pub fn offset(&self, place: usize) -> usize {
         match self {
             Home::Lent(_bytes, offset) => offset.saturating_add(place),
@@ -45,7 +45,7 @@ impl<'a> Home<'a> {
         }
     }
 
-    /// Where the block that begins at a place is closed, if that is known.
+    /// The end of the block that begins at a place, if it is known.
     pub fn block_end(&self, place: usize) -> Option<usize>
         ensures { IfSome result (λ e. ClosesAt (home_bytes self.now) place e) }
     {
@@ -55,7 +55,7 @@ impl<'a> Home<'a> {
         }
     }
 
-    /// Where the argument that begins at a place ends, if that is known.
+    /// The end of the argument that begins at a place, if it is known.
     pub fn argument_end(&self, place: usize) -> Option<usize>
         ensures { IfSome result (λ e. EndsAt (home_bytes self.now) place e) }
     {
@@ -65,7 +65,7 @@ impl<'a> Home<'a> {
         }
     }
 
-    /// A place up to which no question mark stands from this one on.
+    /// A place up to which no question mark is from this one on.
     pub fn mark(&self, place: usize) -> usize
         ensures { NoMark (home_bytes self.now) place result }
     {

@@ -1,11 +1,11 @@
-//! Where question marks stand in a text.
+//! Where question marks are in a text.
 
 ghost use Rattle.std.specs.Prelude.{◌+◌, ◌≤◌, ◌<◌, ◌^◌, length, IfOk};
 ghost use Rattle.text_pieces.specs.Known.{NoMark, Tells};
 
 use std::alloc::{AllocError, Global};
 
-/// The next question mark from a byte on, or the end of the text; this is the one behind the byte.
+/// The next question mark from a byte on, or the end of the text; this is the one after the byte.
 fn mark_from(text: &[u8], at: usize, behind: usize) -> usize
     requires within { at < length text.now }
     requires none { NoMark text.now (at + 1) behind }

@@ -1,4 +1,4 @@
-//! Where a byte stands: in the plain text, in a string or in a comment.
+//! The place of a byte: in the plain text, in a string or in a comment.
 
 ghost use Rattle.std.specs.Prelude.{◌≡◌, ℕ, List};
 ghost use Rattle.text_pieces.specs.Stacks.{ahead};
@@ -6,14 +6,14 @@ ghost use Rattle.text_pieces.specs.Modes as spec;
 
 use crate::ahead::Ahead;
 
-/// Where a byte stands.
+/// The place of a byte.
 #[derive(Clone, Copy)]
 pub enum Mode {
     /// In the plain text.
     Plain,
     /// In a string.
     Quoted,
-    /// In a string, behind a backslash.
+    /// In a string, after a backslash.
     Escaped,
     /// In a comment that began with `"`.
     Note,
@@ -22,7 +22,7 @@ pub enum Mode {
 }
 
 impl Mode {
-    /// Whether a byte stands in the plain text.
+    /// Whether a byte is in the plain text.
     pub fn is_plain(self) -> bool
         ensures { result ≡ spec.is_plain self }
     {
@@ -32,7 +32,7 @@ impl Mode {
         }
     }
 
-    /// Where the byte behind this one stands, comments not counting in the plain text.
+    /// The place of the byte after this one, comments not counting in the plain text.
     pub fn quoting(self, byte: u8) -> Mode
         ensures { result ≡ spec.quoting self byte }
     {
@@ -71,7 +71,7 @@ impl Mode {
         }
     }
 
-    /// Where the byte behind the passed one stands, comments counting too.
+    /// The place of the byte after the passed one, comments counting too.
     pub fn passing(self, byte: u8, at: &Ahead) -> Mode
         ensures { result ≡ spec.passing self byte (ahead at.now) }
     {
@@ -81,7 +81,7 @@ impl Mode {
         }
     }
 
-    /// The same of a byte that stands before others.
+    /// The same of a byte that precedes others.
     pub fn passing_in(self, byte: u8, others: &[u8]) -> Mode
         ensures { result ≡ spec.passing self byte others.now }
     {
@@ -91,7 +91,7 @@ impl Mode {
         }
     }
 
-    /// The same, where it is known whether a slash stands behind the byte.
+    /// The same, if it is known whether a slash follows the byte.
     fn behind(self, byte: u8, slash: bool) -> Mode
         ensures { (bs : List ℕ) → spec.starts_byte 47 bs ≡ slash → result ≡ spec.passing self byte bs }
     {

@@ -1,4 +1,4 @@
-//! A piece of a text, which knows where it stands in the source.
+//! A piece of a text, which knows its place in the source.
 
 ghost use Rattle.std.specs.Prelude.{◌≡◌, ◌+◌, ◌-◌, ◌<◌, ◌≤◌, ◌^◌, ◌++◌, [], ◌∷◌, length, take, drop, IfNone, IfOk, OnOk, IfSome};
 ghost use Rattle.text_pieces.specs.Homes.{home_bytes};
@@ -11,7 +11,7 @@ use std::alloc::{AllocError, Global};
 use std::marker::Model;
 use std::rc::Rc;
 
-/// Bytes of a text. No contract rests on where they stand in the source: who reads that looks whether the source has the byte
+/// Bytes of a text. No contract rests on their places in the source: who reads that looks whether the source has the byte
 /// there.
 #[derive(Drop)]
 pub struct Piece<'a> {
@@ -44,7 +44,7 @@ impl<'a> Piece<'a> {
         }
     }
 
-    /// Bytes that stand nowhere in the source.
+    /// Bytes that are nowhere in the source.
     pub fn computed(bytes: &'a [u8]) -> Piece<'a>
         ensures { result ≡ bytes.now }
     {
@@ -74,7 +74,7 @@ impl<'a> Piece<'a> {
         })
     }
 
-    /// Adds its bytes, and where they stand in the source.
+    /// Adds its bytes, and their places in the source.
     fn add_to(&self, bytes: &mut Vec<u8>, offsets: &mut Vec<u32>) -> Result<(), AllocError>
         ensures { OnOk result (bytes.new.items ≡ bytes.old.items ++ self.now) }
     {
@@ -104,7 +104,7 @@ impl<'a> Piece<'a> {
         bytes
     }
 
-    /// Where the byte before its first one stands in the source.
+    /// The place of the byte before its first one in the source.
     pub fn offset_before(&self) -> usize {
         match self.from.checked_sub(1) {
             Some(place) => self.home.offset(place),
@@ -144,7 +144,7 @@ impl<'a> Piece<'a> {
         self.from += count;
     }
 
-    /// How many bytes stand before the brace that closes the block that begins at one of its bytes, if that is known.
+    /// How many bytes precede the brace that closes the block that begins at one of its bytes, if that is known.
     pub fn block_len(&self, at: usize) -> Option<usize>
         requires { at ≤ length self.now }
         ensures closes { IfSome result (λ n. ClosesAt (drop at self.now) 0 n) }

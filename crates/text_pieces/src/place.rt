@@ -8,7 +8,7 @@ ghost use Rattle.text_pieces.specs.Stacks.{joined, stacked};
 use crate::piece::Piece;
 use std::alloc::{AllocError, Global};
 
-/// A place in a piece. `front` is what is left of it, and behind that stand the pieces below, the last one first.
+/// A place in a piece. `front` is what is left of it, and after that are the pieces below, the last one first.
 #[derive(Clone, Copy)]
 pub struct Place<'r, 'a> {
     pub here: &'r Piece<'a>,
@@ -40,7 +40,7 @@ impl<'r, 'a> Place<'r, 'a> {
         self.here.len() - self.front.len()
     }
 
-    /// Whether nothing is left of its piece and others stand below it.
+    /// Whether nothing is left of its piece and others are below it.
     fn is_passed(self) -> bool
         ensures yes { result ≡ true → (length self.entry.front.now ≡ 0) × (0 < length self.entry.below.now) }
         ensures no { result ≡ false → IsSettled self.entry }
@@ -48,7 +48,7 @@ impl<'r, 'a> Place<'r, 'a> {
         self.front.is_empty() && !self.below.is_empty()
     }
 
-    /// The same text, from a piece on of which something is left where the text goes on.
+    /// The same text, from a piece on of which something is left if the text goes on.
     pub fn settled(self) -> Place<'r, 'a>
         requires { IsPlace self }
         ensures text { text_at result ≡ text_at self.entry }
@@ -65,7 +65,7 @@ impl<'r, 'a> Place<'r, 'a> {
         place
     }
 
-    /// The place behind so many bytes.
+    /// The place after so many bytes.
     pub fn behind(self, count: usize) -> Place<'r, 'a>
         requires is { IsPlace self }
         requires within { count ≤ length (text_at self) }
@@ -112,7 +112,7 @@ impl<'r, 'a> Place<'r, 'a> {
         Ok(pieces)
     }
 
-    /// How many bytes stand before the brace that closes the block whose text begins here, if that is known.
+    /// How many bytes precede the brace that closes the block whose text begins here, if that is known.
     pub fn block_len(self) -> Option<usize>
         requires { IsPlace self }
         ensures closes { IfSome result (λ n. ClosesAt self.entry.front.now 0 n) }

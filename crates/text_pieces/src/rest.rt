@@ -11,7 +11,7 @@ use std::marker::Model;
 /// A text that is kept has fewer bytes.
 const LONGEST: usize = 1 << 32;
 
-/// What is still to be read. The last piece of the stack stands right behind the top piece.
+/// What is still to be read. The last piece of the stack is right after the top piece.
 #[derive(Drop)]
 pub struct Rest<'a> {
     top: Piece<'a>,
@@ -57,7 +57,7 @@ impl<'a> Rest<'a> {
         self.bytes
     }
 
-    /// Its length fits a number: this does nothing, and tells it.
+    /// Its length fits a number: this does nothing, and states it.
     pub fn fits(&self)
         ensures { length self.now < 2 ^ 63 }
     {

@@ -9,11 +9,11 @@ use crate::marks::marks;
 use std::alloc::{AllocError, Global};
 use std::marker::Model;
 
-/// The offset of bytes that stand nowhere in the source, as the digits of a value.
+/// The offset of bytes that are nowhere in the source, as the digits of a value.
 pub const NOWHERE: u32 = u32::MAX;
 
-/// Bytes, where they stand in the source, and for each place in them: the brace that closes the block that begins there, the
-/// comma or parenthesis that ends the argument, and the next question mark. 0 where the first two aren't known.
+/// Bytes, their places in the source, and for each place in them: the brace that closes the block that begins there, the
+/// comma or parenthesis that ends the argument, and the next question mark. 0 if the first two aren't known.
 #[derive(Drop)]
 pub struct Text {
     bytes: Vec<u8>,
@@ -34,7 +34,7 @@ impl Model for Text {
     ghost invariant = { λ t. (Tells (ClosesAt t.bytes.items) 0 t.block_ends.items) × (Tells (EndsAt t.bytes.items) 0 t.argument_ends.items) × (Tells (NoMark t.bytes.items) 0 t.marks.items) };
 }
 
-/// What a table has at a place; 0 behind its end.
+/// What a table has at a place; 0 after its end.
 fn entry(table: &[u32], place: usize) -> usize
     ensures { result ≡ slice_index table.now place }
 {
@@ -45,7 +45,7 @@ fn entry(table: &[u32], place: usize) -> usize
 }
 
 impl Text {
-    /// A text of these bytes, which stand there in the source.
+    /// A text of these bytes, which are there in the source.
     pub fn new(alloc: Global, bytes: Vec<u8>, offsets: Vec<u32>) -> Result<Text, AllocError>
         requires { length bytes.items < 2 ^ 32 }
         ensures { IfOk result (λ t. t ≡ bytes.items) }
@@ -68,7 +68,7 @@ impl Text {
         &self.bytes
     }
 
-    /// Where a byte stands in the source.
+    /// The place of a byte in the source.
     pub fn offset(&self, place: usize) -> u32 {
         match self.offsets.get(place) {
             Some(offset) => *offset,
@@ -76,7 +76,7 @@ impl Text {
         }
     }
 
-    /// Where the block that begins at a place is closed, if that is known.
+    /// The end of the block that begins at a place, if it is known.
     pub fn block_end(&self, place: usize) -> Option<usize>
         ensures { IfSome result (λ e. ClosesAt self.now place e) }
     {
@@ -84,7 +84,7 @@ impl Text {
         if end == 0 { None } else { Some(end) }
     }
 
-    /// Where the argument that begins at a place ends, if that is known.
+    /// The end of the argument that begins at a place, if it is known.
     pub fn argument_end(&self, place: usize) -> Option<usize>
         ensures { IfSome result (λ e. EndsAt self.now place e) }
     {
@@ -92,7 +92,7 @@ impl Text {
         if end == 0 { None } else { Some(end) }
     }
 
-    /// A place up to which no question mark stands from this one on.
+    /// A place up to which no question mark is from this one on.
     pub fn mark(&self, place: usize) -> usize
         ensures { NoMark self.now place result }
     {

@@ -1,4 +1,4 @@
--- Where nothing is refused of an expression or inside an entry, nothing is of what its names and members stand for, so that
+-- If nothing is refused of an expression or inside an entry, nothing is of what its names and members represent, so that
 -- their shapes may be asked.
 use Rattle.std.proofs.Common.{◌≡◌, ℕ, zero, suc, ◌<◌, Bool, true, false, Some, List, [], ◌∷◌, ◌++◌, if◌then◌else◌, take, get_or, bytes_eq, unwrap_or, refl, sym, ap, ◌∙◌, subst, arith, length, map}
 use Rattle.truth_tables.proofs.Common.{slice_get-get_or, Entry, Kind, AConstant, find, range_names, Tree, ANumber, ASpecial, AName, ASet, AParen, AUnary, ABinary, SetMember, OneMember, SpanMember, Members, NoMember, MoreMembers, Place, SectionFault, MisplacedSpecial, NameFound, Found, found_use, name_found, names_found, left_empty, right_empty, too_wide, refused_inside, all_refused_inside, member_refused_inside, names_refused, holds_pulse, is_plain, Part, IsOfKind, view, view_member, members_of, Member, Vec, name_items, position-Some, all_found, found_entry, found_kind, found_constant, found_of, range_found, named, nothing_found, is_pulse, refused_there, at_name, members_refused, members_width, members_specials, members_value, large_member, NamesEarlier, AreInOrder, Value, IsUnrefused, IsClearName, AreClearNames, IsClear, AreClear, IsClearMember, IsClearPart, AreClearParts, IsClearStand, Stand}
@@ -7,7 +7,7 @@ use Rattle.truth_tables.specs.declared.part.Part.TheVariants as part
 use Rattle.truth_tables.specs.declared.part.Stand.TheVariants as stand
 use Rattle.truth_tables.proofs.NamesKept.{kept_tree, named_at}
 
--- ---- where nothing is refused
+-- ---- if nothing is refused
 
 unless_clear : (rs xs : List SectionFault) (v : Value) → (unless_refused rs xs v).refusals ≡ [] → rs ≡ []
 unless_clear [] xs v e = refl
@@ -118,7 +118,7 @@ plain_clear b ns (part.Number n) h = tt
 plain_clear b ns (part.Special letter) h = tt
 plain_clear b ns _ h = absurd cc
 
--- what a name stands for of which nothing is refused
+-- what a name represents of which nothing is refused
 pub stand_clear : (b : Bool) (es : List Entry) (w : List ℕ) (k : ℕ) (y : Entry) (s : Stand) → AreInOrder es → find es w ≡ Some k → get_or es k y ≡ y → IsOfKind s y.kind → IsClearName (names_found es) w → IsClearStand b (names_found es) s
 stand_clear b es w k y (stand.Part p) o h g e c = plain_clear b (names_found es) p e
 stand_clear b es w k y (stand.Constant x) o h g e c =

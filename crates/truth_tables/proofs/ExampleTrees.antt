@@ -1,4 +1,4 @@
--- Trees and names of the examples. A tree stands at a column of line 2, the header's; specials stand at column 9.
+-- Trees and names of the examples. A tree is at a column of line 2, the header's; specials are at column 9.
 use Rattle.truth_tables.proofs.Common.{Place, Kind, AConstant, Entry, Tree, ANumber, ASpecial, AName, ASet, SetMember, OneMember, members_of}
 use Prim.Native.String.{String}
 use Rattle.std.proofs.Common.{ℕ, Bool, true, false, None, List, [], ◌∷◌, codes}

@@ -35,7 +35,7 @@ output_given n m what a id one old new list more r e h = λ d s.
 
 -- ---- one position
 
--- a match behind what was given
+-- a match after what was given
 pub match_given : (d : Context) (m : Assigning) (what : Gives) (a : Aim) (id : ExprId) (old mid new : Contributions) (r : Result Unit SectionFault) → formula_at (arena mid.exprs) id ≡ formula_at (arena old.exprs) id
     → IsBuilt [] (given_output d (arena old.exprs) m what a id ∷ []) (a.place ∷ []) old mid
     → Builds [] (given_output d (arena mid.exprs) m gives.Match a id ∷ []) (a.place ∷ []) mid new r

@@ -1,4 +1,4 @@
--- The positions of an input header stand for its bits.
+-- The positions of an input header represent its bits.
 use Rattle.std.proofs.Common.{◌≡◌, ℕ, zero, suc, ◌<◌, Bool, true, false, Option, None, Some, List, [], ◌∷◌, ◌++◌, All, length, map, reverse, replicate, if◌then◌else◌, refl, sym, ap, ap₂, ◌∙◌, subst, arith}
 use Rattle.truth_tables.proofs.Common.{reverse-append, ExprId, formula_at, Formula, Const, Binary, Extension, row_literals, Context, bits_of, formulas, met_by, met_word, resized, Single, Value, width_of, Term, NoTerm, Before, extended, extended_if, binary_by, constant_of, is_relation, map_reverse, Shape, AreIn, HasUnknown, bits_at, positions, unknown_at, HasShape, AreBits, met_length, bits_length, is_computed, IsShapedTerm, StandForInputs}
 use Rattle.abel_meaning.specs.BitWords.{Word}

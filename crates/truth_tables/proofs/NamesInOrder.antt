@@ -1,4 +1,4 @@
--- What names stand for where each constant names earlier names alone: the term of its expression over all names, by fewer
+-- What names represent if each constant names earlier names alone: the term of its expression over all names, by fewer
 -- steps than its own name takes.
 use Rattle.std.proofs.Common.{◌≡◌, ℕ, zero, suc, ◌+◌, ◌≤◌, Bool, true, false, ◌&&◌, Option, None, Some, List, [], ◌∷◌, if◌then◌else◌, take, get_or, slice_get, cond, bytes_eq, refl, sym, ap, ap₂, ◌∙◌, subst, arith, ◌*◌, ◌<◌, length, mul-le-mul_left}
 use Rattle.truth_tables.proofs.Common.{list_all, position_from, list_all-append, slice_get-get_or, take-length, Names, Entry, Kind, AConstant, find, kind_of, passes, is_value, names_any, entries_of, range_names, Tree, AName, ASet, AParen, AUnary, ABinary, OneMember, SpanMember, Members, NoMember, MoreMembers, Terms, Number, Before, UnaryOf, BinaryOf, Set, extended_if, term_named, named_before, term_of, terms_of, term_meant, known_of, up_to, names_left, signs_left, kind_signs, all_signs, steps_left, steps_up_to, LeadsBack, IsOfKind, position_from-zero, position-Some, SoundNames, IsSoundKind, is_named, are_named, uses, member_uses, NamesEarlier, AreInOrder, Stand}
@@ -27,7 +27,7 @@ found_from i (suc k) (x ∷ es) w h = by_test (bytes_eq w x.name) h (found_from 
     by_test false h f = omega (arith, f h)
 found_from i _ _ w h = absurd cc
 
--- a name among the first k stands below place k
+-- a name among the first k is below place k
 pub found_early : (es : List Entry) (k : ℕ) (w : List ℕ) → names_any is_value (take k es) w ≡ true → up_to (find es w) ≤ k
 found_early es k w h =
     subst (λ o. up_to o ≤ k) (sym (position_from-zero (λ (e : Entry). bytes_eq w e.name) es)) (omega (arith, found_from 0 k es w h))
@@ -35,7 +35,7 @@ found_early es k w h =
 pub unnamed : (es : List Entry) (w : List ℕ) → find es w ≡ None → term_named (known_of es) w ≡ Number 0
 unnamed es w h = ap (λ xs. term_named (known_of xs) w) (sym (take-length es)) ∙ named_none _ es w h
 
--- names that stand for the same among the first as among all
+-- names that represent the same among the first as among all
 module _ (es : List Entry) (k : ℕ) where
   kept : (w : List ℕ) → names_any is_value (take k es) w ≡ true → term_named (known_of es) w ≡ term_named (known_of (take k es)) w
   kept w h = by (find es w) refl (found_early es k w h)
@@ -76,7 +76,7 @@ module _ (es : List Entry) (k : ℕ) where
   meant_kept s (AConstant value) h = sym (term_kept value h)
   meant_kept s _ h = refl
 
--- what a declared name stands for
+-- what a declared name represents
 pub named_meant : (es : List Entry) (w : List ℕ) (k : ℕ) (d : Entry) → AreInOrder es → find es w ≡ Some k → term_named (known_of es) w ≡ term_meant (known_of es) k (get_or es k d).kind
 named_meant es w k d o h =
     let p = position-Some (λ (e : Entry). bytes_eq w e.name) es k d h in

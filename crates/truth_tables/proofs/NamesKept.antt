@@ -4,7 +4,7 @@ use Rattle.std.proofs.Common.{◌≡◌, ℕ, zero, suc, ◌+◌, ◌≤◌, Boo
 use Rattle.truth_tables.proofs.Common.{list_all, position_from, list_all-append, Entry, find, kind_of, passes, is_value, names_any, range_names, Tree, AName, ASet, AParen, AUnary, ABinary, OneMember, SpanMember, Members, NoMember, MoreMembers, Place, NameFound, Found, found_use, name_found, names_found, position_from-zero, is_named, are_named, uses, member_uses, all_found, found_after, found_entry, found_of, range_found, named, nothing_found, found_both, found_under, found_set}
 use Rattle.truth_tables.proofs.NamesInOrder.{left_true, right_true}
 
--- ---- what is known of a name, by the entries behind those that are known
+-- ---- what is known of a name, by the entries after those that are known
 
 entry_among : List NameFound → List Entry → List ℕ → Option NameFound
 entry_among ns [] w = None

@@ -6,7 +6,7 @@ use Rattle.abel_tree.specs.declared.words.Binary.TheVariants as binary
 use Rattle.abel_tree.specs.declared.words.Unary.TheVariants as unary
 use Rattle.truth_tables.proofs.ExampleTrees.{at, constant, declared, name, number, pulse, release, set, unknown}
 
--- operators stand at column 5
+-- operators are at column 5
 abbrev both : Binary → Tree → Tree → Tree
 both sign t u = ABinary sign (at 5) t u
 
@@ -79,7 +79,7 @@ sum = refl
 negative : refused nested (AUnary unary.Minus (at 1) (number 1)) ≡ []
 negative = refl
 
--- what is refused inside comes alone: [1 / 0], two members too few or not
+-- what is refused inside is alone: [1 / 0], two members too few or not
 divisor : refused nested (set 1 (both binary.Over (number 1) (number 0) ∷ [])) ≡ ZeroDivisor (at 5) ∷ []
 divisor = refl
 
@@ -87,7 +87,7 @@ divisor = refl
 no_number : refused (name 1 "e") (both binary.Times (name 1 "a") (number 2)) ≡ NotConstant (at 5) ∷ []
 no_number = refl
 
--- .X. + 1 stands where it may not, .C. + 1 is no constant
+-- .X. + 1 is if it may not, .C. + 1 is no constant
 unknown_sum : refused (name 1 "e") (both binary.Plus unknown (number 1)) ≡ MisplacedSpecial (at 9) ∷ []
 unknown_sum = refl
 

@@ -1,4 +1,4 @@
--- What rows make and give, and a whole table behind its header.
+-- What rows make and give, and a whole table after its header.
 use Rattle.std.proofs.Common.{◌≡◌, ℕ, ◌+◌, ◌≤◌, Bool, true, false, Option, None, Some, List, [], ◌∷◌, ◌++◌, Result, length, reverse, refl, sym, ap, ap₂, ◌∙◌, subst, subst₂, arith, map}
 use Rattle.truth_tables.proofs.Common.{Place, ExprId, arena, formula_at, Made, make_and, make_not, Formula, Const, none_refused, RowTree, view, view_row, row_literals, Context, formulas, width_of, entry_levels, agrees, outputs_given, no_matches, targets_of, Term, term_of, constant_of, Contributions, Guard, SectionFault, Keeps, unknown_at, view_guard, section_order, Aim, IsBuilt, Builds, part, CountedUnit, builds_then, left_empty, right_empty, one_unit, row_places, row_nodes, rows_places, header_refused, if_none, outputs_refused, places_of, some_aims, units_behind, IsRow, matched_guard, signals_of, StandForInputs, header_literals, literals, behind, found_work, row_work, rows_work, NamesOutputs, Work, first_refusal, expression_found, Manner, output_header, given_by, places_by, units_of}
 use Rattle.abel_tree.specs.declared.tables.Table.{Table}
@@ -56,7 +56,7 @@ found_row d g t xs n row f names r e =
     ∙ ap (λ q. row_of d g t xs (n + (header_literals d h is).nodes) row.place q os (targets_of (term_of d.known (view t.outputs))))
     (sym (agrees_literals d (Const true) (reverse (constant_of d h).unknown) ((formulas d).word (width_of (constant_of d h).shape) h) is))
 
--- the outputs behind the product of a row
+-- the outputs after the product of a row
 pub found_built : (d : Context) (g : Guard) (k : Bool) (made : Made Formula) (id : ExprId) (xs : List (Option Aim)) (f : RowFound) (old mid new : Contributions) (r : Result Unit SectionFault)
     → IsBuilt (part f.place made.nodes ∷ []) [] [] old mid → formula_at (arena mid.exprs) id ≡ made.what
     → Builds [] (outputs_given d (matched_guard (arena mid.exprs) g id) k (signals_of xs) f.outputs) (row_places xs f.outputs) mid new r
@@ -66,13 +66,13 @@ found_built d g k made id xs f old mid new r b e c =
     builds_then (part f.place made.nodes ∷ []) [] [] (given made.what) [] (row_places xs f.outputs) old mid new r b
     (subst (λ w. Builds [] (given w) (row_places xs f.outputs) mid new r) e c)
 
--- a part of a unit that gives something behind a part that gives nothing
+-- a part of a unit that gives something after a part that gives nothing
 later_part : {R : Type 0} (p : Place) (m k : ℕ) (gs : List (meant.Contribution Formula)) (ps : List Place) (old mid new : Contributions) (r : Result R SectionFault) → IsBuilt (part p m ∷ []) [] [] old mid → Builds (part p k ∷ []) gs ps mid new r → Builds (part p (m + k) ∷ []) gs ps old new r
 later_part p m k gs ps old mid new r b c =
     subst (λ n. Builds (part p n ∷ []) gs ps old new r) (omega arith)
     (one_unit p (part p m ∷ part p k ∷ []) gs ps old new r (refl, (refl, tt)) (builds_then (part p m ∷ []) (part p k ∷ []) [] gs [] ps old mid new r b c))
 
--- a row behind the bits of the input header, which took so many nodes
+-- a row after the bits of the input header, which took so many nodes
 pub row_built : (d : Context) (h : Term) (g : Guard) (k : Bool) (n : ℕ) (ps : List (Option ExprId)) (xs : List (Option Aim)) (f : RowFound) (old mid new : Contributions) (r : Result Unit SectionFault)
     → StandForInputs d h (arena mid.exprs) ps → IsBuilt (part f.place n ∷ []) [] [] old mid
     → DoesWork (found_work d (view_guard (arena mid.exprs) g) k (literals (arena mid.exprs) (Const true) ps f.inputs) xs f) mid new r

@@ -22,7 +22,7 @@ pub not_clear : {A : Type 0} (f : Option SectionFault) → is_some f ≡ true �
 not_clear None e h = absurd cc
 not_clear (Some f) e h = absurd cc
 
--- where a refusal is told, something is refused
+-- if a refusal is reported, something is refused
 pub some_refused : (f : Option SectionFault) (x : SectionFault) → is_some (earlier section_order f (Some x)) ≡ true
 some_refused None x = refl
 some_refused (Some f) x = by_order (is_before section_order x f)
@@ -38,7 +38,7 @@ work_then v w old mid new a b = λ all x.
     let front = a all x in
     walks_then all [] [] v.units w.units v.gives w.gives v.places w.places old mid new front (b (all ++ []) front.manners)
 
--- what is given without nodes counts only where nothing is refused
+-- what is given without nodes counts only if nothing is refused
 pub free_refused : (gs : List (meant.Contribution Formula)) (ps : List Place) (out : Walked) → is_some out.fault ≡ true → WalksWork (given_freely gs ps) out out
 free_refused gs ps out e = by_fault out.fault refl e
   where
@@ -53,7 +53,7 @@ work_made w old made new r o m e b h k = λ all a.
     walks_made all [] w.units w.gives w.places old made new r o m e
     (subst (λ ms. AreFirsts ms (all ++ [])) (sym b) (subst (AreFirsts old.before) (sym (append-nil all)) a)) h k
 
--- what stands after works one after another, and where the walk ends at the first
+-- what is after works one after another, and if the walk ends at the first
 pub stands_before : (v w : Work) (old mid new : Walked) → WalksWork v old mid → StandsWork v old mid → StandsWork w mid new → StandsWork (before v w) old new
 stands_before v w old mid new a b c =
     stands_then old.before [] v.units v.gives w.gives v.places w.places old mid new (a old.before (λ s p. refl)) b c
@@ -68,12 +68,12 @@ stands_still w old new e = stands_same w.gives w.places old new e
 pub stands_done : (w : Work) (old made new : Walked) (r : Result Unit SectionFault) → old.fault ≡ None → DoesWork w (standing old) (standing made) r → standing new ≡ standing made → StandsWork w old new
 stands_done w old made new r o b e = stands_made w.units w.gives w.places old made new r o b e
 
--- making a unit changes nothing behind it but what is refused
+-- making a unit changes nothing after it but what is refused
 pub after_exprs : (r : Result Unit SectionFault) (made new : Walked) → AfterMaking r made new → new.exprs ≡ made.exprs
 after_exprs (Ok t) made new k = ap (λ (w : Walked). w.exprs) k
 after_exprs (Err f) made new k = ap (λ (w : Walked). w.exprs) k.1
 
--- what holds of a unit that was made holds where nothing is refused
+-- what holds of a unit that was made holds if nothing is refused
 pub after_made : {P : Type 0} (r : Result Unit SectionFault) (made new : Walked) → AfterMaking r made new → new.fault ≡ None → OnOk r P → P
 after_made (Ok t) made new k e p = p
 after_made (Err f) made new k e p = absurd (limit_kept f made new k e)

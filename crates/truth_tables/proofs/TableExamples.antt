@@ -1,5 +1,5 @@
 -- What is refused of truth tables, by computation. a and b are pins, Y and Z outputs, c is the
--- constant [Y,Z], x is .X., k is .C.; the header stands on line 2, its outputs in its columns.
+-- constant [Y,Z], x is .X., k is .C.; the header is on line 2, its outputs in its columns.
 use Rattle.std.proofs.Common.{◌≡◌, ℕ, true, false, None, Some, List, [], ◌∷◌, codes, refl}
 use Rattle.truth_tables.proofs.Common.{Place, sample, APin, Entry, Tree, AName, RowTree, Context, context_of, SectionFault, MisplacedSpecial, NotAnOutput, MixedAssignment, BadRow, Manner, units_refused, units_of_table}
 use Rattle.abel_tree.specs.declared.words.Extension.TheVariants as extension
@@ -57,7 +57,7 @@ number_out = refl
 pulse_out : refused inputs (set 11 (name 12 "Y" ∷ pulse ∷ [])) [] ≡ MisplacedSpecial (at 9) ∷ []
 pulse_out = refl
 
--- `Y := ..` stood before
+-- `Y := ..` preceded
 two_ways : refused_behind (record { signal = 2; extension = None; complement = false; clocked = true } ∷ []) inputs (name 11 "Y") []
     ≡ MixedAssignment (at 11) 2 ∷ []
 two_ways = refl

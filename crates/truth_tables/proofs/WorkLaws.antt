@@ -7,7 +7,7 @@ use Rattle.abel_meaning.specs.Contributions as meant
 abbrev pub DoesWork : {R : Type 0} → Work → (old new : Contributions) → Result R SectionFault → Type 0
 DoesWork w old new r = Builds w.units w.gives w.places old new r
 
--- a step behind what is built
+-- a step after what is built
 pub step_then : {R : Type 0} (v w : Work) (old mid new : Contributions) (r : Result R SectionFault) → IsDone v old mid → DoesWork w mid new r → DoesWork (before v w) old new r
 step_then v w old mid new r b c = builds_then v.units w.units v.gives w.gives v.places w.places old mid new r b c
 

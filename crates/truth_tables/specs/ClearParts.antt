@@ -56,7 +56,7 @@ abbrev pub IsClearStand : (header : Bool) → List NameFound → Stand → Type 
 IsClearStand b ns (stand.Constant x) = IsClear b ns (view x.now)
 IsClearStand b ns (stand.Part p) = IsClearPart b ns p
 
--- a part of a header with what stands for it
+-- a part of a header with what represents it
 pub record IsClearPair (ns : List NameFound) (p : Pair) : Type 0 where
   pub header : IsClearPart true ns p.header
   pub given : IsClearPart false ns p.given

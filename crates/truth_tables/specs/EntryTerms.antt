@@ -1,4 +1,4 @@
--- What headers and entries are over; private: the terms that their parts stand for, how many parts there are, and how far
+-- What headers and entries are over; private: the terms that their parts represent, how many parts there are, and how far
 -- an expression leads.
 use Rattle.std.specs.Prelude.{◌≡◌, ℕ, Bool, true, false, Option, List, map, suc, ◌+◌, ◌*◌, ◌<◌, None, Some, [], ◌∷◌}
 use Rattle.truth_tables.specs.Prelude.{Names, entries_of, Context, known_of, AllZip, members_of, view, view_member, Term, Terms, term_of, terms_of, extended_if, special_term, constant_of, Known, Kind, APin, ANode, AConstant, ADeviceName, Entry, find, Tree, ANumber, ASpecial, AName, ASet, AParen, AUnary, ABinary}
@@ -51,7 +51,7 @@ IsPart d (part.Number n) t = IsNumeral d t n
 IsPart d (part.Special letter) t = t ≡ special_term letter
 IsPart d (part.Operator x) t = IsOperator d x.now t
 
--- a part stands for some term
+-- a part represents some term
 pub record HasTerm (d : Context) (p : Part) : Type 0 where
   pub term : Term
   pub is : IsPart d p term
@@ -59,7 +59,7 @@ pub record HasTerm (d : Context) (p : Part) : Type 0 where
 abbrev pub AreParts : Context → List Part → List Term → Type 0
 AreParts d ps ts = AllZip (IsPart d) ps ts
 
--- an operator of two operands, behind signs
+-- an operator of two operands, after signs
 abbrev pub is_computed : Term → Bool
 is_computed (term.Number n) = false
 is_computed term.X = false
@@ -70,7 +70,7 @@ is_computed (term.Set ts) = false
 is_computed (term.UnaryOf sign t) = is_computed t
 is_computed (term.BinaryOf sign t u) = true
 
--- what a name stands for under an extension: a constant's expression, or what is no operator
+-- what a name represents under an extension: a constant's expression, or what is no operator
 abbrev pub IsStand : Context → Option Extension → Stand → Term → Type 0
 IsStand d e (stand.Constant x) t = t ≡ extended_if e (term_of d.known (view x.now))
 IsStand d e (stand.Part p) t = IsPart d p t × (is_computed t ≡ false)
@@ -120,7 +120,7 @@ names_left es (AParen p t) = names_left es t
 names_left es (AUnary sign p t) = names_left es t
 names_left es (ABinary sign p t u) = 0
 
--- how many signs and parentheses stand before what an expression leads to
+-- how many signs and parentheses precede what an expression leads to
 abbrev pub signs_left : Tree → ℕ
 signs_left (ANumber n) = 0
 signs_left (ASpecial letter p) = 0
@@ -162,7 +162,7 @@ is_plain (part.Number n) = true
 is_plain (part.Special letter) = true
 is_plain (part.Operator x) = false
 
--- the expression of a stand is that of a constant
+-- the expression of a are is that of a constant
 abbrev pub IsOfKind : Stand → Kind → Type 0
 IsOfKind (stand.Constant x) k = k ≡ AConstant (view x.now)
 IsOfKind (stand.Part p) k = is_plain p ≡ true

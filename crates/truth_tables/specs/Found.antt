@@ -16,7 +16,7 @@ pub record IsAdded (x : HeaderFound) (f : Option SectionFault) (old new : List (
   pub fault : f ≡ first_refusal section_order x.refusals
   pub outputs : new ≡ old ++ x.outputs
 
--- what is found of both sides of a table's header behind what was assigned before
+-- what is found of both sides of a table's header after what was assigned before
 pub record IsWholeHeader (d : Context) (before : List Manner) (t : Table) (h : Header) : Type 0 where
   pub fault : h.fault ≡ first_refusal section_order (header_refused d before t.clocked (view t.inputs) (view t.outputs))
   pub outputs : h.outputs ≡ (output_header d (view t.outputs)).outputs

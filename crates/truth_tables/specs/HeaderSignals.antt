@@ -20,7 +20,7 @@ abbrev mutual
   all_name_positions term.NoTerm = true
   all_name_positions (term.Before t ts) = names_positions t && all_name_positions ts
 
--- the signals of a header from the left, none at X; none at all where it names something else
+-- the signals of a header from the left, none at X; none at all if it names something else
 abbrev pub AreSignals : Term → Option (Vec (Option ℕ)) → Type 0
 AreSignals t None = names_positions t ≡ false
 AreSignals t (Some ss) = (names_positions t ≡ true) × (ss.items ≡ targets_of t)

@@ -21,7 +21,7 @@ header_of xs = record { refusals = []; outputs = xs }
 abbrev pub outputs_at : Place → List (Option ℕ) → List (Option Aim)
 outputs_at p ss = map (λ (s : Option ℕ). option_map (λ k. record { signal = k; place = p }) s) ss
 
--- a name with what is refused of it and what it stands for: signals without extension, X, and sets of these; a name that
+-- a name with what is refused of it and what it represents: signals without extension, X, and sets of these; a name that
 -- is refused has no position
 abbrev pub named_outputs : List SectionFault → Place → Option ℕ → Term → HeaderFound
 named_outputs [] p name t =

@@ -1,6 +1,6 @@
 -- Which entries of a row meet the header of its table or vectors, and what is refused of them (ABEL-HDL Reference Manual,
--- truth tables and test vectors; where specials may stand is this project's rule). How an entry that meets is read is
--- said by abel_meaning's `Rows`.
+-- truth tables and test vectors; the places at which specials are allowed are this project's rule). How an entry that
+-- meets is read is said by abel_meaning's `Rows`.
 use Rattle.std.specs.Prelude.{ℕ, Bool, true, false, ◌&&◌, ◌||◌, List, [], ◌∷◌, ◌++◌, if◌then◌else◌, bytes_eq, codes}
 use Rattle.truth_tables.specs.Prelude.{list_any, range_names, Tree, ANumber, ASpecial, AName, ASet, AParen, AUnary, ABinary, SetMember, OneMember, SpanMember, Members, NoMember, MoreMembers, Context, Term, Terms, term_of, constant_of, SectionFault, NameFound, name_found, names_found, found_of}
 use Rattle.abel_meaning.specs.Numbers as number
@@ -40,7 +40,7 @@ abbrev mutual
 abbrev pub is_pulse_named : List NameFound → List ℕ → Bool
 is_pulse_named ns name = (name_found ns name).is_pulse
 
--- one of them stands in the expression, or a name of one
+-- one of them is in the expression, or a name of one
 abbrev mutual
   pub holds_pulse : List NameFound → Tree → Bool
   holds_pulse ns (ANumber n) = false
@@ -89,7 +89,7 @@ abbrev mutual
   member_refused_inside ns r (OneMember t) = refused_inside ns r t
   member_refused_inside ns r (SpanMember first last) = names_refused ns (range_names first.text last.text)
 
--- these refusals, and where there is none one more where a test fails
+-- these refusals, and if there isn't one one more if a test fails
 abbrev pub unless_met : List SectionFault → (r : SectionFault) → (met : Bool) → List SectionFault
 unless_met [] r true = []
 unless_met [] r false = r ∷ []

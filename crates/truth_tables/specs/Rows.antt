@@ -22,7 +22,7 @@ position_literal fs found None l = free found
 position_literal fs found (Some id) None = free found
 position_literal fs found (Some id) (Some level) = make_literal found level (formula_at fs id)
 
--- the literals of positions, behind what was found
+-- the literals of positions, after what was found
 abbrev pub literals : List Formula → (found : Formula) → List (Option ExprId) → List (Option Bool) → Made Formula
 literals fs found ps ls = row_literals found (unknown_at ps) (bits_at fs ps) ls
 
@@ -32,7 +32,7 @@ header_literals d h ls =
     row_literals (Const true) (reverse (constant_of d h).unknown)
     ((formulas d).word (width_of (constant_of d h).shape) h) ls
 
--- positions that stand for those of a header
+-- positions that represent those of a header
 pub record StandForInputs (d : Context) (h : Term) (fs : List Formula) (ps : List (Option ExprId)) : Type 0 where
   pub inside : AreIn (length fs) ps
   pub same : (ls : List (Option Bool)) → header_literals d h ls ≡ literals fs (Const true) ps ls
@@ -89,7 +89,7 @@ nodes_at n (suc i) = 0
 abbrev pub behind : (nodes : ℕ) → Made Formula → Made Formula
 behind n m = record { what = m.what; nodes = n + m.nodes }
 
--- a row of which nothing is refused, where this product holds
+-- a row of which nothing is refused, if this product holds
 abbrev pub found_work : Context → meant.Guard Formula → (clocked : Bool) → Made Formula → List (Option Aim) → RowFound → Work
 found_work d g k product xs f =
     record {
@@ -156,7 +156,7 @@ abbrev pub WalksRow : {D : Type 0} → device.Table → Headed D → (nodes : �
 WalksRow v h n row old new =
     WalksWork (row_work (design_of v h) (view_guard (arena old.exprs) h.guard) h.table.now h.outputs.now n (view_row row)) old new
 
--- a table behind its header
+-- a table after its header
 abbrev pub headed_work : {D : Type 0} → device.Table → Headed D → Walked → Work
 headed_work v h out =
     before (no_matches_work v h out)
@@ -166,7 +166,7 @@ headed_work v h out =
 abbrev pub WalksHeaded : {D : Type 0} → device.Table → Headed D → (old new : Walked) → Type 0
 WalksHeaded v h old new = WalksWork (headed_work v h old) old new
 
--- what stands after a row, and after a table behind its header, whatever the answer
+-- what is after a row, and after a table after its header, whatever the answer
 abbrev pub StandsRow : {D : Type 0} → device.Table → Headed D → Row → (old new : Walked) → Type 0
 StandsRow v h row old new =
     StandsWork (row_work (design_of v h) (view_guard (arena old.exprs) h.guard) h.table.now h.outputs.now 0 (view_row row)) old new

@@ -1,5 +1,5 @@
--- Private: walks over what lies on a stack, from its top: each element stands for a term, and what the terms of those below
--- give comes before what was put (this project's rule).
+-- Private: walks over what lies on a stack, from its top: each element represents a term, and what the terms of those below
+-- give precedes what was put (this project's rule).
 use Rattle.std.specs.Prelude.{◌≡◌, ◌<◌, ℕ, Bool, true, false, List, [], ◌++◌, Option, reverse, ◌&&◌, map}
 use Rattle.truth_tables.specs.Prelude.{AllZip, flat_map, list_all, sum_by, zip, Context, targets_of, Term, marks_of, names_found}
 use Rattle.truth_tables.specs.declared.part.Part.{Part}
@@ -49,11 +49,11 @@ pub record Walked {A T M : Type 0} (S : A → T → Type 0) (w : Walking T M) (t
 abbrev pub listing : Walking Term (Option ℕ)
 listing = record { passes = names_positions; gives = targets_of; size = term_parts }
 
--- a term's parts were put onto the stack, or its signals behind those that were listed
+-- a term's parts were put onto the stack, or its signals after those that were listed
 abbrev pub IsListed : Context → Term → Bool → (stack later : List Part) → (old new : List (Option ℕ)) → Type 0
 IsListed d t b stack later old new = IsStep (IsPart d) listing t b stack later (reverse old) (reverse new)
 
--- ---- parts of headers beside what stands for them in entries, as pairs of terms
+-- ---- parts of headers beside what represents them in entries, as pairs of terms
 
 -- marks that were put from the last position on
 abbrev pub seen : List Mark → List meant.Mark
@@ -76,7 +76,7 @@ meeting d =
       size = λ (x : Term × Term). term_parts x.0;
     }
 
--- both stand for terms, and nothing is refused of what is asked of them
+-- both represent terms, and nothing is refused of what is asked of them
 abbrev pub IsPair : Context → Pair → Term × Term → Type 0
 IsPair d p x = IsPart d p.header x.0 × IsPart d p.given x.1 × IsClearPair (names_found d.names) p
 

@@ -10,7 +10,7 @@ use Rattle.section_targets.specs.Given.{places_of}
 abbrev pub some_aims : List (Option Aim) → List Aim
 some_aims xs = filter_map (λ (x : Option Aim). x) xs
 
--- the second refusals where there are none of the first
+-- the second refusals if there aren't any of the first
 abbrev pub if_none : List SectionFault → List SectionFault → List SectionFault
 if_none [] more = more
 if_none (x ∷ xs) more = x ∷ xs
@@ -21,7 +21,7 @@ unless_refused (r ∷ rs) aims = []
 
 -- ---- refusals
 
--- the outputs are assigned by their names, on the clock or not, behind what was assigned before
+-- the outputs are assigned by their names, on the clock or not, after what was assigned before
 abbrev pub outputs_refused : Context → List Manner → (clocked : Bool) → HeaderFound → List SectionFault
 outputs_refused d before clocked h =
     if_none h.refusals (aims_refused d before None false clocked (some_aims h.outputs))
@@ -35,7 +35,7 @@ abbrev pub header_refused : Context → List Manner → (clocked : Bool) → (in
 header_refused d before clocked inputs outputs =
     (expression_found d.names inputs).refusals ++ outputs_refused d before clocked (output_header d outputs)
 
--- `.C.` and `.Z.` stand in no row of a table
+-- `.C.` and `.Z.` are in no row of a table
 abbrev pub level_refused : Context → (r : SectionFault) → (header : Term) → Tree → List SectionFault
 level_refused d r h t = if holds_pulse (names_found d.names) t then r ∷ [] else entry_refused d r h t
 
@@ -70,7 +70,7 @@ units_of_table d before p inputs clocked outputs rows =
     units_behind (header_refused d before clocked inputs outputs) p
     (row_units d clocked (term_of d.known inputs) (term_of d.known outputs) rows (table_units d inputs rows))
 
--- ---- where what a table gives stands: at the outputs of its header
+-- ---- where what a table gives is: at the outputs of its header
 
 -- one or any, and the match
 abbrev pub places_for : Aim → Option Bool → List Place

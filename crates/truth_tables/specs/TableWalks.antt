@@ -6,7 +6,7 @@ use Rattle.abel_meaning.specs.Contributions as meant
 use Rattle.truth_tables.specs.OutputHeaders.{output_header}
 use Rattle.truth_tables.specs.TableUnits.{assigned_by, table_places, units_of_table}
 
--- the units of a table behind what was assigned before
+-- the units of a table after what was assigned before
 abbrev pub units_of : Context → (before : List Manner) → Table → List CountedUnit
 units_of d before t = units_of_table d before t.place (view t.inputs) t.clocked (view t.outputs) (map view_row t.rows)
 
@@ -20,14 +20,14 @@ given_by d g t fs =
 abbrev pub places_by : Context → Table → List Place
 places_by d t = table_places d (view t.outputs) (map view_row t.rows)
 
--- a table behind what was walked before
+-- a table after what was walked before
 abbrev pub WalksTable : device.Table → Names → Guard → Table → (old new : Walked) → Type 0
 WalksTable v n g t old new =
     (all : List Manner) → AreFirsts old.before all
     → Walks all (units_of (context_for v n) all t) (given_by (context_for v n) g t (arena old.exprs)) (places_by (context_for v n) t)
     (assigned_by t.clocked (output_header (context_for v n) (view t.outputs))) old new
 
--- what stands after a table, whatever the answer
+-- what is after a table, whatever the answer
 abbrev pub StandsTable : device.Table → Names → Guard → Table → (old new : Walked) → Type 0
 StandsTable v n g t old new =
     StillStands (given_by (context_for v n) g t (arena old.exprs)) (places_by (context_for v n) t) old new

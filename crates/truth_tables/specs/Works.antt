@@ -24,6 +24,6 @@ given_freely gs ps = record { units = []; gives = gs; places = ps }
 abbrev pub IsDone : Work → (old new : Contributions) → Type 0
 IsDone w old new = IsBuilt w.units w.gives w.places old new
 
--- what stands after a walk over a work, whatever the answer
+-- what is after a walk over a work, whatever the answer
 abbrev pub StandsWork : Work → (old new : Walked) → Type 0
 StandsWork w old new = StillStands w.gives w.places old new

@@ -13,7 +13,7 @@ use pld_base::{ListOf, OutOfMemory, Place};
 use set_expr::{Scope, SectionFault};
 use std::alloc::{AllocError, Global};
 
-/// What is found of an entry of a table: its first refusal, and where nothing is refused its level at each position of the
+/// What is found of an entry of a table: its first refusal, and if nothing is refused its level at each position of the
 /// header from the left, None at X.
 #[derive(Drop)]
 pub(crate) struct Levels {
@@ -38,7 +38,7 @@ fn list_levels(alloc: Global, marks: &[Mark]) -> Result<Vec<Option<bool>>, Alloc
     marks.iter().map(|mark| level_of(*mark)).collect(alloc)
 }
 
-/// An entry under its header, in a row of a table that is refused so: `.C.` and `.Z.` stand in none.
+/// An entry under its header, in a row of a table that is refused so: `.C.` and `.Z.` are in none.
 fn read_levels(
     alloc: Global,
     scope: &Scope<'_>,
@@ -70,8 +70,8 @@ fn read_levels(
     }
 }
 
-/// What is found of the row at a place: its first refusal, and where nothing is refused the levels of its entries at the positions of
-/// the header from the left, None at X.
+/// What is found of the row at a place: its first refusal, and if nothing is refused the levels of its entries at the
+/// positions of the header from the left, None at X.
 #[derive(Drop)]
 pub(crate) struct RowFound {
     pub place: Place,

@@ -14,7 +14,7 @@ use pld_base::OutOfMemory;
 use set_expr::{Scope, SectionFault};
 use std::alloc::{AllocError, Global};
 
-/// Each part of a header with what stands for it.
+/// Each part of a header with what represents it.
 fn list_pairs<'a>(
     alloc: Global,
     headers: &[Part<'a>],
@@ -32,7 +32,7 @@ fn list_pairs<'a>(
         .collect(alloc)
 }
 
-/// Meets one pair: puts its marks, or its members onto the stack; false where it doesn't meet.
+/// Meets one pair: puts its marks, or its members onto the stack; false if it doesn't meet.
 fn step<'a>(
     alloc: Global,
     scope: &Scope<'a>,
@@ -69,10 +69,10 @@ pub enum Entry {
     Marks(Vec<Mark>),
 }
 
-/// Reads an entry of a row that is refused so, under a header in which nothing is refused: what is refused inside comes
-/// alone, and else `row` where it doesn't meet the header. Takes the time of the entry and the header with the sets
-/// that constants stand for. Sets and names of constants are followed by a stack, so that no call goes as deep as
-/// constants nest.
+/// Reads an entry of a row that is refused so, under a header in which nothing is refused: what is refused inside is
+/// alone, and else `row` if it doesn't meet the header. Takes the time of the entry and the header with the sets that
+/// constants represent. Sets and names of constants are followed by a stack, so that no call goes as deep as constants
+/// nest.
 pub fn read_entry(
     alloc: Global,
     scope: &Scope<'_>,

@@ -17,7 +17,7 @@ pub struct Assigning {
     pub clocked: bool,
 }
 
-/// What gives values to outputs where its bit is 1, as a row that matches, over the names of its source.
+/// What gives values to outputs if its bit is 1, as a row that matches, over the names of its source.
 #[derive(Drop)]
 pub struct Matching<'a> {
     pub scope: &'a Scope<'a>,
@@ -25,7 +25,7 @@ pub struct Matching<'a> {
     pub bit: ExprId,
 }
 
-/// Appends what an output is given where the bit is 1; makes no node.
+/// Appends what an output is given if the bit is 1; makes no node.
 pub fn give_output(
     matching: &Matching<'_>,
     what: Gives,

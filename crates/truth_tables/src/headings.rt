@@ -55,7 +55,7 @@ pub(crate) fn push_name(
     }
 }
 
-/// A member of a header; the names of a range all stand at its first end.
+/// A member of a header; the names of a range all are at its first end.
 #[cycle(headings)]
 fn push_member(
     alloc: Global,
@@ -79,7 +79,7 @@ fn push_member(
     }
 }
 
-/// The set of these members at this bracket, which is refused where it has more than 32 positions.
+/// The set of these members at this bracket, which is refused if it has more than 32 positions.
 #[cycle(headings)]
 fn push_set(
     alloc: Global,

@@ -14,7 +14,7 @@ use section_targets::{SectionScope, add_node, guard_else, meet};
 use set_expr::{Scope, SectionFault, Shape};
 use std::alloc::{AllocError, Global};
 
-/// Whether an expression is an operator of two operands, behind signs, parentheses and constants' names.
+/// Whether an expression is an operator of two operands, after signs, parentheses and constants' names.
 fn has_operator<'a>(scope: &Scope<'a>, expr: &'a Expr) -> bool
     ensures { (d : Context) → IsOver scope.now d → result ≡ is_computed (term_of d.known (view expr.now)) }
 {

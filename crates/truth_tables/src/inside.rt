@@ -1,4 +1,4 @@
-//! Whether `.C.` or `.Z.` stands in an expression, and what is refused inside an entry.
+//! Whether `.C.` or `.Z.` is in an expression, and what is refused inside an entry.
 
 ghost use Rattle.std.specs.Prelude.{◌≡◌, IfOk};
 ghost use Rattle.truth_tables.specs.Prelude.{entries_of, first_refusal, list_any, view, view_member, name_found, names_found, section_order};
@@ -11,21 +11,21 @@ use pld_base::OutOfMemory;
 use set_expr::{Scope, SectionFault};
 use std::alloc::Global;
 
-/// Whether a name stands for `.C.` or `.Z.`.
+/// Whether a name represents `.C.` or `.Z.`.
 fn names_pulse(scope: &Scope<'_>, text: &[u8]) -> bool
     ensures { result ≡ is_pulse_named (names_found (entries_of scope.now)) text.now }
 {
     scope.get(text).is_some_and(|name| name.pulse)
 }
 
-/// Whether one of these names stands for one of them.
+/// Whether one of these names represents one of them.
 fn any_names_pulse(scope: &Scope<'_>, names: &[Vec<u8>]) -> bool
     ensures { result ≡ list_any (λ n. is_pulse_named (names_found (entries_of scope.now)) (name_items n)) names.now }
 {
     names.iter().any(|name| names_pulse(scope, name.as_slice()))
 }
 
-/// Whether one of them stands in a member.
+/// Whether one of them is in a member.
 #[cycle(pulses)]
 fn member_holds(alloc: Global, scope: &Scope<'_>, member: &Member) -> Result<bool, OutOfMemory>
     ensures { IfOk result (λ b. b ≡ member_holds_pulse (names_found (entries_of scope.now)) (view_member member.now)) }
@@ -39,8 +39,8 @@ fn member_holds(alloc: Global, scope: &Scope<'_>, member: &Member) -> Result<boo
     }
 }
 
-/// Whether `.C.` or `.Z.` stands in an expression, or a name of one. Goes down the left side of operators in a loop,
-/// and deeper by the nestings alone.
+/// Whether `.C.` or `.Z.` is in an expression, or a name of one. Goes down the left side of operators in a loop, and
+/// deeper by the nestings alone.
 #[cycle(pulses)]
 pub(crate) fn holds_pulse(
     alloc: Global,

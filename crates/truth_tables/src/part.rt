@@ -1,4 +1,4 @@
-//! What a part of a header or of an entry stands for, through the names of constants.
+//! What a part of a header or of an entry represents, through the names of constants.
 
 ghost use Rattle.std.specs.Prelude.{Bool, IfOk};
 ghost use Rattle.truth_tables.specs.Prelude.{view_meaning, view, Context, term_of, term_named, term_meant, extended_if, constant_of, entries_of, names_found};
@@ -10,8 +10,8 @@ use pld_base::OutOfMemory;
 use set_expr::{Scope, Shape};
 use std::alloc::Global;
 
-/// A set with what extends its members, a signal, a number, a special by its letter, or an operator. A set and an operator stand with
-/// their expression, of which the shape is asked.
+/// A set with what extends its members, a signal, a number, a special by its letter, or an operator. A set and an operator
+/// are with their expression, of which the shape is asked.
 #[derive(Clone, Copy)]
 pub(crate) enum Part<'a> {
     Set(&'a Expr, &'a [Member], Option<Extension>),
@@ -21,21 +21,21 @@ pub(crate) enum Part<'a> {
     Operator(&'a Expr),
 }
 
-/// A part of a header, and what stands for it in an entry.
+/// A part of a header, and what represents it in an entry.
 #[derive(Clone, Copy)]
 pub(crate) struct Pair<'a> {
     pub header: Part<'a>,
     pub given: Part<'a>,
 }
 
-/// What a name stands for: an expression, or what it is.
+/// What a name represents: an expression, or what it is.
 #[derive(Clone, Copy)]
 pub(crate) enum Stand<'a> {
     Constant(&'a Expr),
     Part(Part<'a>),
 }
 
-/// What a declared name of this number stands for.
+/// What a declared name of this number represents.
 fn meaning_stand(meaning: &Meaning, number: u32, extension: Option<Extension>) -> Stand<'_>
     ensures stand { (d : Context)
         → IsStand d extension result (extended_if extension (term_meant d.known number (view_meaning meaning.now))) }
@@ -49,7 +49,7 @@ fn meaning_stand(meaning: &Meaning, number: u32, extension: Option<Extension>) -
     }
 }
 
-/// What the name with this text stands for; one that isn't declared is a number.
+/// What the name with this text represents; one that isn't declared is a number.
 pub(crate) fn stand_of<'a>(
     scope: &Scope<'a>,
     text: &[u8],

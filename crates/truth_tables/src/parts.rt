@@ -58,7 +58,7 @@ pub(crate) fn parts_of<'a>(
     Ok(parts)
 }
 
-/// One part: its signal or X, or its members onto the stack; false where it is something else.
+/// One part: its signal or X, or its members onto the stack; false if it is something else.
 fn put_part<'a>(
     alloc: Global,
     scope: &Scope<'a>,
@@ -93,7 +93,7 @@ fn put_part<'a>(
     }
 }
 
-/// The signals of a part from the left, None at X; None where it names something else than signals without extension, X
+/// The signals of a part from the left, None at X; None if it names something else than signals without extension, X
 /// and sets of these. Sets and names of constants are followed by a stack.
 pub(crate) fn part_signals(
     alloc: Global,
@@ -115,8 +115,8 @@ pub(crate) fn part_signals(
     Ok(Some(signals))
 }
 
-/// The signals of a header from the left, None at X; None where it names something else than signals without
-/// extension, X and sets of these. It is asked only of headers in which nothing is refused.
+/// The signals of a header from the left, None at X; None if it names something else than signals without extension, X
+/// and sets of these. It is asked only of headers in which nothing is refused.
 pub fn header_signals(
     alloc: Global,
     scope: &Scope<'_>,

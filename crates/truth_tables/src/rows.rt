@@ -1,4 +1,4 @@
-//! The rows of a table: each is checked, and made where nothing is refused so far.
+//! The rows of a table: each is checked, and made if nothing is refused so far.
 
 ghost use Rattle.std.specs.Prelude.{◌≡◌, true, None, Some, ℕ, [], ◌∷◌, length, IfOk, OnOk};
 ghost use Rattle.truth_tables.specs.Prelude.{is_some, arena, AreIn, Keeps, BuildsNodes, part};
@@ -25,7 +25,7 @@ pub(crate) struct Headed<'a, D: Device> {
 }
 
 /// The bits of the input header from the left, None at X: the first row makes them as a part of its unit, and those
-/// behind it take them.
+/// after it take them.
 fn inputs_of<D: Device>(
     alloc: Global,
     headed: &Headed<'_, D>,
@@ -85,7 +85,7 @@ fn give_row<D: Device>(
     )
 }
 
-/// A row behind those that were walked, which made the bits of the input header unless something is refused.
+/// A row after those that were walked, which made the bits of the input header unless something is refused.
 pub(crate) fn walk_row<D: Device>(
     alloc: Global,
     headed: &Headed<'_, D>,

@@ -28,7 +28,7 @@ fn list_aims(alloc: Global, outputs: &[Option<Aim>]) -> Result<Vec<Aim>, AllocEr
     outputs.iter().filter_map(|output| *output).collect(alloc)
 }
 
-/// The outputs that a header assigns: none where it is refused.
+/// The outputs that a header assigns: none if it is refused.
 fn assigned_aims(
     alloc: Global,
     refused: Option<SectionFault>,
@@ -42,7 +42,7 @@ fn assigned_aims(
     list_aims(alloc, outputs)
 }
 
-/// Both sides of a table's header, whose outputs are assigned behind what was assigned before: the first refusal, and
+/// Both sides of a table's header, whose outputs are assigned after what was assigned before: the first refusal, and
 /// the outputs. How they are assigned is noted. Calls go as deep as the nestings of sets and parentheses.
 pub(crate) fn read_header<D: Device>(
     alloc: Global,
@@ -105,8 +105,8 @@ fn walk_headed<D: Device>(
     Ok(())
 }
 
-/// A truth table behind what was walked before: its header, which is the one unit where it is refused, and its rows. Of
-/// the guard count its block and whether that is don't-care. Calls go as deep as the nestings of sets and parentheses.
+/// A truth table after what was walked before: its header, which is the one unit if it is refused, and its rows. Of the
+/// guard count its block and whether that is don't-care. Calls go as deep as the nestings of sets and parentheses.
 pub fn walk_table<D: Device>(
     alloc: Global,
     scope: &SectionScope<'_, D>,

@@ -1,4 +1,4 @@
--- A condition that is refused or stands behind what is, and one whose guards are made.
+-- A condition that is refused or follows what is, and one whose guards are made.
 use Rattle.std.proofs.Common.{[], ◌∷◌, ◌++◌, Ok, Err, refl, sym, ap, ◌∙◌, subst}
 use Rattle.equations.proofs.Common.{arena, formula_at, entries_of, view, choice_nodes, expression_found, Walked, Builds, context_for, part, value_width, standing, none_so_far, stands_made, stands_same, kept_inside, left_empty, condition_unit, condition_refused}
 use Rattle.equations.proofs.BuiltParts.{value_accepted}

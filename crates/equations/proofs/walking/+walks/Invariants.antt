@@ -1,4 +1,4 @@
--- So many statements were walked, whatever the others leave stands, what was there stands, and the guard lies in the arena.
+-- So many statements were walked, whatever the others leave is, what was there stays, and the guard lies in the arena.
 use Rattle.std.proofs.Common.{List, ◌<◌, drop, length}
 use Rattle.equations.proofs.Common.{arena, Keeps, context_for, view_guard, Manner, AreFirsts, Walked, view_list}
 use Rattle.equations.proofs.StandingStatements.{StandsAll}

@@ -1,4 +1,4 @@
--- An assignment that is refused or stands behind what is, and one that is made.
+-- An assignment that is refused or follows what is, and one that is made.
 use Rattle.std.proofs.Common.{refl, sym, ap, ◌∙◌, subst}
 use Rattle.equations.proofs.Common.{on_ok_weaker, target_extension, view, context_for, expression_found, Walked, left_side, standing, none_so_far, stands_made, stands_same, GivesAssign, assign_refused}
 use Rattle.equations.proofs.BuiltParts.{value_accepted}

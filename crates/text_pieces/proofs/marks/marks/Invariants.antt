@@ -1,4 +1,4 @@
--- The next question mark from a place on, and what the table says of those behind it.
+-- The next question mark from a place on, and what the table says of those after it.
 use Rattle.std.proofs.Common.{◌≤◌, length}
 use Rattle.text_pieces.proofs.Common.{NoMark, Tells}
 use Rattle.text_pieces.proofs.marks.marks.Given as goal

@@ -1,4 +1,4 @@
--- What is given, and a match behind it.
+-- What is given, and a match after it.
 use Rattle.std.proofs.Common.{[], ◌∷◌}
 use Rattle.truth_tables.proofs.Common.{arena, at, builds_stop, err_from_is_err_and, given_output, kept_formula, kept_inside}
 use Rattle.set_expr.specs.declared.contributions.Gives.TheVariants as gives

@@ -1,4 +1,4 @@
--- A name that is refused, one that stands for something else, and one that stands for signals and X.
+-- A name that is refused, one that represents something else, and one that represents signals and X.
 use Rattle.std.proofs.Common.{◌≡◌, ℕ, ◌++◌, Option, None, Some, List, [], refl, ap, sym, ◌∙◌, subst}
 use Rattle.truth_tables.proofs.Common.{find, none_refused, Context, term_named, Place, SectionFault, NotAnOutput, found_use, name_found, names_found, SumsUp, section_order, Names, entries_of, Aim, IsOver, AreSignals, header_name, named_outputs, outputs_at, refused_header, IsAdded, found_in}
 use Rattle.set_expr.specs.declared.checked.Checked.{Checked}

@@ -1,4 +1,4 @@
--- A constant's name, and what is no operator behind a name.
+-- A constant's name, and what is no operator after a name.
 use Rattle.std.proofs.Common.{None, sym, ap, ◌∙◌, subst}
 use Rattle.truth_tables.proofs.Common.{view, term_named, term_of, view_name, IsStand, is_computed}
 use Rattle.truth_tables.proofs.InputLaws.{computed_extended}

@@ -1,4 +1,4 @@
--- What was begun with is what is looked at, under the extension that counts now; where nothing is refused of the one, nothing
+-- What was begun with is what is looked at, under the extension that counts now; if nothing is refused of the one, nothing
 -- is of the other.
 use Rattle.std.proofs.Common.{◌≡◌, Bool}
 use Rattle.truth_tables.proofs.Common.{entries_of, view, Context, names_found, term_of, extended_if, IsClear, IsOver, steps_left}

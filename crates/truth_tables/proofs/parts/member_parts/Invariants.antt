@@ -1,4 +1,4 @@
--- The names that were looked up have their parts; nothing is refused of these where nothing is of any name.
+-- The names that were looked up have their parts; nothing is refused of these if nothing is of any name.
 use Rattle.std.proofs.Common.{Bool, map, take}
 use Rattle.truth_tables.proofs.Common.{Context, NoTerm, entries_of, names_found, named_before, name_items, list_of, each_extended, AreClearNames, AreClearParts, IsOver, AreParts}
 use Rattle.truth_tables.proofs.parts.member_parts.Given as goal

@@ -1,4 +1,4 @@
--- The members so far have their parts; nothing is refused of these where nothing is of any member.
+-- The members so far have their parts; nothing is refused of these if nothing is of any member.
 use Rattle.std.proofs.Common.{Bool, map, take}
 use Rattle.truth_tables.proofs.Common.{entries_of, members_of, view_member, Context, names_found, terms_of, list_of, each_extended, AreClear, AreClearParts, IsOver, AreParts}
 use Rattle.truth_tables.proofs.parts.parts_of.Given as goal

@@ -1,4 +1,4 @@
--- The bits of the input header, the product behind them, and the outputs.
+-- The bits of the input header, the product after them, and the outputs.
 use Rattle.std.proofs.Common.{[], ◌∷◌, List, Option, Bool, true, Result, Ok, Err, sym, ap, subst, subst₂}
 use Rattle.truth_tables.proofs.Common.{Vec, OnOk, err_from_is_err_and, ExprId, arena, Const, entries_of, SectionFault, view_guard, BuildsNodes, IsBit, part, keeps_on, keeps_longer, stops_longer, at, Assigning, GivesPositions, header_literals, literals, behind, found_work, design_of, inputs_term, nodes_left}
 use Rattle.section_targets.proofs.Gives.{stops_nodes}

@@ -1,4 +1,4 @@
--- A row that is refused or stands behind what is, and one that is made.
+-- A row that is refused or follows what is, and one that is made.
 use Rattle.std.proofs.Common.{◌≡◌, None, ℕ, ◌+◌, [], ◌∷◌, refl, sym, ap, ◌∙◌, subst, subst₂}
 use Rattle.truth_tables.proofs.Common.{on_ok_weaker, Names, arena, view, view_row, view_guard, part, standing, term_of, row_nodes, row_refused, row_work, Builds, Contributions, design_of, nodes_left, whole, Work, stands_made, stands_same, unit_clear, unit_made, unit_refused, refusal_of}
 use Rattle.truth_tables.proofs.RowWorks.{found_row}

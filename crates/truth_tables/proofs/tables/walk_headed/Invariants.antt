@@ -1,4 +1,4 @@
--- The rows from here on are left, whatever they leave stands, and the bits of the input header that were made are there.
+-- The rows from here on are left, whatever they leave is, and the bits of the input header that were made are there.
 use Rattle.std.proofs.Common.{◌≡◌, None, map, drop}
 use Rattle.truth_tables.proofs.Common.{arena, view_row, view_guard, nodes_at, HasInputs, StandsWork, WalksWork, design_of, headed_work, inputs_nodes, nodes_left, rows_work}
 use Rattle.section_targets.specs.declared.walked.Walked.{Walked}

@@ -1,4 +1,4 @@
--- A read answers `Failed` exactly where its call is on the list or the name is absent.
+-- A read answers `Failed` exactly if its call is on the list or the name is absent.
 use Rattle.std.proofs.Common.{◌≡◌, inl, inr, ap, subst, sym}
 use Rattle.std.specs.Prelude.{None}
 use Rattle.std.proofs.lemmas.Bool.{iff_false}

@@ -1,4 +1,4 @@
--- A look from the front of a text stands there.
+-- A look from the front of a text is there.
 use Rattle.std.proofs.Common.{◌∙◌, arith}
 use Rattle.text_pieces.proofs.ahead.Ahead.new.Goals as goal
 

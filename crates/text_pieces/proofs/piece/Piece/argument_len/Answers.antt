@@ -1,4 +1,4 @@
--- Where it ends in the text is within the piece.
+-- Its end in the text is within the piece.
 use Rattle.std.proofs.Common.{sym, arith}
 use Rattle.text_pieces.proofs.Common.{home_bytes}
 use Rattle.text_pieces.proofs.Told.{length_is, ends_within}

@@ -1,4 +1,4 @@
--- No question mark stands up to there in the text, nor in the piece.
+-- No question mark is up to there in the text, nor in the piece.
 use Rattle.std.proofs.Common.{sym, arith}
 use Rattle.text_pieces.proofs.Common.{home_bytes}
 use Rattle.text_pieces.proofs.Told.{length_is, unmarked_within}

@@ -1,4 +1,4 @@
--- What is left to pass lies behind this piece.
+-- What is left to pass lies after this piece.
 use Rattle.std.proofs.Common.{◌-◌, ◌∙◌, length, take, drop, ap, arith}
 use Rattle.text_pieces.proofs.Pieces.{lengths, skipped, split_last}
 use Rattle.text_pieces.proofs.place.Place.behind.Goals as goal

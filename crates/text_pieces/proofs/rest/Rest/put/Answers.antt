@@ -1,4 +1,4 @@
--- One piece more stands before the rest.
+-- One piece more precedes the rest.
 use Rattle.std.proofs.Common.{◌≡◌, ◌++◌, ◌∙◌, ap, List, ℕ, length, arith, length-append}
 use Rattle.text_pieces.proofs.Common.{stacked}
 use Rattle.text_pieces.proofs.Stacked.{stacked-push}

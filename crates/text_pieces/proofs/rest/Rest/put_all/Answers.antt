@@ -1,4 +1,4 @@
--- The last of the pieces stands before the rest, and the others before it.
+-- The last of the pieces precedes the rest, and the others before it.
 use Rattle.std.proofs.Common.{◌-◌, ◌++◌, ◌∙◌, ap, List, ℕ, sym, length, take, arith, length-append, length-take, append_assoc}
 use Rattle.text_pieces.proofs.Common.{joined}
 use Rattle.text_pieces.proofs.Pieces.{joined_last}

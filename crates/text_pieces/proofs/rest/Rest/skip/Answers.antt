@@ -1,4 +1,4 @@
--- What is left to pass lies behind the first piece.
+-- What is left to pass lies after the first piece.
 use Rattle.std.proofs.Common.{◌≡◌, ◌+◌, ◌++◌, ◌∙◌, ◌∷◌, [], List, ℕ, ap, sym, length, arith}
 use Rattle.text_pieces.proofs.Common.{stacked}
 use Rattle.text_pieces.proofs.Pieces.{skipped, lengths}

@@ -1,4 +1,4 @@
--- The bytes that are left to pass lead to where all lead.
+-- The bytes that are left to pass lead to the same end as all.
 use Rattle.std.proofs.Common.{◌≡◌, ◌<◌, ◌≤◌, ◌^◌, ◌++◌, length, drop}
 use Rattle.text_pieces.proofs.Common.{stacked}
 use Rattle.text_pieces.proofs.rest.Rest.skip.Given as goal
