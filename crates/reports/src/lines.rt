@@ -1,6 +1,7 @@
 //! The line of the report on each refusal of a source.
 
 ghost use Rattle.std.specs.Prelude.{◌≡◌, Some, IfOk};
+ghost use Rattle.std.specs.Result.{result_ok};
 ghost use Rattle.reports.specs.Prelude.{option_map, entries_of};
 ghost use Rattle.reports.specs.RefusalTold.{told_line};
 ghost use Rattle.reports.specs.SourceLines.{read_telling, name_telling, section_telling};
@@ -14,13 +15,13 @@ use pld_base::OutOfMemory;
 use set_expr::SectionFault;
 use std::alloc::Global;
 
-/// The line of what there is to tell; else memory is out.
-fn line(alloc: Global, telling: Option<Telling>) -> Result<Vec<u8>, OutOfMemory>
-    ensures { IfOk result (λ line. option_map told_line telling.entry ≡ Some line.items) }
+/// The line of what there is to tell, unless memory is out.
+fn line(alloc: Global, telling: Result<Telling<'_>, OutOfMemory>) -> Result<Vec<u8>, OutOfMemory>
+    ensures { IfOk result (λ line. option_map told_line (result_ok telling.entry) ≡ Some line.items) }
 {
     match telling {
-        Some(telling) => telling.line(alloc),
-        None => Err(OutOfMemory),
+        Ok(telling) => telling.line(alloc),
+        Err(memory) => Err(memory),
     }
 }
 
