@@ -1,10 +1,13 @@
 //! What an output takes in each polarity.
 
-ghost use Rattle.std.specs.Prelude.{◌≡◌, ◌<◌, ◌≤◌, IfOk, IfSome, length, true, ◌*◌};
+ghost use Rattle.std.specs.Prelude.{◌≡◌, ◌<◌, ◌≤◌, ◌++◌, IfOk, IfSome, length, option_to_list};
 ghost use Rattle.std.specs.List.{All};
+ghost use Rattle.abel_meaning.specs.Netlists.{plain_netlist};
 ghost use Rattle.abel_meaning.specs.SoundIds.{IsSoundNetlist};
 ghost use Rattle.fitter.specs.CellCovered.{CanCoverCell};
-ghost use Rattle.design_page.specs.Costly.{IsCostly};
+ghost use Rattle.fitter.specs.Plans.{IsTurnMask, cell_wanted};
+ghost use Rattle.pld_device.specs.Table.{cell_at};
+ghost use Rattle.design_page.specs.Costly.{IsCostly, TakesRows, TellsBelow, TellsCell, costly_of, is_asked, is_costly};
 
 use bit_expr::{CellWanted, Netlist};
 use fit_plans::{Covering, Workspace};
@@ -30,7 +33,9 @@ fn rows_in<D: Device>(
     inverted: bool,
 ) -> Result<Option<usize>, OutOfMemory>
     requires sound { IsSoundNetlist D.table fit.now.over.net.now }
+    requires turned { IsTurnMask D.table (plain_netlist fit.now.over.net.now) fit.now.over.turned }
     requires can { CanCoverCell D.table fit.now.over.net.now wanted.now }
+    ensures { IfOk result (λ rows. TakesRows D.table fit.now.over.net.now wanted.now inverted rows) }
 {
     match fit.over.try_form(space, wanted, inverted)? {
         Some(rows) => Ok(Some(rows.len())),
@@ -40,14 +45,15 @@ fn rows_in<D: Device>(
 
 /// Whether the rows are at least three times the others, of which there are some.
 fn is_costly(rows: usize, other: usize) -> bool
-    ensures { result ≡ true → (0 < other) × (3 * other ≤ rows) }
+    ensures { result ≡ is_costly rows other }
 {
     other > 0 && rows / 3 >= other
 }
 
 /// The output of a cell whose direct form fits and is costly.
 fn costly(cell: Cell, direct: Option<usize>, inverted: Option<usize>) -> Option<CostlyPolarity>
-    ensures { IfSome result IsCostly }
+    ensures costly { IfSome result IsCostly }
+    ensures told { result ≡ costly_of cell direct inverted }
 {
     match (direct, inverted) {
         (Some(rows), Some(other)) => {
@@ -72,8 +78,10 @@ fn costly_at<D: Device>(
     pins: u32,
 ) -> Result<Option<CostlyPolarity>, OutOfMemory>
     requires sound { IsSoundNetlist D.table fit.now.over.net.now }
+    requires turned { IsTurnMask D.table (plain_netlist fit.now.over.net.now) fit.now.over.turned }
     requires low { cell < length D.table.cells }
-    ensures { IfOk result (λ found. IfSome found IsCostly) }
+    ensures costly { IfOk result (λ found. IfSome found IsCostly) }
+    ensures told { IfOk result (TellsCell D.table fit.now.over.net.now cell (is_asked pins (cell_at D.table cell)) (cell_wanted fit.now.over.net.now cell)) }
 {
     let found = D::cell(cell);
     if !level_at(pins, found.pin) {
@@ -87,6 +95,22 @@ fn costly_at<D: Device>(
     Ok(costly(found, direct, inverted))
 }
 
+/// Adds an output that is costly, if one was found.
+fn add_found(
+    list: &mut Vec<CostlyPolarity>,
+    found: Option<CostlyPolarity>,
+) -> Result<(), OutOfMemory>
+    requires list { All IsCostly list.old.items }
+    requires found { IfSome found IsCostly }
+    ensures costly { IfOk result (λ _. All IsCostly list.new.items) }
+    ensures added { IfOk result (λ _. list.new.items ≡ list.old.items ++ option_to_list found) }
+{
+    if let Some(costly) = found {
+        list.push(costly)?;
+    }
+    Ok(())
+}
+
 /// The outputs at these pins, bit p for pin p, that fit as they are and take at least three times the rows of their other
 /// polarity, in the order of the cells. None where the device leaves no choice. It makes one pool for all covers.
 pub fn costly_polarities<D: Device>(
@@ -95,7 +119,8 @@ pub fn costly_polarities<D: Device>(
     pins: u32,
 ) -> Result<ListOf<CostlyPolarity>, OutOfMemory>
     requires { IsSoundNetlist D.table net.now }
-    ensures { IfOk result (λ list. All IsCostly list) }
+    ensures costly { IfOk result (λ list. All IsCostly list) }
+    ensures told { IfOk result (λ list. TellsBelow D.table net.now pins (length D.table.cells) list) }
 {
     let mut space = Workspace::new(alloc)?;
     let fit = SoundFit::<D> {
@@ -109,9 +134,8 @@ pub fn costly_polarities<D: Device>(
     };
     let mut list = Vec::new(alloc);
     for cell in 0..D::CELLS {
-        if let Some(found) = costly_at(&mut space, &fit, cell, pins)? {
-            list.push(found)?;
-        }
+        let found = costly_at(&mut space, &fit, cell, pins)?;
+        add_found(&mut list, found)?;
     }
     Ok(ListOf::from_vec(list))
 }
