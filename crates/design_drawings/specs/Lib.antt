@@ -1,3 +1,4 @@
+pub mod CellRows
 pub mod Disagreements
 pub mod Equations
 pub mod Escaped

@@ -1,6 +1,7 @@
 //! What the rows of an array are for, and what they read.
 
-ghost use Rattle.std.specs.Prelude.{◌<◌, IfSome, length};
+ghost use Rattle.std.specs.Prelude.{◌≡◌, ◌<◌, IfSome, false, length, true};
+ghost use Rattle.design_drawings.specs.CellRows.{IsCellOf, IsRowOf};
 
 use crate::drawn_design::Design;
 use fuse_listing::{cell_of, count_in_use, is_in_use, is_opened};
@@ -9,6 +10,8 @@ use pld_device::{Device, Enable};
 /// Whether a row is one of a cell's data rows, or enables it.
 fn is_row_of<D: Device>(cell: u8, row: u16) -> bool
     requires { cell < length D.table.cells }
+    ensures yes { result ≡ true → IsRowOf D.table cell row }
+    ensures no { result ≡ false → IsRowOf D.table cell row → ⊥ }
 {
     let found = cell_of::<D>(cell);
     found.enable == Enable::Row(row)
@@ -17,7 +20,8 @@ fn is_row_of<D: Device>(cell: u8, row: u16) -> bool
 
 /// The cell that a row belongs to, none where all registers share the row. Takes no memory.
 pub fn cell_of_row<D: Device>(row: u16) -> Option<u8>
-    ensures { IfSome result (λ cell. cell < length D.table.cells) }
+    ensures within { IfSome result (λ cell. cell < length D.table.cells) }
+    ensures found { IsCellOf D.table row result }
 {
     for cell in 0..D::CELLS {
         if is_row_of::<D>(cell, row) {
