@@ -1,11 +1,11 @@
 -- The words of a string, one behind the other.
-use Rattle.std.proofs.Common.{◌≡◌, ℕ, suc, ◌+◌, ◌<◌, ◌≤◌, Bool, true, false, nat_lt, List, [], ◌∷◌, ◌++◌, length, take, drop, Option, Some, None, cond, if◌then◌else◌, filter_map, refl, sym, ap, ◌∙◌, subst, arith, inl, inr, append_assoc}
+use Rattle.std.proofs.Common.{◌≡◌, ℕ, suc, ◌+◌, ◌<◌, ◌≤◌, Bool, true, false, nat_lt, List, [], ◌∷◌, ◌++◌, length, take, drop, Option, Some, None, cond, if◌then◌else◌, filter_map, refl, sym, ap, ◌∙◌, subst, arith, append_assoc}
 use Rattle.std.proofs.lemmas.Bool.{ltb-false}
 use Rattle.std.proofs.lemmas.List.{drop_all, take_all}
 use Rattle.std.proofs.lemmas.List.Recursion.{is_position_or_len}
 use Rattle.std.specs.List.{cons_option, position, position_or_len}
 use Rattle.reports.proofs.Common.{option_to_list}
-use Rattle.reports.specs.Warnings.{idle_word, is_separator, with_first, words_in}
+use Rattle.reports.specs.Warnings.{is_separator, with_first, words_in}
 use Rattle.reports.specs.declared.warning.Warning.{Warning}
 
 -- where the first separator is, or the end

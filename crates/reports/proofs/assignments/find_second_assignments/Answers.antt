@@ -1,5 +1,5 @@
 -- A statement that assigns a name is told or seen, and another one is passed.
-use Rattle.std.proofs.Common.{◌≡◌, ◌+◌, ◌∷◌, ◌++◌, Option, Some, List, option_map, sym, ap, ap₂, ◌∙◌}
+use Rattle.std.proofs.Common.{◌+◌, ◌++◌, List, option_map, sym, ap, ap₂, ◌∙◌}
 use Rattle.abel_tree.specs.declared.words.Word.{Word}
 use Rattle.reports.specs.Warnings.{seconds}
 use Rattle.reports.specs.declared.warning.Warning.{Warning}

@@ -1,11 +1,8 @@
 -- Whether a source has vectors, by its sections.
-use Rattle.std.proofs.Common.{◌≡◌, ◌++◌, ◌∷◌, [], Bool, true, false, List, if◌then◌else◌, map, sym, ap, ◌∙◌}
+use Rattle.std.proofs.Common.{◌++◌, ◌∷◌, [], Bool, if◌then◌else◌, sym, ap, ◌∙◌}
 use Rattle.std.proofs.lemmas.List.{append-nil}
-use Rattle.std.specs.List.{list_any}
-use Rattle.abel_tree.specs.View.{view_section}
-use Rattle.reports.specs.Warnings.{is_vectors, warned}
+use Rattle.reports.specs.Warnings.{warned}
 use Rattle.reports.specs.declared.warning.Cause.TheVariants.{NoVectors}
-use Rattle.reports.specs.declared.warning.Warning.{Warning}
 use Rattle.reports.proofs.WarnedNames.{any_sections}
 use Rattle.reports.proofs.whole.find_no_vectors.Goals as goal
 
