@@ -3,7 +3,7 @@
 use crate::asked::count_tests;
 use crate::bits::{few_bits, limit, shared};
 use crate::memory_files::{memory_files, memory_sink, sure_files};
-use crate::real_files::{real_files, replaced_files};
+use crate::real_files::{guarded_files, real_files, replaced_files};
 use device_logic::{no_loop, one_layer};
 use pld_order::order_or_loop;
 use std::alloc::Global;
@@ -55,5 +55,11 @@ pub fn run_tests<W: Write>(rt: &HostRuntime, out: &mut W) -> io::Result<()> {
     put_tests(alloc, "files that never fail", sure_files(alloc), out)?;
     put_tests(alloc, "a sink in memory", memory_sink(alloc), out)?;
     put_tests(alloc, "real files and standard output", real_files(rt), out)?;
-    put_tests(alloc, "a file that is replaced", replaced_files(rt), out)
+    put_tests(alloc, "a file that is replaced", replaced_files(rt), out)?;
+    put_tests(
+        alloc,
+        "files that are not to be lost",
+        guarded_files(rt),
+        out,
+    )
 }

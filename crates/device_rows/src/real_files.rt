@@ -1,7 +1,7 @@
 //! That the real files and standard output answer, in a folder of the program's own.
 
 use crate::full_disk::FullDisk;
-use outside::{Files, HostFiles, HostSink, ReadFault, Sink, WriteFault};
+use outside::{Files, GuardedFiles, HostFiles, HostSink, ReadFault, Sink, WriteFault};
 use std::fs::Permissions;
 use std::os::unix::fs::PermissionsExt;
 use std::{fs, io, rt};
@@ -37,13 +37,13 @@ pub fn real_files(rt: &HostRuntime) -> io::Result<[bool; 8]> {
     Ok(answers)
 }
 
-/// Whether an old file is written, in a folder with a link to it.
+/// Whether an old file is written that runs as its owner, in a folder with a link to it.
 fn make_old(rt: &HostRuntime) -> io::Result<bool> {
     let _ = fs::remove_dir_all(rt, "abel_host_replaced");
     fs::create_dir(rt, "abel_host_replaced")?;
     let mut files = HostFiles::new(rt.alloc(), rt);
     let is_made = files.write("abel_host_replaced/old", b"old bytes") == Ok(());
-    fs::set_permissions(rt, "abel_host_replaced/old", Permissions::from_mode(0o640))?;
+    fs::set_permissions(rt, "abel_host_replaced/old", Permissions::from_mode(0o4640))?;
     rt::Files::symlink(rt, "old", "abel_host_replaced/link")?;
     Ok(is_made)
 }
@@ -58,7 +58,7 @@ fn stands_when_full(rt: &HostRuntime) -> io::Result<[bool; 3]> {
     ])
 }
 
-/// Whether a write through the link replaces the file, which keeps its mode, and the link stays one.
+/// Whether a write through the link replaces the file, which keeps its access and no longer runs as its owner, and the link stays one.
 fn is_replaced(rt: &HostRuntime) -> io::Result<[bool; 4]> {
     let mut files = HostFiles::new(rt.alloc(), rt);
     let is_written = files.write("abel_host_replaced/link", b"new bytes") == Ok(());
@@ -68,15 +68,69 @@ fn is_replaced(rt: &HostRuntime) -> io::Result<[bool; 4]> {
         is_written,
         reads(rt, "abel_host_replaced/old", b"new bytes"),
         link.is_symlink(),
-        old.permissions().mode() % 0o1000 == 0o640,
+        old.permissions().mode() % 0o10000 == 0o640,
     ])
 }
 
-/// Whether a file is replaced in one piece, or is.
-pub fn replaced_files(rt: &HostRuntime) -> io::Result<[bool; 8]> {
+/// Whether the old file is replaced where the first name beside it is taken, and what has that name stands; and whether files
+/// of the longest name are written and replaced.
+fn gives_way(rt: &HostRuntime) -> io::Result<[bool; 5]> {
+    let longest = format!(in rt.alloc(); "abel_host_replaced/{:n<255}", "")?;
+    let mut files = HostFiles::new(rt.alloc(), rt);
+    Ok([
+        files.write("abel_host_replaced/old.new0", b"taken") == Ok(()),
+        files.write("abel_host_replaced/old", b"newer bytes") == Ok(()),
+        reads(rt, "abel_host_replaced/old.new0", b"taken"),
+        files.write(longest.as_str(), b"long") == Ok(()),
+        files.write(longest.as_str(), b"longer") == Ok(()),
+    ])
+}
+
+/// Whether a file is replaced in one piece, or stands.
+pub fn replaced_files(rt: &HostRuntime) -> io::Result<[bool; 13]> {
     let made = make_old(rt)?;
     let [failed, kept, alone] = stands_when_full(rt)?;
     let [written, replaced, link, mode] = is_replaced(rt)?;
+    let [taken, newer, stands, long, longer] = gives_way(rt)?;
     fs::remove_dir_all(rt, "abel_host_replaced")?;
-    Ok([made, failed, kept, alone, written, replaced, link, mode])
+    Ok([
+        made, failed, kept, alone, written, replaced, link, mode, taken, newer, stands, long,
+        longer,
+    ])
+}
+
+/// Whether three files and a link to the first are made, in a folder of their own.
+fn make_guarded(rt: &HostRuntime) -> io::Result<bool> {
+    let _ = fs::remove_dir_all(rt, "abel_host_guarded");
+    fs::create_dir(rt, "abel_host_guarded")?;
+    rt::Files::symlink(rt, "in", "abel_host_guarded/link")?;
+    let mut files = HostFiles::new(rt.alloc(), rt);
+    Ok(
+        files.write("abel_host_guarded/in", b"front of in") == Ok(())
+            && files.write("abel_host_guarded/page", b"front of page") == Ok(())
+            && files.write("abel_host_guarded/short", b"fron") == Ok(()),
+    )
+}
+
+/// Whether a write under a name is told to lose nothing.
+fn may_replace(rt: &HostRuntime, name: &str) -> bool {
+    let mut files = HostFiles::new(rt.alloc(), rt);
+    files.may_replace(name, "abel_host_guarded/in", b"front") == Ok(true)
+}
+
+/// Whether a write loses nothing where there is no file, one with the front, or no regular file, and something where there is
+/// another file, or the input itself, also through a link.
+pub fn guarded_files(rt: &HostRuntime) -> io::Result<[bool; 7]> {
+    let made = make_guarded(rt)?;
+    let answers = [
+        made,
+        may_replace(rt, "abel_host_guarded/none"),
+        may_replace(rt, "abel_host_guarded/page"),
+        may_replace(rt, "/dev/null"),
+        !may_replace(rt, "abel_host_guarded/short"),
+        !may_replace(rt, "abel_host_guarded/in"),
+        !may_replace(rt, "abel_host_guarded/link"),
+    ];
+    fs::remove_dir_all(rt, "abel_host_guarded")?;
+    Ok(answers)
 }
