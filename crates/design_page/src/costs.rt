@@ -81,7 +81,8 @@ fn costly_at<D: Device>(
     requires turned { IsTurnMask D.table (plain_netlist fit.now.over.net.now) fit.now.over.turned }
     requires low { cell < length D.table.cells }
     ensures costly { IfOk result (λ found. IfSome found IsCostly) }
-    ensures told { IfOk result (TellsCell D.table fit.now.over.net.now cell (is_asked pins (cell_at D.table cell)) (cell_wanted fit.now.over.net.now cell)) }
+    ensures told { IfOk result (TellsCell D.table fit.now.over.net.now cell
+        (is_asked pins (cell_at D.table cell)) (cell_wanted fit.now.over.net.now cell)) }
 {
     let found = D::cell(cell);
     if !level_at(pins, found.pin) {
