@@ -1,4 +1,4 @@
--- After `compile`, `check` of OUT tells the figures of the report.
+-- After `compile`, `check` of OUT gives the figures of the report.
 use Rattle.std.proofs.Common.{◌≡◌, ℕ, List, [], ◌++◌, Option, sym, ap, ◌∙◌, subst, unwrap_or}
 use Rattle.abel_cli.proofs.Common.{bytes_at, Asked, Heard, table_of, Promises, source_at}
 use Rattle.jedec_reader.specs.DeviceFiles.{IsFileOf}
@@ -12,7 +12,7 @@ use Rattle.abel_cli.specs.Checked.{HasChecked}
 use Rattle.abel_cli.proofs.Kept.{compiled}
 
 module _ (a : Asked) (h : Heard) where
-  -- `check` of OUT reads the file that stands there, and tells its numbers
+  -- `check` of OUT reads the file that is there, and gives its numbers
   pub checked : Promises a h → a.told → h.status ≡ 0 → HasChecked a.words a.new h.told h.old h.new
   checked p tells is i o w =
       let r = compiled a h p tells is i o w in

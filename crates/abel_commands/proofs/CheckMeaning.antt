@@ -30,7 +30,7 @@ module _ (t : Table) (bytes : List ℕ) where
   check_means e (inl (report, c, is)) = subst (λ (x : Ending). CheckMeans t bytes x) (sym is) (good report c)
   check_means e (inr (report, r, is)) = subst (λ (x : Ending). CheckMeans t bytes x) (sym is) (bad report (r.0, r.1))
 
-  -- bytes that are a fuse file of the device have one ending: their numbers are told
+  -- bytes that are a fuse file of the device have one ending: their numbers are reported
   pub checked_as : (file : FuseFile) → IsFileOf t bytes file → (e : Ending) → CheckEnds t bytes e → e ≡ ends 0 (checked_line t file)
   checked_as file is e (inl (report, c, ending)) =
       ending ∙ ap (λ (text : List ℕ). ends 0 text) (c.told ∙ ap (checked_line t) (same_file t bytes c.file file c.of.read is.read))

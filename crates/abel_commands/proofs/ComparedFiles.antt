@@ -1,4 +1,4 @@
--- What comparing two fuse files comes to, by the library's answer.
+-- What comparing two fuse files amounts to, by the library's answer.
 use Rattle.std.proofs.Common.{◌≡◌, ◌≢◌, ℕ, List, inl, inr}
 use Rattle.abel_commands.proofs.Common.{FuseFile, device_logic, Table, SimFault, OutOfMemory, AreAlike, IsDifference, RunsAlike, Difference, IsRefusedPair, FirstLoad, SecondLoad, AreDifferent, AreSame, differ_line, same_line, IsFileOf, CanLoad, sim_fault_line}
 use Rattle.fuse_compare.specs.Compared.{CanBeCompared, CanBeLoaded, IsCompareFault}

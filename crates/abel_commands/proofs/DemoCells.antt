@@ -11,7 +11,7 @@ use Rattle.abel_meaning.specs.Designs.{design_of}
 use Rattle.devices.specs.DeviceLaws.{table_sound}
 use Rattle.abel_commands.proofs.Seeds.{digits_are}
 
--- ---- digits behind a front, and then a blank
+-- ---- digits after a front, and then a blank
 
 digits_end : (ds back : List ℕ) → list_all is_ascii_digit ds ≡ true → prefix_len is_ascii_digit (ds ++ 32 ∷ back) ≡ length ds
 digits_end [] back all = refl
@@ -26,7 +26,7 @@ module _ (front ds back : List ℕ) (all : list_all is_ascii_digit ds ≡ true) 
 
 -- ---- of a summary
 
--- seven pieces behind a front
+-- seven pieces after a front
 regrouped : (x a b c d e f g : List ℕ) → x ++ a ++ b ++ c ++ d ++ e ++ f ++ g ≡ x ++ (a ++ (b ++ (c ++ (d ++ (e ++ (f ++ g))))))
 regrouped x a b c d e f g =
     append_assoc (x ++ a ++ b ++ c ++ d ++ e) f g
@@ -40,7 +40,7 @@ module _ (t : Table) (cells : ℕ) (fuses : List Bool) (low : cells < 2 ^ 64) wh
   abbrev front : List ℕ
   front = codes "compiled " ++ device_text t.name ++ codes " cells "
 
-  -- what stands behind the number and its blank
+  -- what follows the number and its blank
   abbrev back : List ℕ
   back =
       codes "products "

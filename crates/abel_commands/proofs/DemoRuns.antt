@@ -1,4 +1,4 @@
--- What a demo tells of a run.
+-- What a demo says of a run.
 use Rattle.std.proofs.Common.{◌≡◌, ℕ, List, length, Ok, ◌∙◌, ap}
 use Rattle.abel_commands.proofs.Common.{decimal, FuseFile, file_of, fuse_sum_of, Table, Report, IsSimulated, IsTheOnlyList, IsFileRun, demo_line, demo_told}
 

@@ -1,10 +1,10 @@
--- Reading a fuse file never comes to want of memory: that is no refusal.
+-- Reading a fuse file is never refused for lack of memory: that is no refusal.
 use Rattle.std.proofs.Common.{◌≡◌, ◌≢◌, ℕ, ◌+◌, ◌-◌, ◌==◌, Bool, true, false, cond, ◌||◌, List, [], ◌∷◌, length, take, drop, Option, Some, None, Ok, Err, refl, sym, ap, ◌∙◌, subst, codes, position, sum, ◌%◌, ◌^◌}
 use Rattle.abel_commands.proofs.Common.{true≢false, Field, JedecFault, behind_design, field_at, fields_from, fields_of, no_field, pieces, ETX, STX, byte, check_sum, four_hex_value, frame_of, length_of, start_of, sum_at, FuseFile, contents_of, default_fuse, default_of, default_said, file_of, first_unlisted, fuse_count, fuse_sum_read, fuses_said, is_size, last_of, none_unlisted, size_of, size_said, sum_agrees, sum_said, fuse_sum_of, Read, ◌>>=◌, some_or, Table}
 use Rattle.jedec_file.specs.declared.jedec_fault.JedecFault.TheVariants as fault
 use Rattle.jedec_file.specs.Fields.{field_of, is_field_letter, trimmed}
 
--- a refusal is for the bytes, and not for want of memory
+-- a refusal is for the bytes, and not for lack of memory
 abbrev is_refusal : JedecFault → Bool
 is_refusal fault.NoStart = true
 is_refusal fault.NoEnd = true

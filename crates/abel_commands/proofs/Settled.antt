@@ -1,9 +1,9 @@
--- What holds where a call is not refused so.
+-- What holds if a call is not refused so.
 use Rattle.std.proofs.Common.{◌≡◌, Ok, Err, inl, inr, IsErrOf, Result, ◌⊎◌}
 use Rattle.abel_commands.proofs.Common.{ReadFault}
 use Rattle.outside.specs.declared.files.ReadFault.TheVariants as read
 
--- where a call is not refused so, the other side holds
+-- if a call is not refused so, the other side holds
 pub settled : {X E P : Type 0} {x : X} {e : E} → IsErrOf (Ok x) e ⊎ P → P
 settled (inl is) = absurd cc
 settled (inr p) = p

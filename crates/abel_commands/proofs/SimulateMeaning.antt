@@ -8,7 +8,7 @@ use Rattle.abel_commands.specs.SimulateCommand.{SimulateEnds, SimulateMeans, IsB
 use Rattle.abel_commands.proofs.GoodFiles.{good_not_bad, same_file}
 
 module _ (t : Table) (bytes : List ℕ) where
-  -- what holds of the file that the bytes are read as holds of it, however it is come by
+  -- what holds of the file that the bytes are read as holds of it, however it was obtained
   of_file : (Holds : FuseFile → Type 0) (f g : FuseFile) → file_of t bytes ≡ Ok f → file_of t bytes ≡ Ok g → Holds f → Holds g
   of_file Holds f g is also = subst Holds (same_file t bytes f g is also)
 

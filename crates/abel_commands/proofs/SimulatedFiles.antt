@@ -1,4 +1,4 @@
--- What is told of a file that was simulated, or wasn't.
+-- What is reported of a file that was simulated, or wasn't.
 use Rattle.std.proofs.Common.{◌≡◌, ◌≢◌, ℕ, ◌==◌, Bool, true, false, List, [], sym, ◌∙◌, ap, length}
 use Rattle.abel_commands.proofs.Common.{eqb-true, true≢false, nil_from_length, FuseFile, Table, Mismatch, Report, IsSimulated, IsTheOnlyList, IsFileOf, IsReportedRun, run_lines}
 

@@ -5,7 +5,7 @@ use Rattle.abel_commands.specs.Checking.{IsChecked}
 use Rattle.abel_commands.specs.Ending.{Ending, ends}
 use Rattle.abel_commands.specs.FuseFiles.{IsBadFile, IsGoodFile, IsRefusedFile}
 
--- how it ends: the file's numbers are told, or why the bytes are none
+-- how it ends: the file's numbers are reported, or why the bytes aren't one
 abbrev pub CheckEnds : Table → (bytes : List ℕ) → Ending → Type 0
 CheckEnds t bytes e =
     ((report : List ℕ) × IsChecked t bytes report × (e ≡ ends 0 report))
@@ -15,10 +15,10 @@ CheckEnds t bytes e =
 pub record CheckMeans (t : Table) (bytes : List ℕ) (e : Ending) : Type 0 where
   -- 0 and 4 are its statuses
   pub statuses : (e.status ≡ 0) ⊎ (e.status ≡ 4)
-  -- 0 comes exactly for a fuse file of the device, and tells its numbers
+  -- 0 is answered exactly for a fuse file of the device, and gives its numbers
   pub checked : e.status ≡ 0 → IsChecked t bytes e.text
   pub checked_where : IsGoodFile t bytes → e.status ≡ 0
-  -- 4 comes exactly for bytes that are none: too long, not read, or in the wrong mode
+  -- 4 is answered exactly for bytes that aren't one: too long, not read, or in the wrong mode
   pub bad : e.status ≡ 4 → IsBadFile t bytes
   pub bad_where : IsBadFile t bytes → e.status ≡ 4
   -- nothing is written

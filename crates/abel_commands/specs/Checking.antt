@@ -1,4 +1,4 @@
--- What checking a fuse file tells: its numbers (this project's rule).
+-- What checking a fuse file shows: its numbers (this project's rule).
 use Rattle.std.specs.Prelude.{◌≡◌, ℕ, List, ◌++◌, length, codes}
 use Rattle.abel_commands.specs.Prelude.{decimal, device_text, four_hex, FuseFile, fuse_sum_of, Table}
 use Rattle.pld_device.specs.OpenedFuses.{opened_of}

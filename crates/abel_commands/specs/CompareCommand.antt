@@ -20,7 +20,7 @@ pub data IsRefusedPair (t : Table) (a b report : List ℕ) : Type 0 where
   -- the first is loaded, and the second isn't
   SecondLoad : CanLoad t a → IsRefusedLoad t b report → IsRefusedPair t a b report
 
--- how it ends: the files behave alike, or they don't, or it is told why they aren't compared
+-- how it ends: the files behave alike, or they don't, or it is reported why they aren't compared
 abbrev pub CompareEnds : Table → (a b : List ℕ) → Ending → Type 0
 CompareEnds t a b e =
     ((report : List ℕ) × AreSame t a b report × (e ≡ ends 0 report))
@@ -31,15 +31,15 @@ CompareEnds t a b e =
 pub record CompareMeans (t : Table) (a b : List ℕ) (e : Ending) : Type 0 where
   -- 0, 4 and 5 are its statuses
   pub statuses : (e.status ≡ 0) ⊎ ((e.status ≡ 4) ⊎ (e.status ≡ 5))
-  -- 0 comes exactly where the files behave alike, and says so
+  -- 0 is answered exactly if the files behave alike, and says so
   pub same : e.status ≡ 0 → AreSame t a b e.text
   pub same_where : BehaveAlike t a b → e.status ≡ 0
-  -- 5 comes exactly where they don't, and tells a plain state at which they differ
+  -- 5 is answered exactly if they don't, and gives a plain state at which they differ
   pub different : e.status ≡ 5 → (it : AreDifferent t a b e.text) × IsPlain t a b e.text it
   pub different_where : BehaveOtherwise t a b → e.status ≡ 5
-  -- one of the two comes for any files that are loaded
+  -- one of the two occurs for any files that are loaded
   pub compared_where : CanLoad t a → CanLoad t b → (e.status ≡ 0) ⊎ (e.status ≡ 5)
-  -- 4 comes exactly where one of the files is no fuse file of the device, or isn't loaded
+  -- 4 is answered exactly if one of the files is no fuse file of the device, or isn't loaded
   pub bad : e.status ≡ 4 → IsBadToLoad t a ⊎ IsBadToLoad t b
   pub bad_where : IsBadToLoad t a ⊎ IsBadToLoad t b → e.status ≡ 4
   -- nothing is written

@@ -1,4 +1,4 @@
--- What comparing two fuse files tells: that they behave alike, or a state at which they don't (this project's rule).
+-- What comparing two fuse files show: that they behave alike, or a state at which they don't (this project's rule).
 use Rattle.std.specs.Prelude.{◌≡◌, ℕ, ◌==◌, ◌&&◌, Bool, List, ◌∷◌, ◌++◌, map, length, codes}
 use Rattle.abel_commands.specs.Prelude.{list_any, range_with_len, bits, is_on, device_text, level_char, device_logic, Table, cell_at}
 use Rattle.pld_base.specs.Logic.{Logic}
@@ -13,7 +13,7 @@ use Rattle.abel_commands.specs.Loading.{CanLoad}
 abbrev pub pin_digits : Table → (level : ℕ → Bool) → List ℕ
 pin_digits t level = map (λ pin. level_char (level pin)) (range_with_len 1 t.pins)
 
--- the Q of the cell on the pin, 0 where there is no cell
+-- the Q of the cell on the pin, 0 if there is no cell
 abbrev pub q_on : Table → (stored : List Bool) → (pin : ℕ) → Bool
 q_on t stored pin = list_any (λ c. ((cell_at t c).pin == pin) && is_on stored c) (range_with_len 0 (length t.cells))
 
@@ -54,7 +54,7 @@ pub record AreSame (t : Table) (a b report : List ℕ) : Type 0 where
   pub runs : RunsAlike (logic_with t a of.first) (logic_with t b of.second)
   pub told : report ≡ same_line t
 
--- they differ at the state that the line tells
+-- they differ at the state that the line reports
 pub record AreDifferent (t : Table) (a b report : List ℕ) : Type 0 where
   pub first : CanLoad t a
   pub second : CanLoad t b

@@ -15,7 +15,7 @@ pub record IsDecompiledFile (t : Table) (bytes report : List ℕ) : Type 0 where
   pub read : IsReadAsSource t of.file.fuses report
   pub right : IsDecompiled t of.file.fuses report
 
--- how it ends: the source of the file's fuses is told, or why there is none
+-- how it ends: the source of the file's fuses is reported, or why there isn't one
 abbrev pub DecompileEnds : Table → (bytes : List ℕ) → Ending → Type 0
 DecompileEnds t bytes e =
     ((report : List ℕ) × IsDecompiledFile t bytes report × (e ≡ ends 0 report))
@@ -25,10 +25,10 @@ DecompileEnds t bytes e =
 pub record DecompileMeans (t : Table) (bytes : List ℕ) (e : Ending) : Type 0 where
   -- 0 and 4 are its statuses
   pub statuses : (e.status ≡ 0) ⊎ (e.status ≡ 4)
-  -- 0 comes exactly for a fuse file of the device that is loaded, and tells its source
+  -- 0 is answered exactly for a fuse file of the device that is loaded, and gives its source
   pub decompiled : e.status ≡ 0 → IsDecompiledFile t bytes e.text
   pub decompiled_where : CanLoad t bytes → e.status ≡ 0
-  -- 4 comes exactly for bytes that are no such file, or one that isn't loaded
+  -- 4 is answered exactly for bytes that are no such file, or one that isn't loaded
   pub bad : e.status ≡ 4 → IsBadToLoad t bytes
   pub bad_where : IsBadToLoad t bytes → e.status ≡ 4
   -- nothing is written

@@ -37,7 +37,7 @@ pub record IsFileRun (seed cells : ℕ) (t : Table) (bytes : List ℕ) (list : L
   pub only : IsTheOnlyList t file list
   pub told : report ≡ demo_line seed cells (length file.vectors) (length list) (fuse_sum_of file.fuses)
 
--- 0 comes without a mismatch, and 5 with some
+-- 0 occurs without a mismatch, and 5 with some
 abbrev pub FileEnds : (seed cells : ℕ) → Table → (bytes : List ℕ) → Ending → Type 0
 FileEnds seed cells t bytes e =
     ((report : List ℕ) × IsFileRun seed cells t bytes [] report × (e ≡ ends 0 report))
@@ -76,16 +76,16 @@ pub record DemoMeans (seed : ℕ) (e : Ending) : Type 0 where
   pub source : IsDemoSource seed text
   -- 0, 2, 3 and 5 are its statuses
   pub statuses : (e.status ≡ 0) ⊎ ((e.status ≡ 2) ⊎ ((e.status ≡ 3) ⊎ (e.status ≡ 5)))
-  -- 0 comes for a compiled source whose file's run has no mismatch, and tells its numbers
+  -- 0 occurs for a compiled source whose file's run has no mismatch, and gives its numbers
   pub agrees : e.status ≡ 0 → IsDemoRun seed text [] e.text
-  -- 5 comes for one whose file's run has some
+  -- 5 occurs for one whose file's run has some
   pub disagrees : e.status ≡ 5 → (list : List Mismatch) × (list ≢ []) × IsDemoRun seed text list e.text
-  -- one of the two comes for a source that fits as it is written
+  -- one of the two occurs for a source that fits as it is written
   pub runs_where : Fits text → (e.status ≡ 0) ⊎ (e.status ≡ 5)
-  -- 2 comes exactly for a source that is too long or refused
+  -- 2 is answered exactly for a source that is too long or refused
   pub refused : e.status ≡ 2 → IsRefused text
   pub refused_where : IsRefused text → e.status ≡ 2
-  -- 3 comes only for one that does not fit
+  -- 3 is answered only for one that does not fit
   pub unfit : e.status ≡ 3 → IsUnfit text
   -- nothing is written
   pub unwritten : e.output ≡ None

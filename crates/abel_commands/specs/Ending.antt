@@ -7,7 +7,8 @@ pub record Output : Type 0 where
   pub name : List ℕ
   pub bytes : List ℕ
 
--- the status and the whole text of the report where it is told in full, and what is put under a name, if any
+-- the status and the whole text of the report if it is reported in full, and what is put under a name, if
+-- any
 pub record Ending : Type 0 where
   pub status : ℕ
   pub text : List ℕ
@@ -33,7 +34,7 @@ usage = codes "usage: abel compile IN OUT\n"
 abbrev pub too_long_line : List ℕ
 too_long_line = codes "error TooLong\n"
 
--- the line on want of memory
+-- the line on lack of memory
 abbrev pub memory_line : List ℕ
 memory_line = codes "error memory\n"
 

@@ -1,4 +1,4 @@
--- What is told of bytes that are not read as a fuse file (this project's rule).
+-- What is reported of bytes that are not read as a fuse file (this project's rule).
 use Rattle.std.specs.Prelude.{ℕ, List, [], ◌∷◌, ◌++◌, get_or, codes}
 use Rattle.abel_commands.specs.Prelude.{decimal, JedecFault, four_hex}
 use Rattle.jedec_file.specs.declared.jedec_fault.JedecFault.TheVariants as fault

@@ -1,5 +1,5 @@
--- The fuse file that bytes are, and the three refusals of bytes that are none, for each command on fuse files (this project's
--- rule).
+-- The fuse file that bytes are, and the three refusals of bytes that aren't one, for each command on fuse files (this
+-- project's rule).
 use Rattle.std.specs.Prelude.{◌≡◌, ◌≢◌, ℕ, ◌≤◌, List, ◌++◌, length, Ok, Err, Some, codes}
 use Rattle.abel_commands.specs.Prelude.{decimal, Table, JedecFault, FuseFile, file_of, contents}
 use Rattle.pld_device.specs.FixedFuses.{wrong_fixed}
@@ -24,7 +24,7 @@ pub data FileRefusal : Type 0 where
   Unread : (fault : JedecFault) → FileRefusal
   WrongMode : (fuse : ℕ) → FileRefusal
 
--- the bytes are within the limit, and reading them has this refusal first; want of memory is none
+-- the bytes are within the limit, and reading them has this refusal first; lack of memory isn't one
 pub record IsUnread (t : Table) (bytes : List ℕ) (refusal : JedecFault) : Type 0 where
   pub within : length bytes ≤ limit
   pub read : file_of t bytes ≡ Err refusal
@@ -64,7 +64,7 @@ abbrev pub IsRefusedFile : Table → (bytes report : List ℕ) → Type 0
 IsRefusedFile t bytes report =
     (refusal : FileRefusal) × IsRefusedAs t bytes refusal × (report ≡ refusal_line bytes refusal)
 
--- what bytes within the limit come to, as the code keeps it
+-- what bytes within the limit amount to, as the code keeps it
 abbrev pub IsTaken : Table → (bytes : List ℕ) → Taken → Type 0
 IsTaken t bytes (taken.File file) = IsFileOf t bytes (contents t file) × (length file.fuses ≡ t.fuses)
 IsTaken t bytes (taken.Refused line) = IsRefusedFile t bytes line.items

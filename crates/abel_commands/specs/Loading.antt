@@ -1,5 +1,5 @@
--- When a fuse file of a device is loaded, and what is told of one that is not, for each command that looks into the device (this
--- project's rule).
+-- When a fuse file of a device is loaded, and what is reported of one that is not, for each command that looks into the
+-- device (this project's rule).
 use Rattle.std.specs.Prelude.{◌≡◌, ◌≢◌, ℕ, ◌⊎◌, Bool, List, length, Ok}
 use Rattle.abel_commands.specs.Prelude.{FuseFile, file_of, Table, HasLoop, HasNoLoop, SimFault, cell_reads, HasNoResetPath, IsResetPath}
 use Rattle.device_logic.specs.declared.fault.SimFault.TheVariants as refusal
@@ -26,7 +26,7 @@ IsNotLoaded t bytes = (file : FuseFile) × (file_of t bytes ≡ Ok file) × HasL
 abbrev pub IsBadToLoad : Table → (bytes : List ℕ) → Type 0
 IsBadToLoad t bytes = IsBadFile t bytes ⊎ IsNotLoaded t bytes
 
--- the bytes are a fuse file of the device that isn't loaded, and this is the line on why; want of memory is no reason
+-- the bytes are a fuse file of the device that isn't loaded, and this is the line on why; lack of memory is no reason
 pub record IsRefusedLoad (t : Table) (bytes report : List ℕ) : Type 0 where
   pub file : FuseFile
   pub of : IsFileOf t bytes file

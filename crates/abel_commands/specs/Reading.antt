@@ -1,4 +1,4 @@
--- What reading the sources of a command comes to (this project's rule).
+-- What reading the sources of a command amounts to (this project's rule).
 use Rattle.std.specs.Prelude.{◌≡◌, ℕ, ◌<◌, ◌≤◌, List, [], map, length, get_or, All, Contains}
 use Rattle.abel_commands.specs.Prelude.{Map, bytes_at}
 use Rattle.abel_commands.specs.declared.sources.SourceFault.{SourceFault}
@@ -16,7 +16,7 @@ pub record AreSources (told : Type 0) (files : Map) (names : List (List ℕ)) (f
 abbrev pub HasLongName : (told : Type 0) → Map → (names : List (List ℕ)) → Type 0
 HasLongName told files names = (place : ℕ) × (place < length names) × (told → IsTooLong (bytes_at files (get_or names place [])))
 
--- the sources were not read for this; want of memory is no reason of the files'
+-- the sources were not read for this; lack of memory is no fault of the files
 abbrev pub IsWhyUnread : (told : Type 0) → Map → (names : List (List ℕ)) → Count → SourceFault → Type 0
 IsWhyUnread told files names faults (Unread name) = Contains names name.now × HasRisen faults
 IsWhyUnread told files names faults TooLong = HasLongName told files names × HasStayed faults

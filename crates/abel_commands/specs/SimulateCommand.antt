@@ -9,7 +9,7 @@ use Rattle.abel_commands.specs.Simulating.{Agrees, Disagrees, CanRun, HasMismatc
 abbrev pub IsBadRun : Table → List ℕ → Type 0
 IsBadRun t bytes = IsBadFile t bytes ⊎ HasNoRun t bytes
 
--- how it ends: the run agrees with the vectors, or disagrees, or it is told why there is none
+-- how it ends: the run agrees with the vectors, or disagrees, or it is reported why there isn't one
 abbrev pub SimulateEnds : Table → (bytes : List ℕ) → Ending → Type 0
 SimulateEnds t bytes e =
     ((report : List ℕ) × Agrees t bytes report × (e ≡ ends 0 report))
@@ -20,15 +20,15 @@ SimulateEnds t bytes e =
 pub record SimulateMeans (t : Table) (bytes : List ℕ) (e : Ending) : Type 0 where
   -- 0, 4 and 5 are its statuses
   pub statuses : (e.status ≡ 0) ⊎ ((e.status ≡ 4) ⊎ (e.status ≡ 5))
-  -- 0 comes exactly where the run has no mismatch, and tells how many vectors there were
+  -- 0 is answered exactly if the run has no mismatch, and says how many vectors there were
   pub agrees : e.status ≡ 0 → Agrees t bytes e.text
   pub agrees_where : HasNoMismatch t bytes → e.status ≡ 0
-  -- 5 comes exactly where it has some, and tells each
+  -- 5 is answered exactly if it has some, and reports each
   pub disagrees : e.status ≡ 5 → Disagrees t bytes e.text
   pub disagrees_where : HasMismatch t bytes → e.status ≡ 5
   -- what can be run is
   pub runs_where : CanRun t bytes → (e.status ≡ 0) ⊎ (e.status ≡ 5)
-  -- 4 comes exactly for bytes that are no fuse file of the device, or are not simulated
+  -- 4 is answered exactly for bytes that are no fuse file of the device, or are not simulated
   pub bad : e.status ≡ 4 → IsBadRun t bytes
   pub bad_where : IsBadRun t bytes → e.status ≡ 4
   -- nothing is written

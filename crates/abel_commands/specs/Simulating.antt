@@ -1,4 +1,4 @@
--- What simulating a fuse file tells: where its vectors' run disagrees with them, or why there is no run (this
+-- What simulating a fuse file shows: if its vectors' run disagrees with them, or why there is no run (this
 -- project's rule).
 use Rattle.std.specs.Prelude.{◌≡◌, ◌≢◌, ℕ, ◌⊎◌, IsSome, List, [], ◌∷◌, ◌++◌, length, flat_map, codes, Ok}
 use Rattle.abel_commands.specs.Prelude.{decimal, device_text, FuseFile, file_of, device_logic, Table, HasLoop, SimFault, cell_reads, IsResetPath, Mismatch, CanBeSimulated, IsSimFault, IsTheOnlyList, first_unsupported}
@@ -27,7 +27,7 @@ run_line t vectors mismatches =
 abbrev pub run_lines : Table → (vectors : ℕ) → List Mismatch → List ℕ
 run_lines t vectors list = flat_map mismatch_line list ++ run_line t vectors (length list)
 
--- each pin behind a blank
+-- each pin after a blank
 abbrev pub pins_text : List ℕ → List ℕ
 pins_text pins = flat_map (λ pin. 32 ∷ decimal pin) pins
 
@@ -89,7 +89,7 @@ IsNotRun t file = IsSome (first_unsupported 1 file.vectors)
 abbrev pub HasNoRun : Table → (bytes : List ℕ) → Type 0
 HasNoRun t bytes = (file : FuseFile) × (file_of t bytes ≡ Ok file) × IsNotRun t file
 
--- the bytes are a fuse file of the device that isn't simulated, and this is the line on why; want of memory is no
+-- the bytes are a fuse file of the device that isn't simulated, and this is the line on why; lack of memory is no
 -- reason
 pub record IsRefusedRun (t : Table) (bytes report : List ℕ) : Type 0 where
   pub file : FuseFile

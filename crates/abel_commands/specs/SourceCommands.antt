@@ -10,7 +10,7 @@ use Rattle.compile_phases.specs.SourceRefusals.{IsAcceptedFor, IsReadFor, IsSour
 use Rattle.abel_commands.specs.Ending.{Ending, ends, too_long_line}
 use Rattle.abel_commands.specs.Limit.{limit, IsTooLong}
 
--- ---- of a source; what its bytes come to, and which report they have, is for the compiler to say
+-- ---- of a source; what its bytes amount to, and which report they have, is for the compiler to say
 
 -- the source is refused, with this report
 abbrev pub IsRefusedWith : (text report : List ℕ) → Type 0
@@ -34,7 +34,7 @@ IsUnfit text = (length text ≤ limit) × (report : List ℕ) × IsUnfitWith tex
 abbrev pub Fits : (text : List ℕ) → Type 0
 Fits text = (length text ≤ limit) × IsReadFor text (IsPlacedFor (λ t m. IsAcceptedFor t m × FitsAsWritten t m))
 
--- ---- what is told of a compiled source
+-- ---- what is reported of a compiled source
 
 -- `compile`: the file goes under OUT, and the summary is the report
 abbrev pub written : (output : List ℕ) → Compiled → Ending
@@ -66,13 +66,13 @@ module _ (text : List ℕ) (told : Compiled → Ending) where
   pub record SourceMeans (e : Ending) : Type 0 where
     -- 0, 2 and 3 are its statuses
     pub statuses : (e.status ≡ 0) ⊎ ((e.status ≡ 2) ⊎ (e.status ≡ 3))
-    -- 0 comes for a compiled source alone, and for each that fits as it is written
+    -- 0 occurs for a compiled source alone, and for each that fits as it is written
     pub compiled : e.status ≡ 0 → (c : Compiled) × IsCompiled text c × (e ≡ told c)
     pub compiled_where : Fits text → e.status ≡ 0
-    -- 2 comes exactly for a source that is too long or refused
+    -- 2 is answered exactly for a source that is too long or refused
     pub refused : e.status ≡ 2 → IsRefused text
     pub refused_where : IsRefused text → e.status ≡ 2
-    -- 3 comes only for one that does not fit
+    -- 3 is answered only for one that does not fit
     pub unfit : e.status ≡ 3 → IsUnfit text
     -- only under 0 is anything written
     pub unwritten : 1 ≤ e.status → e.output ≡ None

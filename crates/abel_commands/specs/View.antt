@@ -33,7 +33,7 @@ output_seen o = record { name = o.name.now; bytes = o.bytes.items }
 abbrev pub ending_seen : kept.Ending → Ending
 ending_seen e = record { status = e.status; text = e.text.items; output = option_map output_seen e.output }
 
--- the ending that an outcome is told as
+-- the ending that an outcome is reported as
 abbrev pub view : Outcome → Ending
 view outcome.Usage = usage_ending
 view (outcome.Ended ending) = ending_seen ending

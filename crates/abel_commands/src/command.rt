@@ -34,7 +34,7 @@ pub struct Command<'a> {
     pub inputs: &'a [String],
 }
 
-/// The number that a word of one to five digits is, where it is at most 65,535. Takes no memory.
+/// The number that a word of one to five digits is, if it is at most 65,535. Takes no memory.
 fn seed_of(word: &str) -> Option<u16>
     ensures { result ≡ seed_of word.now }
 {

@@ -36,7 +36,7 @@ fn is_on_at<D: Device>(stored: u32, cell: u8, pin: u8) -> bool
     cell_of::<D>(cell).pin == pin && level_at(stored, cell)
 }
 
-/// The stored Q of the cell on a pin, 0 where there is no cell. Takes no memory.
+/// The stored Q of the cell on a pin, 0 if there is no cell. Takes no memory.
 fn q_on<D: Device>(stored: u32, pin: u8) -> bool
     ensures { result ≡ q_on D.table (bits 32 stored) pin }
 {

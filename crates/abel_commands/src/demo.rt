@@ -22,7 +22,7 @@ use std::alloc::Global;
 
 /// The fuse file of a compiled source, read back.
 ///
-/// Such a file is never refused; one of 4 GiB or more, which the reader does not take, is answered as want of memory.
+/// Such a file is never refused; one of 4 GiB or more, which the reader does not take, is answered as lack of memory.
 fn read_back<D: Device>(alloc: Global, bytes: &[u8]) -> Result<FuseFile, OutOfMemory>
     ensures file { IfOk result (λ file. file_of D.table bytes.now ≡ Ok (contents D.table file)) }
     ensures fuses { IfOk result (λ file. length file.fuses ≡ D.table.fuses) }

@@ -11,7 +11,7 @@ use pld_base::{OutOfMemory, put_hex};
 use pld_device::Device;
 use std::alloc::Global;
 
-/// What stands behind so many bytes, nothing where there are fewer.
+/// What follows so many bytes, nothing if there are fewer.
 fn behind(text: &[u8], count: usize) -> &[u8]
     ensures { result.now ≡ drop count text.now }
 {

@@ -35,7 +35,7 @@ impl<'a> Ending<'a> {
     }
 }
 
-/// What a run came to, up to the report.
+/// The result of a run, up to the report.
 #[derive(Drop)]
 pub enum Outcome<'a> {
     /// The words are no command.
@@ -48,7 +48,7 @@ pub enum Outcome<'a> {
     Unwritten(&'a str),
 }
 
-/// The status that an outcome ends with, where it is told in full.
+/// The status that an outcome ends with, if it is reported in full.
 pub fn status(outcome: &Outcome) -> u8
     ensures { result ≡ (view outcome.now).status }
 {

@@ -53,7 +53,7 @@ fn put_unsupported(
     Ok(())
 }
 
-/// Appends the name of a refusal and what was found. Want of memory is no refusal.
+/// Appends the name of a refusal and what was found. Lack of memory is no refusal.
 fn put_fault(
     alloc: Global,
     text: &mut Vec<u8>,
@@ -80,7 +80,7 @@ fn put_fault(
     Ok(())
 }
 
-/// The line on a refusal of these bytes. Want of memory is no refusal.
+/// The line on a refusal of these bytes. Lack of memory is no refusal.
 pub fn fault_line(alloc: Global, bytes: &[u8], fault: &JedecFault) -> Result<Vec<u8>, OutOfMemory>
     ensures line { IfOk result (λ text. text.items ≡ fault_line bytes.now fault.now) }
     ensures memory { fault.now ≡ refusal.OutOfMemory → IsErr result }

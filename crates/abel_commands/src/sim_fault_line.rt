@@ -9,7 +9,7 @@ use device_sim::SimFault;
 use pld_base::OutOfMemory;
 use std::alloc::Global;
 
-/// Appends each pin behind a blank.
+/// Appends each pin after a blank.
 fn put_pins(alloc: Global, text: &mut Vec<u8>, pins: &[u8]) -> Result<(), OutOfMemory>
     ensures { OnOk result (text.new.items ≡ text.old.items ++ pins_text pins.now) }
 {
@@ -44,7 +44,7 @@ fn put_condition(alloc: Global, text: &mut Vec<u8>, vector: u32, pin: u8) -> Res
     Ok(())
 }
 
-/// Appends the name of a refusal and what was found. Want of memory is no refusal.
+/// Appends the name of a refusal and what was found. Lack of memory is no refusal.
 fn put_sim_fault(alloc: Global, text: &mut Vec<u8>, fault: &SimFault) -> Result<(), OutOfMemory>
     ensures text { OnOk result (text.new.items ≡ text.old.items ++ sim_fault_text fault.now) }
     ensures memory { fault.now ≡ refusal.OutOfMemory → IsErr result }
@@ -62,7 +62,7 @@ fn put_sim_fault(alloc: Global, text: &mut Vec<u8>, fault: &SimFault) -> Result<
     Ok(())
 }
 
-/// The line on a refusal. Want of memory is no refusal.
+/// The line on a refusal. Lack of memory is no refusal.
 pub fn sim_fault_line(alloc: Global, fault: &SimFault) -> Result<Vec<u8>, OutOfMemory>
     ensures line { IfOk result (λ text. text.items ≡ sim_fault_line fault.now) }
     ensures memory { fault.now ≡ refusal.OutOfMemory → IsErr result }

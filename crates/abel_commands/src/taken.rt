@@ -1,4 +1,4 @@
-//! What bytes come to as a fuse file of a device: where each command on fuse files begins.
+//! What bytes amount to as a fuse file of a device: with which each command on fuse files begins.
 
 ghost use Rattle.std.specs.Prelude.{◌≡◌, ◌≤◌, IfOk, Ok, length};
 ghost use Rattle.abel_commands.specs.Prelude.{file_of, contents};
@@ -11,7 +11,7 @@ use pld_base::OutOfMemory;
 use pld_device::{Device, wrong_fuse};
 use std::alloc::Global;
 
-/// What bytes come to: the file, or the line on why they are none.
+/// What bytes amount to: the file, or the line on why they aren't one.
 #[derive(Drop)]
 pub enum Taken {
     File(FuseFile),
@@ -31,7 +31,7 @@ fn in_mode<D: Device>(alloc: Global, bytes: &[u8], file: FuseFile) -> Result<Tak
     }
 }
 
-/// The fuse file that bytes within the limit are, or the line on why they are none.
+/// The fuse file that bytes within the limit are, or the line on why they aren't one.
 pub fn take_file<D: Device>(alloc: Global, bytes: &[u8]) -> Result<Taken, OutOfMemory>
     requires { length bytes.now ≤ limit }
     ensures { IfOk result (IsTaken D.table bytes.now) }

@@ -32,7 +32,7 @@ module _ (text : List ℕ) (turns own : ℕ) (rest : List ℕ) (o : IsOwnEnd tex
         ends = λ n below within. last_behind n 1 rest more f s within ∙ o.ends n below (omega (arith, ap length e, within));
       }
 
-  -- where no more is left than is its own, the source goes on with the rest
+  -- if no more is left than is its own, the source goes on with the rest
   pub own_here : (offset : ℕ) → length rest ≤ own → offset + length rest ≡ length text → drop offset text ≡ rest
   own_here offset h e =
       let z : length rest - length rest ≡ 0 = omega arith in
@@ -64,7 +64,7 @@ module _ (text : List ℕ) (turns own : ℕ) (rest : List ℕ) (o : IsOwnEnd tex
             last_before n result behind rest' e i ∙ last_behind n k rest behind b h i ∙ o.ends n (omega (arith, below)) (omega (arith, i, l));
       }
 
--- what waits and what stands behind it are what is said and the rest
+-- what waits and what follows it are what is said and the rest
 module _ (text : List ℕ) (turns given done rewritings : ℕ) (k : Kept) (waiting : List ℕ) (copied : ℕ) (rest : List ℕ) (place : Place)
     (s : Stands text turns given done rewritings k waiting copied rest place) where
   pub to_come_is : drop given (after turns text).done ++ (after turns text).rest ≡ waiting ++ rest

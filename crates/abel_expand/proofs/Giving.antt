@@ -54,7 +54,7 @@ said_at (x ∷ w) (suc i) d h = said_at w i d (omega arith)
 pub said_next : (w v : List ℕ) (i d : ℕ) → i < length w → drop i w ++ v ≡ get_or w i d ∷ (drop (i + 1) w ++ v)
 said_next w v i d h = ap (λ (x : List ℕ). x ++ v) (said_at w i d h) ∙ ap (λ (n : ℕ). get_or w i d ∷ (drop n w ++ v)) (sym (add-one i))
 
--- nothing waits behind the last byte
+-- nothing waits after the last byte
 pub said_out : (w : List ℕ) (i : ℕ) → length w ≤ i → drop i w ≡ []
 said_out [] zero h = refl
 said_out [] (suc i) h = refl

@@ -27,7 +27,7 @@ chosen c (Err f) h = ([], sym (append-nil c.done))
 pub turned_grows : (c : Config) → (v : List ℕ) × ((turned c).done ≡ c.done ++ v)
 turned_grows c = chosen c (turn c) (grows c (move c.tables c.rest))
 
--- a turn takes nothing from what was given, where all was given
+-- a turn takes nothing from what was given, if all was given
 pub kept : (text : List ℕ) (turns given : ℕ) → given ≡ length (after turns text).done → take given (after (turns + 1) text).done ≡ take given (after turns text).done
 kept text turns given e =
     let c : Config = after turns text in

@@ -20,7 +20,7 @@ none_taken n rest e = sym (ap (λ (v : List ℕ). v ++ drop n rest) e) ∙ take-
 turned_to : (c d : Config) → turn c ≡ Ok d → turned c ≡ d
 turned_to c d e = ap (λ (r : Result Config Cause). elim r [ Ok d ↦ d | Err f ↦ c ]) e
 
--- the parts of a reader where nothing waits
+-- the parts of a reader if nothing waits
 module _ (text : List ℕ) (turns given done rewritings : ℕ) (k : Kept) (waiting : List ℕ) (copied : ℕ) (rest : List ℕ) (place : Place)
     (s : Stands text turns given done rewritings k waiting copied rest place) (none : drop given (after turns text).done ≡ []) where
   pub none_waits : waiting ≡ []
@@ -151,6 +151,6 @@ module _ (text : List ℕ) (turns given done rewritings : ℕ) (k : Kept) (waiti
   pub refused_as : (cause : Cause) → move (tables_of k) rest ≡ Refused cause → turn (after turns text) ≡ Err cause
   refused_as cause m = ap (moved (after turns text)) (move_is ∙ m)
 
-  -- a refused turn refuses the text, behind the bytes given
+  -- a refused turn refuses the text, after the bytes given
   pub is_refused : (cause : Cause) → turn (after turns text) ≡ Err cause → ((after turns text).rest ≡ [] → ⊥) → IsRefused text cause (take given (after turns text).done)
   is_refused cause t some = (turns, some, t, sym given_is)

@@ -1,4 +1,4 @@
--- Whole expansions, and what a reader stands for: a number of turns, and how much of the text done was
+-- Whole expansions, and what a reader represents: a number of turns, and how much of the text done was
 -- given.
 use Rattle.std.specs.Prelude.{◌≡◌, ℕ, zero, suc, List, [], ◌∷◌, take, drop, Option, Some, None, Result, Ok, Err}
 use Rattle.abel_lexer.specs.Scans.{place_past, first_place}
@@ -10,11 +10,11 @@ use Rattle.abel_expand.specs.declared.standing.Standing.{Standing}
 
 -- ---- whole expansions
 
--- the configuration behind a turn; a refused turn changes nothing
+-- the configuration after a turn; a refused turn changes nothing
 abbrev pub turned : Config → Config
 turned c = elim (turn c) [ Ok d ↦ d | Err cause ↦ c ]
 
--- the configuration behind so many turns of a text
+-- the configuration after so many turns of a text
 abbrev pub after : ℕ → List ℕ → Config
 after zero text = start text
 after (suc n) text = turned (after n text)
@@ -27,7 +27,7 @@ IsExpanded text w = (n : ℕ) × ((after n text).rest ≡ []) × ((after n text)
 abbrev pub IsRefused : List ℕ → Cause → List ℕ → Type 0
 IsRefused text cause w = (n : ℕ) × ((after n text).rest ≡ [] → ⊥) × (turn (after n text) ≡ Err cause) × ((after n text).done ≡ w)
 
--- a refusal of a text, behind these bytes: its cause, and the place behind them
+-- a refusal of a text, after these bytes: its cause, and the place after them
 abbrev pub IsRefusal : List ℕ → List ℕ → ExpandFault → Type 0
 IsRefusal text w (fault.TooLong p) = (p ≡ place_past first_place w) × IsRefused text TooLong w
 IsRefusal text w (fault.ExpansionLimit p) = (p ≡ place_past first_place w) × IsRefused text ExpansionLimit w
@@ -38,7 +38,7 @@ IsRefusal text w fault.OutOfMemory = Unit {0}
 -- ---- a reader
 
 -- how many turns of the text were taken, how many bytes of the text done were given, the refusal that was
--- answered, and where the byte that was given last stands in the text
+-- answered, and the place of the byte that was given last in the text
 pub record Reading : Type 0 where
   pub text : List ℕ
   pub turns : ℕ
@@ -46,7 +46,7 @@ pub record Reading : Type 0 where
   pub refused : Option ExpandFault
   pub standing : Standing
 
--- the bytes that were given: a front of the text done behind these turns
+-- the bytes that were given: a front of the text done after these turns
 abbrev pub bytes_given : Reading → List ℕ
 bytes_given r = take r.given (after r.turns r.text).done
 

@@ -1,4 +1,4 @@
--- How the parts of a reader stand for a configuration.
+-- How the parts of a reader represent a configuration.
 use Rattle.std.specs.Prelude.{◌≡◌, ℕ, ◌+◌, ◌-◌, ◌*◌, ◌≤◌, List, ◌++◌, length, take, drop}
 use Rattle.pld_base.specs.declared.place.Place.{Place}
 use Rattle.abel_lexer.specs.Scans.{place_past, first_place}
@@ -8,7 +8,7 @@ use Rattle.text_rewriting.specs.Marks.{last}
 use Rattle.abel_expand.specs.Runs.{after}
 use Rattle.abel_expand.specs.Origins.{own_left}
 
--- behind so many turns: the bytes that wait, and so many of the rest behind them, are done and not given
+-- after so many turns: the bytes that wait, and so many of the rest after them, are done and not given
 pub record Stands (text : List ℕ) (turns given done rewritings : ℕ) (k : Kept) (waiting : List ℕ) (copied : ℕ) (rest : List ℕ) (place : Place) : Type 0 where
   pub tables : (after turns text).tables ≡ tables_of k
   pub counted : (after turns text).rewritings ≡ rewritings

@@ -25,7 +25,7 @@ fn read_all(alloc: Global, reader: &mut Reader) -> Result<Vec<u8>, ExpandFault>
     }
 }
 
-/// The expanded text of a text of at most 1,048,576 bytes, or its refusal with the place behind the text
+/// The expanded text of a text of at most 1,048,576 bytes, or its refusal with the place after the text
 /// done before it (ABEL-HDL Reference Manual, macros and directives).
 pub fn expand(alloc: Global, text: &[u8]) -> Result<Vec<u8>, ExpandFault>
     requires { length text.now ≤ 1048576 }

@@ -5,13 +5,13 @@ use std::alloc::{AllocError, AllocFailed};
 use std::fmt::{self, Debug, Formatter};
 use thiserror::Error;
 
-/// The refusal of a text; the place is that behind the text done before it.
+/// The refusal of a text; the place is that after the text done before it.
 #[derive(Clone, Copy, PartialEq, Eq, Error)]
 pub enum ExpandFault {
-    /// Behind a rewriting, the text done and the rest would have more than 1,048,576 bytes.
+    /// After a rewriting, the text done and the rest would have more than 1,048,576 bytes.
     #[error("the expanded text is too long")]
     TooLong(Place),
-    /// A rewriting would come behind 65,536 others.
+    /// A rewriting would follow 65,536 others.
     #[error("more than 65,536 macros and directives are replaced")]
     ExpansionLimit(Place),
     /// A macro or a directive is broken.

@@ -105,7 +105,8 @@ impl<'a> Reader<'a> {
         }
     }
 
-    /// The offset in the source of the byte that was given last: of a byte that a macro stands for, that of the outermost call.
+    /// The offset in the source of the byte that was given last: of a byte that a macro represents, that of the outermost
+    /// call.
     pub fn offset(&self) -> usize
         ensures offset { result ≡ self.now.standing.offset }
         ensures within { result ≤ length self.now.text }
@@ -113,7 +114,7 @@ impl<'a> Reader<'a> {
         self.standing.offset
     }
 
-    /// Whether the byte that was given last is of what a macro stands for.
+    /// Whether the byte that was given last is of what a macro represents.
     pub fn is_in_macro(&self) -> bool
         ensures yes { result ≡ true → self.now.standing.origin ≡ origin.Call }
         ensures no { result ≡ false → self.now.standing.origin ≡ origin.Call → ⊥ }
@@ -121,7 +122,7 @@ impl<'a> Reader<'a> {
         matches!(self.standing.origin, Origin::Call)
     }
 
-    /// Where the source has this byte, which was given last: in the block of a macro or an argument, if it is of one. None of a
+    /// If the source has this byte, which was given last: in the block of a macro or an argument, if it is of one. None of a
     /// byte that the source doesn't have, as the digits of a value.
     pub fn origin_of(&self, byte: u8) -> Option<usize>
         ensures { IfSome result (λ at. slice_get self.now.text at ≡ Some byte) }
@@ -176,8 +177,8 @@ impl<'a> Reader<'a> {
         }
     }
 
-    /// Takes a turn of the text, where nothing waits and something is left of it; it is known whether a
-    /// definition may begin there.
+    /// Takes a turn of the text, if nothing waits and something is left of it; it is known whether a definition may begin
+    /// there.
     fn act(&mut self, may_define: bool) -> Result<(), ExpandFault>
         requires going { self.old.refused ≡ None }
         requires given { bytes_waiting self.old ≡ [] }
@@ -246,7 +247,7 @@ impl<'a> Reader<'a> {
         self.rest.keep_text(self.alloc)
     }
 
-    /// Takes a turn of the text, where nothing waits and something is left of it and what is known of its places is kept.
+    /// Takes a turn of the text, if nothing waits and something is left of it and what is known of its places is kept.
     fn move_on(&mut self) -> Result<(), ExpandFault>
         requires going { self.old.refused ≡ None }
         requires given { bytes_waiting self.old ≡ [] }
@@ -260,7 +261,7 @@ impl<'a> Reader<'a> {
         self.act(may_define)
     }
 
-    /// Takes a turn of the text, where nothing waits and something is left of it.
+    /// Takes a turn of the text, if nothing waits and something is left of it.
     fn turn(&mut self) -> Result<(), ExpandFault>
         requires going { self.old.refused ≡ None }
         requires given { bytes_waiting self.old ≡ [] }
@@ -274,7 +275,7 @@ impl<'a> Reader<'a> {
         self.move_on()
     }
 
-    /// Whether nothing is left of the text, where nothing waits.
+    /// Whether nothing is left of the text, if nothing waits.
     fn is_at_end(&self) -> bool
         requires going { self.now.refused ≡ None }
         requires given { bytes_waiting self.now ≡ [] }

@@ -1,4 +1,4 @@
-//! Where a byte of the expanded text stands in the source.
+//! The place of a byte of the expanded text in the source.
 
 ghost use Rattle.std.specs.Prelude.{◌≡◌, ◌<◌, ◌≤◌, ◌+◌};
 ghost use Rattle.abel_expand.specs.declared.standing.Origin.TheVariants as origin;
@@ -11,18 +11,18 @@ pub enum Origin {
     Source,
     /// A comment or a directive that begins there: its space, its line feeds.
     Form,
-    /// What a macro or a directive stands for that is called there.
+    /// What a macro or a directive represents that is called there.
     Call,
 }
 
-/// Where a byte of the expanded text stands in the source.
+/// The place of a byte of the expanded text in the source.
 #[derive(Clone, Copy)]
 pub struct Standing {
     pub offset: usize,
     pub origin: Origin,
 }
 
-/// Where a byte of the rest stands, from which on so many are left; so many at the end of the rest are the source's own.
+/// The place of a byte of the rest, from which on so many are left; so many at the end of the rest are the source's own.
 pub fn copied_at(length: usize, own: usize, left: usize, call: usize) -> Standing
     requires own { own ≤ length }
     requires call { call ≤ length }
@@ -44,7 +44,7 @@ pub fn copied_at(length: usize, own: usize, left: usize, call: usize) -> Standin
     }
 }
 
-/// Where a byte stands that is said for a form; from it on so many are left.
+/// The place of a byte that is said for a form; from it on so many are left.
 pub fn said_at(own: usize, left: usize, form: usize) -> Standing
     ensures source { result.origin ≡ origin.Source → ⊥ }
     ensures call { result.origin ≡ origin.Call → own < left }
@@ -62,7 +62,7 @@ pub fn said_at(own: usize, left: usize, form: usize) -> Standing
     }
 }
 
-/// What is left of the source's own end where so many bytes stand behind a rewriting.
+/// What is left of the source's own end where so many bytes follow a rewriting.
 pub fn own_behind(own: usize, left: usize) -> usize
     ensures { result ≡ lesser own left }
 {

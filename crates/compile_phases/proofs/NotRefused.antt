@@ -1,4 +1,4 @@
--- A module that is accepted and fits as it is written is refused for nothing but want of memory.
+-- A module that is accepted and fits as it is written is refused only for lack of memory.
 use Rattle.std.proofs.Common.{◌≡◌, ◌≢◌, ℕ, Some, None, List, [], refl, sym, ap, ◌∙◌}
 use Rattle.compile_phases.proofs.Common.{IsDevice, Table, arena, Ranks, first_refusal, ModuleTree, design_of, names_of, name_order, DesignFault, FitFault, CompileFault, Source, Place, Fit, OutOfMemory, SourceFault, Expand, Scan, Parse, Names, Sections, Design, Width, FitsAsWritten, IsOfFit, IsUnfitFor, IsRefusedFor, HasDesign, IsAcceptedFor, IsDesignRefusedFor, IsRefusedSo}
 use Rattle.design_checks.specs.declared.fault.DesignFault.TheVariants as designing

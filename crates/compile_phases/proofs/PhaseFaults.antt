@@ -5,7 +5,7 @@ use Rattle.fitter.specs.declared.fault.FitFault.TheVariants as fit
 
 -- ---- the fit
 
--- where a fault of the fit is told, no cell is too wide
+-- if a fault of the fit is reported, no cell is too wide
 none_wide : (t : Table) (net : Netlist) (f : FitFault) → IsOfFit f → FitAnswers t net (Err f) → NoneWide t net
 none_wide t net (fit.TooWide c) is h = absurd is
 none_wide t net (fit.NotShared which a b point) is h = h.0
@@ -15,7 +15,7 @@ none_wide t net (fit.EnableTooWide c) is h = h.0
 none_wide t net (fit.TooManyProducts c tried) is h = h.controls.wide
 none_wide t net fit.OutOfMemory is h = absurd is
 
--- the module is accepted where none is
+-- the module is accepted if none is
 pub accepted_for : (t : Table) (m : ModuleTree) (net : Netlist) → IsNetlistFor t m net → NoneWide t net → IsAcceptedFor t m
 accepted_for t m net is none = record { before = is.design; net = net; netlist = is.netlist; width = none }
 

@@ -1,4 +1,4 @@
--- Refusals by what they are told as.
+-- Refusals by what they are reported as.
 use Rattle.std.proofs.Common.{◌≡◌, ℕ, Some, List, Err, sym, subst}
 use Rattle.compile_phases.proofs.Common.{Table, Netlist, Entry, fit_text, FitFault, FitAnswers, CompileFault, OutOfMemory, IsFitRefused}
 use Rattle.std.specs.Global.{Vec}
@@ -6,7 +6,7 @@ use Rattle.source_sections.specs.SectionAnswers.{IsTold}
 use Rattle.fitter.specs.declared.fault.FitFault.TheVariants as fit
 use Rattle.compile_phases.specs.Phases as phases
 
--- a fault of the fit that is told
+-- a fault of the fit that is reported
 pub told_fit : (t : Table) (es : List Entry) (net : Netlist) (f : FitFault) (line : Vec ℕ) (e : CompileFault) → FitAnswers t net (Err f)
     → fit_text t es net f ≡ Some line.items → phases.IsTold f line e → IsFitRefused t es net e
 told_fit t es net (fit.TooWide c) line e h told is = subst (IsFitRefused t es net) (sym is) (h, told)

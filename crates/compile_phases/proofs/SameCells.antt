@@ -1,4 +1,4 @@
--- Two netlists over arenas that stand for one netlist over formulas fit alike, as they are written.
+-- Two netlists over arenas that represent one netlist over formulas fit alike, as they are written.
 use Rattle.std.proofs.Common.{◌≡◌, ◌⊎◌, inl, inr, ℕ, ◌<◌, ◌≤◌, Bool, true, false, not, ◌&&◌, ◌||◌, if◌then◌else◌, List, length, Option, Some, None, Err, refl, sym, ap, ◌∙◌, subst, unwrap_or}
 use Rattle.compile_phases.proofs.Common.{IsDevice, complement_if, Table, cell_at, Netlist, ExprId, arena, formula_at, Formula, Const, Or, PlainNetlist, Wanted, plain_control, plain_netlist, plain_wanted, shared_function, wanted_at, IsSoundNetlist, Products, written, bit_list, IsSoundId, IsControlTooWide, IsTooWide, NoneWide, IsFirstWide, FitFault, FitAnswers, HasControls, IsOfFit, HasRoom}
 use Rattle.std.specs.Option.{option_map}
@@ -156,7 +156,7 @@ module _ (t : Table) (laws : IsDevice t) (net other : Netlist) (one : IsSoundNet
     wide_same (inr (inr (inr preset))) =
         inr (inr (inr (control_wide h.cell.preset w.preset (λ x is. preset_id t net one c h.cell x h.ids is) (ap (λ (x : Wanted). x.preset) h.same) preset)))
 
-  -- where no cell of the one is too wide, none of the other is the first that is
+  -- if no cell of the one is too wide, none of the other is the first that is
   pub not_wide : NoneWide t net → (c : ℕ) → IsFirstWide t other c → ⊥
   not_wide none c first =
       let h = cell_of c first.cell first.wanted in
@@ -180,7 +180,7 @@ module _ (t : Table) (laws : IsDevice t) (net other : Netlist) (one : IsSoundNet
       let all = subst (λ (x : PlainNetlist). AreShared t x own) plain shared in
       apart.differ (all b apart.second apart.function apart.second_is apart.function_is (levels_of point) apart.valued)
 
-  -- where the one fits as it is written, so does the other
+  -- if the one fits as it is written, so does the other
   pub not_unfit : HasControls t net → ((c : ℕ) (w : CellWanted) → cell_wanted net c ≡ Some w → HasRoom t net w) → (f : FitFault) → IsOfFit f
       → FitAnswers t other (Err f) → ⊥
   not_unfit controls rooms (fit.TooWide c) is unfit = is

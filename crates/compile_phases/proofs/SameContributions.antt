@@ -85,7 +85,7 @@ module _ (d : Design) (fs gs : List Formula) (cs ds : List Contribution)
   controls_same =
       ap₂ (λ (lacking others : List RefusedUse). (lacking ++ others) ++ (unwritten d ++ map told (missing_uses d))) (refused_same rule.Controls) (refused_same rule.Levels)
 
-  -- where nothing is refused of the one, no refusal of the other holds
+  -- if nothing is refused of the one, no refusal of the other holds
   pub not_refused : (f : DesignFault) → f ≢ designing.OutOfMemory → HasNoRefusal d fs cs → IsDesignRefused d gs ds f → ⊥
   not_refused (designing.WrongKind p s) memory none h = no_first (wrong_kinds d.context.device d.context.names ds) p s (refused_same rule.Kinds ∙ none.signals.kinds.kinds) h
   not_refused (designing.RegisteredNode p s) memory none h = no_first _ p s none.signals.kinds.nodes h.1

@@ -1,4 +1,4 @@
--- Two netlists over arenas that stand for one netlist over formulas have no room for a cell's direct form alike.
+-- Two netlists over arenas that represent one netlist over formulas have no room for a cell's direct form alike.
 use Rattle.std.proofs.Common.{◌≡◌, ℕ, Bool, false, Option, Some, sym, ◌∙◌, subst, length}
 use Rattle.compile_phases.proofs.Common.{IsDevice, Table, Netlist, PlainNetlist, plain_netlist, IsSoundNetlist, Products}
 use Rattle.std.specs.Global.{Vec}

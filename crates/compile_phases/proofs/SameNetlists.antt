@@ -1,4 +1,4 @@
--- Two netlists over arenas that stand for one netlist over formulas have the same written lists.
+-- Two netlists over arenas that represent one netlist over formulas have the same written lists.
 use Rattle.std.proofs.Common.{◌≡◌, ℕ, zero, suc, ◌<◌, Bool, true, false, not, [], ◌∷◌, length, Some, refl, sym, ap, ◌∙◌, subst}
 use Rattle.compile_phases.proofs.Common.{IsDevice, complement_if, Table, Netlist, ExprId, arena, formula_at, Formula, Const, Read, Not, And, Or, Xor, names, PlainNetlist, plain_netlist, plain_function, node_at, IsSoundNetlist, Products, function_of_node, node_formula, leaf_list, list_of, node_list, written, bit_list, IsSoundId}
 use Rattle.std.proofs.lemmas.Bool.{or_left, or_right}
@@ -77,7 +77,7 @@ module _ (t : Table) (laws : IsDevice t) (net other : Netlist) (one : IsSoundNet
       (λ l on. leaf_same (node_list net (length net.nodes)) (node_list other (length other.nodes))
       (λ n within q. nodes_same (length net.nodes) n within q ∙ ap (λ (k : ℕ). node_list other k n q) count_same) l (sound l on)) p
 
-  -- the list of a bit is that of the other's, where they stand for one formula
+  -- the list of a bit is that of the other's, if they represent one formula
   pub bit_same : (id at : ExprId) → IsSoundId t net id → formula_at (arena net.exprs) id ≡ formula_at (arena other.exprs) at
       → (p : Bool) → bit_list net id p ≡ bit_list other at p
   bit_same id at sound same p =

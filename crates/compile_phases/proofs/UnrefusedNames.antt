@@ -1,4 +1,4 @@
--- Names of which nothing is refused have no other fault than want of memory.
+-- Names of which nothing is refused have no other fault than lack of memory.
 use Rattle.std.proofs.Common.{◌≡◌, ◌⊎◌, inl, inr, [], Some, None, sym, ap, ◌∙◌}
 use Rattle.compile_phases.proofs.Common.{Table, first_refusal, ModuleTree, name_order, first_name_refusal, name_refusals}
 use Rattle.decls.specs.declared.fault.NameFault.{NameFault}

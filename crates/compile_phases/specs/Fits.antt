@@ -9,7 +9,7 @@ use Rattle.fit_plans.specs.Forms.{may_be_inverted_as, rows_are_positive}
 use Rattle.fitter.specs.declared.fault.FitFault.TheVariants as fit
 use Rattle.compile_phases.specs.SourceRefusals.{IsNetlistOf, IsAcceptedFor}
 
--- the netlist of an accepted module does not fit, and so it is told
+-- the netlist of an accepted module does not fit, and so it is reported
 pub record IsUnfitFor (f : FitFault) (line : List ℕ) (t : Table) (m : ModuleTree) : Type 0 where
   pub accepted : IsAcceptedFor t m
   pub net : Netlist

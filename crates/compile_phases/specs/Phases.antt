@@ -46,7 +46,7 @@ abbrev pub IsMade : Result (Vec ℕ) NoMemory → List ℕ → Type 0
 IsMade (Ok line) text = line.items ≡ text
 IsMade (Err memory) text = ⊥
 
--- that a function is too wide is told of the source, another fault of the fit
+-- that a function is too wide is reported of the source, another fault of the fit
 abbrev pub IsTold : FitFault → Vec ℕ → CompileFault → Type 0
 IsTold (fit.TooWide c) line e = e ≡ Source (Width (fit.TooWide c)) line
 IsTold f line e = e ≡ Fit f line
@@ -149,6 +149,6 @@ FitsCanBeTold =
     (t : Table) (m : ModuleTree) (net : Netlist) (fitted : Fitted) → IsDevice t → IsNetlistFor t m net → IsFitOf t net fitted
     → CanBeTold t m net fitted
 
--- the name of a module that is read can stand in a fuse file
+-- the name of a module that is read can be in a fuse file
 abbrev pub ReadNamesArePlain : Type 0
 ReadNamesArePlain = (text : List ℕ) (m : ModuleTree) → IsRead text m → IsPlainName m.name.text

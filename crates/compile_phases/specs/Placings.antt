@@ -10,7 +10,7 @@ pub record IsPlacedFor (holds : Table → ModuleTree → Type 0) (t : Table) (m 
   pub is : IsPlacedModule t m placed
   pub so : holds t placed
 
--- it can't be placed, and so it is told
+-- it can't be placed, and so it is reported
 abbrev pub IsUnplacedFor : PlaceFault → (line : List ℕ) → Table → ModuleTree → Type 0
 IsUnplacedFor (placing.NoPlacement signals places) line t m =
     HasNoPlacement t m signals.items places × (placing_text (names_of t m) signals.items places ≡ Some line)

@@ -1,5 +1,5 @@
--- When a source is refused, for what, and with which line of the report, phase by phase; each kind comes only where none
--- before it does (this project's rule).
+-- When a source is refused, for what, and with which line of the report, phase by phase; each kind is answered only if
+-- none before it does (this project's rule).
 use Rattle.std.specs.Prelude.{◌≡◌, ◌⊎◌, ℕ, None, Some, List, [], All}
 use Rattle.compile_phases.specs.Prelude.{Table, Netlist, first_refusal, ModuleTree, design_of, device_named, names_of, plain_netlist, IsSoundNetlist, NameFault, device_place, name_refusals, first_name_refusal, section_order, IsRead, IsUnread, DesignFault, design_text, fit_text, AreContributed, all_sections_refused, IsFirstWide, NoneWide}
 use Rattle.pld_base.specs.declared.device_name.DeviceName.{DeviceName}
@@ -37,7 +37,7 @@ pub record HasDesign (t : Table) (m : ModuleTree) : Type 0 where
   pub contributed : AreContributed (design_of t m) found
   pub unrefused : HasNoRefusal (design_of t m) (arena found.exprs) found.list
 
--- the netlist of the module, over an arena; its cells and controls stand at the first targets in the source
+-- the netlist of the module, over an arena; its cells and controls are at the first targets in the source
 pub record IsNetlistOf (t : Table) (m : ModuleTree) (net : Netlist) : Type 0 where
   pub plain : plain_netlist net ≡ netlist_of t m
   pub sound : IsSoundNetlist t net

@@ -13,8 +13,8 @@ use std::alloc::AllocError;
 use std::fmt::{self, Debug, Formatter};
 use thiserror::Error;
 
-/// What is refused of a source. The kinds come in this order, each only where none before it does; what they carry is
-/// never want of memory.
+/// What is refused of a source. The kinds are in this order, each only if none before it does; what they carry is never
+/// lack of memory.
 #[derive(Drop, Error)]
 pub enum SourceFault {
     /// A macro or a directive, or the length of the expanded text.
@@ -40,8 +40,8 @@ pub enum SourceFault {
     Width(FitFault),
 }
 
-/// Why a source has no fuse file. A source is refused for its text and its names before its signals are placed, and for all
-/// else of it behind that; `Fit` comes last, and is never `TooWide`. The bytes are the report, a line.
+/// Why a source has no fuse file. A source is refused for its text and its names before its signals are placed, and for
+/// everything else after that; `Fit` is last, and is never `TooWide`. The bytes are the report, a line.
 #[derive(Drop, Error)]
 pub enum CompileFault {
     /// The source is refused.

@@ -7,7 +7,7 @@ use module_reader::module_names_are_plain;
 use netlist_laws::fitted_is_intact;
 use reports::summary_counts_the_design;
 
-/// The name of a module that is read can stand in a fuse file. Does nothing.
+/// The name of a module that is read can be in a fuse file. Does nothing.
 pub fn read_names_are_plain()
     ensures { ReadNamesArePlain }
 {

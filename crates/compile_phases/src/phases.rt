@@ -108,7 +108,7 @@ pub fn names_of<D: Device>(alloc: Global, placed: &ModuleParts<'_>) -> Result<Na
     }
 }
 
-/// The names of a placed source on its device, for all phases behind.
+/// The names of a placed source on its device, for all later phases.
 pub fn scope_of<D: Device>(
     alloc: Global,
     names: &Names,

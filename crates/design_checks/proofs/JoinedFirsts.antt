@@ -1,4 +1,4 @@
--- What is refused first of several, one behind another.
+-- What is refused first of several, one after another.
 use Rattle.std.proofs.Common.{◌≡◌, ℕ, ◌+◌, ◌<◌, Bool, true, false, cond, if◌then◌else◌, Option, Some, None, List, [], ◌∷◌, ◌++◌, length, map, take, get_or, refl, sym, ap, ◌∙◌, arith, append-nil, filter}
 use Rattle.design_checks.proofs.Common.{option_or, flat_map, nat_tests, flat_map-append, map-append, Place, earlier, first_refusal, sooner, before_by, first_append, Context, name_at, SignalUse, front_more, first_read, first_refused, first_signal, PlacedUse, all_at, is_refused, part_uses, refuses_use, first_use, told, use_at, use_order, RefusedUse, UseRule, PartTree, PartedSection}
 use Rattle.std.proofs.lemmas.List.Elements.{filter-append}
@@ -73,7 +73,7 @@ one_more first join append g ys zs y us more push = sym (append (g ys) us) ∙ a
 pub flat_push : {Y A : Type 0} (uses : Y → List A) (ys : List Y) (y : Y) → flat_map uses (ys ++ y ∷ []) ≡ flat_map uses ys ++ uses y
 flat_push uses ys y = flat_map-append uses ys (y ∷ []) ∙ ap (λ us. flat_map uses ys ++ us) (append-nil (uses y))
 
--- so where each item gives its own
+-- so if each item gives its own
 pub joined_more : {X Y A R : Type 0} (first : List A → R) (join : R → R → R) → ((us vs : List A) → first (us ++ vs) ≡ join (first us) (first vs)) → (v : X → Y) (uses : Y → List A) (xs : List X) (k : ℕ) (x : X) → k < length xs → x ≡ get_or xs k x
     → join (first (flat_map uses (map v (take k xs)))) (first (uses (v x))) ≡ first (flat_map uses (map v (take (k + 1) xs)))
 joined_more first join append v uses xs k x low is =

@@ -22,7 +22,7 @@ aims_push d e w i j (x ∷ aims) a at =
 pub aim_same : (d : Context) (e : Option Extension) {b c : Bool} (a : Aim) → b ≡ c → first_refusal use_order (aim_refused d e b a) ≡ first_refusal use_order (aim_refused d e c a)
 aim_same d e a s = ap (λ (w : Bool). first_refusal use_order (aim_refused d e w a)) s
 
--- where nothing is compared, nothing is refused
+-- if nothing is compared, nothing is refused
 pub none_compared : (d : Context) (e : Option Extension) (w : Written) (i : ℕ) (aims : List Aim) → may_be_compared e ≡ false → aims_refused d e w i aims ≡ []
 none_compared d e w i [] never = refl
 none_compared d e w i (a ∷ aims) never =

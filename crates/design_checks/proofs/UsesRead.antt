@@ -6,7 +6,7 @@ use Rattle.name_uses.specs.NamesUsed.{UsedName, member_used, members_used, names
 
 -- ---- extensions
 
--- what is asked of a signal that stands in a set with this extension
+-- what is asked of a signal that is in a set with this extension
 abbrev pub under : Option Extension → SignalUse → SignalUse
 under o u = record { signal = u.signal; extension = innermost u.extension o }
 

@@ -10,7 +10,7 @@ use Rattle.design_checks.specs.RefusedUses.{is_missing, is_unread, missing_uses,
 abbrev pub UsesAreRead : Type 0
 UsesAreRead = (d : Context) (t : Tree) → map (λ (u : PlacedUse). u.read) (located d.known t) ≡ term_uses (term_of d.known t)
 
--- a use that isn't refused reads a leaf for which the device has columns, where no two names are one pin
+-- a use that isn't refused reads a leaf for which the device has columns, if no two names are one pin
 abbrev pub UsesHaveColumns : Type 0
 UsesHaveColumns =
     (d : Context) (u : PlacedUse) (l : Leaf) → PinsApart d → is_missing d u ≡ false → is_unread d u ≡ false

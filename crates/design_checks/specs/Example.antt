@@ -26,7 +26,7 @@ entry name kind registered assigned =
 abbrev pub just : (column : ℕ) → List ℕ → Option Extension → Tree
 just column name e = AName (record { text = name; place = at column }) e
 
--- e enables, which is on no column; n is a node, R a register that e enables, Y is combinational, and k stands for n.Q
+-- e enables, which is on no column; n is a node, R a register that e enables, Y is combinational, and k represents n.Q
 abbrev pub example_names : List Entry
 example_names =
     entry (codes "e") (APin 4 false) false false

@@ -6,7 +6,7 @@ use Rattle.design_checks.specs.declared.front.Positions.{Positions}
 use Rattle.design_checks.specs.Written.{Written, statements_refused}
 use Rattle.design_checks.specs.declared.refused.RefusedUse.{RefusedUse}
 
--- of a value that is written so, and whether a pin enables each of its signals; 255 stands for more
+-- of a value that is written so, and whether a pin enables each of its signals; 255 represents more
 abbrev pub positions_by : Written → (by_pin : Bool) → Positions
 positions_by w b = record { count = min w.count 255; whole = w.whole; by_pin = b }
 

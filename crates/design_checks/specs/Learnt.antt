@@ -71,11 +71,11 @@ no_use = kept_by (λ e. None) (positions_by not_written true)
 abbrev pub signal_kept : Table → UseRule → Entry → ℕ → NameUses
 signal_kept t r x s = kept_by (signal_used t r x s) (positions_by one_written (is_cell_by_pin t (cell_of t x)))
 
--- what a name that stands for this reads in vain with an extension
+-- what a name that represents this reads in vain with an extension
 abbrev pub read_of : UseRule → Context → Term → Option Extension → Option ℕ
 read_of r d t e = first_read r d (term_uses (extended_if e t))
 
--- what is kept of a name that stands for this
+-- what is kept of a name that represents this
 abbrev pub uses_of : UseRule → Context → Term → NameUses
 uses_of r d t = kept_by (read_of r d t) (positions_of d t)
 

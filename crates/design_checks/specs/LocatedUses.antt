@@ -1,12 +1,12 @@
--- Where an expression reads signals: a signal that a constant brings stands at the constant's name, and each name of a
--- range at its first end (this project's rule).
+-- The places at which an expression reads signals: a signal that a constant brings is at the constant's name, and each
+-- name of a range at its first end (this project's rule).
 use Rattle.std.specs.Prelude.{ℕ, Option, None, Some, List, [], ◌∷◌}
 use Rattle.design_checks.specs.Prelude.{flat_map, Place, Extension, Tree, Known, term_named, extended_if, innermost, SignalUse, term_uses}
 use Rattle.abel_tree.specs.Ranges.{range_names}
 use Rattle.abel_tree.specs.declared.words.Word.{Word}
 use Rattle.name_uses.specs.NamesUsed.{UsedName, names_used}
 
--- a signal where an expression reads it, with what is asked of it, and its place in the expanded text
+-- a signal if an expression reads it, with what is asked of it, and its place in the expanded text
 pub record PlacedUse : Type 0 where
   pub read : SignalUse
   pub place : Place
@@ -25,7 +25,7 @@ names_to first (Some last) = range_names first.text last.text
 abbrev pub names_read : List Known → Option Extension → List (List ℕ) → List SignalUse
 names_read known e names = flat_map (λ (n : List ℕ). term_uses (extended_if e (term_named known n))) names
 
--- what is read where an expression uses names, in a set with this extension
+-- what is read if an expression uses names, in a set with this extension
 abbrev pub reads_used : List Known → (outer : Option Extension) → UsedName → List SignalUse
 reads_used known outer u = names_read known (innermost u.extension outer) (names_to u.first u.last)
 

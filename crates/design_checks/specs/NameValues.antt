@@ -2,7 +2,7 @@
 use Rattle.std.specs.Prelude.{◌≡◌, ℕ, List, ◌++◌, map}
 use Rattle.design_checks.specs.Prelude.{Entry, Known, Term}
 
--- of what each of these names stands for
+-- of what each of these names represents
 abbrev pub values_of : {V : Type 0} (of : Term → V) → List Known → List V
 values_of of ks = map (λ (k : Known). of k.term) ks
 

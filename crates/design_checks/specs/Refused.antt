@@ -1,5 +1,5 @@
--- What is refused of a design, kind by kind, each refusal at its place with the number of the name that is told (this
--- project's rule).
+-- What is refused of a design, kind by kind, each refusal at its place with the number of the name that is reported
+-- (this project's rule).
 use Rattle.std.specs.Prelude.{Bool, not, ◌&&◌, List, ◌++◌, map, get_or}
 use Rattle.design_checks.specs.Prelude.{flat_map, Table, formula_at, Formula, Entry, is_data, Design, no_name, Contribution}
 use Rattle.design_checks.specs.declared.rules.Rule.{Rule}

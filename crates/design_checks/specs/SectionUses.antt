@@ -1,5 +1,6 @@
--- Where the sections of a design read signals. Targets and the headers of vectors read nothing, a diagram reads its
--- registers; what is compared with the level of the clock, or of a pin that enables, is no use (this project's rule).
+-- The places at which the sections of a design read signals. Targets and the headers of vectors read nothing, a
+-- diagram reads its registers; what is compared with the level of the clock, or of a pin that enables, is no use
+-- (this project's rule).
 use Rattle.std.specs.Prelude.{ℕ, Bool, true, false, not, Option, None, Some, List, [], if◌then◌else◌}
 use Rattle.design_checks.specs.Prelude.{flat_map, list_all, Enable, Row, PinLow, Table, cell_at, Extension, target_extension, Tree, Context, Design, name_at, targets_of, some_signals, term_of, cell_of}
 use Rattle.abel_tree.specs.declared.words.Extension.TheVariants as extension

@@ -22,8 +22,8 @@ registered_nodes s (x ∷ xs) = node_refused s x ++ registered_nodes (suc s) xs
 
 -- ---- targets
 
--- a combinational signal has its enable alone; a register its clock and raw input too, and reset and preset where the
--- device has them
+-- a combinational signal has its enable alone; a register its clock and raw input too, and reset and preset if the device
+-- has them
 abbrev pub pin_lacks : Table → (stored : Bool) → Option Extension → Bool
 pin_lacks t stored (Some extension.Ar) = not stored || is_none t.reset
 pin_lacks t stored (Some extension.Sp) = not stored || is_none t.preset

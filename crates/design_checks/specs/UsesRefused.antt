@@ -4,7 +4,8 @@ use Rattle.design_checks.specs.Prelude.{Place, Ranks, first_refusal}
 use Rattle.design_checks.specs.LocatedUses.{PlacedUse}
 use Rattle.design_checks.specs.declared.refused.RefusedUse.{RefusedUse}
 
--- refusals of one kind come by place; where several stand at one place, the first of the list comes
+-- refusals of one kind are in the order of place; where several are at one place, the first of the
+-- list occurs
 abbrev pub use_order : Ranks RefusedUse
 use_order = record { place = λ r. r.place; rank = λ r. 0 }
 
@@ -18,7 +19,7 @@ abbrev pub use_at : Place → Option ℕ → Option RefusedUse
 use_at p None = None
 use_at p (Some s) = Some (record { place = p; name = s })
 
--- a use as it is told
+-- a use as it is reported
 abbrev pub told : PlacedUse → RefusedUse
 told u = record { place = u.place; name = u.read.signal }
 

@@ -37,7 +37,7 @@ pub record UsesPass (d : Design) (fs : List Formula) (cs : List Contribution) : 
   pub controls : ControlsPass d fs cs
   pub paths : no_paths d ≡ []
 
--- what is refused of signals: kinds of refusals come in this order, and those of one kind by place
+-- what is refused of signals: kinds of refusals are in this order, and those of one kind by place
 abbrev pub IsSignalRefused : Design → List Formula → List Contribution → DesignFault → Type 0
 IsSignalRefused d fs cs (fault.WrongKind p s) = IsFirst (wrong_kinds d.context.device d.context.names cs) p s
 IsSignalRefused d fs cs (fault.RegisteredNode p s) = (wrong_kinds d.context.device d.context.names cs ≡ []) × IsFirst (registered_nodes 0 d.context.names) p s

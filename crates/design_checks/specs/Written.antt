@@ -1,7 +1,7 @@
 -- How a value is written, and which equations for a clock, or for an enable by a pin, are not written as its level is
--- (this project's rule). A value is written as levels where it is made of signals, `!` and sets alone: parentheses are
--- passed over, and a constant's name stands for its expression. A level's folded bit then tells the pin, as nothing but
--- pairs of complements is folded.
+-- (this project's rule). A value is written as levels at which it is made of signals, `!` and sets alone: parentheses
+-- are passed over, and a constant's name represents its expression. A level's folded bit then gives the pin, as nothing
+-- but pairs of complements is folded.
 use Rattle.std.specs.Prelude.{ℕ, suc, ◌+◌, ◌==◌, nat_lt, Bool, true, false, not, ◌&&◌, ◌||◌, Option, List, [], ◌∷◌, ◌++◌, length, if◌then◌else◌}
 use Rattle.design_checks.specs.Prelude.{flat_map, Place, Extension, target_extension, Tree, Statement, AnAssign, AWhen, AGroup, ADontCare, Otherwise, NoElse, AnElse, Statements, NoStatement, MoreStatements, statements_of, SectionTree, Declarations, Equations, ATable, ADiagram, SomeVectors, DontCareSection, Context, Design, name_at, Term, Terms, Number, X, Pulse, Release, Set, UnaryOf, BinaryOf, NoTerm, Before, term_of}
 use Rattle.abel_tree.specs.declared.words.Unary.TheVariants as unary
@@ -28,7 +28,7 @@ one_written = record { count = 1; whole = true }
 abbrev pub none_written : Written
 none_written = record { count = 0; whole = true }
 
--- a part of a value before others: what stands behind what is no level isn't counted
+-- a part of a value before others: what follows what is no level isn't counted
 abbrev pub joined : Written → Written → Written
 joined x y = if x.whole then record { count = x.count + y.count; whole = y.whole } else x
 
@@ -96,7 +96,7 @@ abbrev mutual
 
 -- ---- all equations
 
--- what stands in a diagram is told by its block
+-- what is in a diagram is given by its block
 abbrev pub section_refused : Context → SectionTree → List RefusedUse
 section_refused d (Declarations ds) = []
 section_refused d (Equations ss) = statements_refused d false (statements_of ss)

@@ -4,8 +4,9 @@ use pld_base::{ListOf, OutOfMemory, Place};
 use std::fmt::{self, Debug, Formatter};
 use thiserror::Error;
 
-/// A refusal of a design with its place in the expanded text. A number is that of the name that is told, from 0 in the
-/// order of declaration; a list has the names of a chain. The kinds come in this order, and those of one kind by place.
+/// A refusal of a design with its place in the expanded text. A number is that of the name that is reported, from 0 in
+/// the order of declaration; a list has the names of a chain. The kinds are in this order, and those of one kind by
+/// place.
 #[derive(Drop, Error)]
 pub enum DesignFault {
     /// A registered signal on a cell that can't register, or a combinational one on a cell that must; its first

@@ -5,7 +5,7 @@ ghost use Rattle.design_checks.specs.{positions_by, is_written_at, joined, none_
 ghost use Rattle.design_checks.specs.Written.{Written};
 
 /// How many positions of a value, from the left, are written as levels of signals, each with or without `!`, where 255
-/// stands for more; whether all of it is; and whether a pin enables each signal that it stands for as a target.
+/// represents more; whether all of it is; and whether a pin enables each signal that it represents as a target.
 #[derive(Clone, Copy, PartialEq, Eq)]
 pub(crate) struct Positions {
     pub(crate) count: u8,
@@ -47,7 +47,7 @@ impl Positions {
         }
     }
 
-    /// With what stands behind it.
+    /// With what follows it.
     pub(crate) fn with(self, next: Positions) -> Positions
         ensures { (x y : Written) (b c : Bool) → self ≡ positions_by x b → next ≡ positions_by y c
             → result ≡ positions_by (joined x y) (b && c) }

@@ -17,7 +17,7 @@ use pld_device::Device;
 use set_expr::Scope;
 use std::alloc::Global;
 
-/// The number of a signal, where a rule refuses its use with this extension.
+/// The number of a signal, if a rule refuses its use with this extension.
 fn signal_used<D: Device>(
     rule: UseRule,
     declared: &Declared,

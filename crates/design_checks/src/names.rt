@@ -1,4 +1,4 @@
-//! What is kept of each name: its first refused use, by the extension that it stands with, and what its positions are.
+//! What is kept of each name: its first refused use, by the extension that it is with, and what its positions are.
 
 ghost use Rattle.std.specs.Prelude.{◌≡◌, get_or};
 ghost use Rattle.design_checks.specs.Prelude.{Context, term_named};
@@ -9,8 +9,8 @@ use crate::rule::UseRule;
 use abel_tree::Extension;
 use set_expr::Scope;
 
-/// What is kept of a name: for each extension the first signal whose use is refused where the name stands with it, and
-/// what the positions of its value are.
+/// What is kept of a name: for each extension the first signal whose use is refused if the name is with it, and what
+/// the positions of its value are.
 #[derive(Clone, Copy, PartialEq, Eq)]
 pub(crate) struct NameUses {
     pub(crate) bare: Option<u32>,
@@ -44,7 +44,7 @@ impl NameUses {
         }
     }
 
-    /// The first signal whose use is refused where the name stands with this extension.
+    /// The first signal whose use is refused if the name is with this extension.
     fn under(&self, extension: Option<Extension>) -> Option<u32>
         ensures { result ≡ use_under self.now extension }
     {
@@ -62,7 +62,7 @@ impl NameUses {
     }
 }
 
-/// What is kept of the names of a source, or of the first of them, in the order of the names, where a rule is asked of
+/// What is kept of the names of a source, or of the first of them, in the order of the names, if a rule is asked of
 /// each use.
 #[derive(Clone, Copy)]
 pub(crate) struct KeptUses<'a, 'n> {
@@ -72,7 +72,7 @@ pub(crate) struct KeptUses<'a, 'n> {
 }
 
 impl<'a, 'n> KeptUses<'a, 'n> {
-    /// What is kept of the name with this number, where it is one of these.
+    /// What is kept of the name with this number, if it is one of these.
     fn at(&self, number: usize) -> NameUses
         ensures { result ≡ get_or self.now.list.now number no_use }
     {
@@ -83,7 +83,7 @@ impl<'a, 'n> KeptUses<'a, 'n> {
         }
     }
 
-    /// What is kept of the name with this text; what isn't one of these names stands for no signal.
+    /// What is kept of the name with this text; what isn't one of these names represents no signal.
     pub(crate) fn get(&self, text: &[u8]) -> NameUses
         ensures { (d : Context) → Knows d self.now
             → result ≡ uses_of self.now.rule d (term_named d.known text.now) }
@@ -94,7 +94,7 @@ impl<'a, 'n> KeptUses<'a, 'n> {
         }
     }
 
-    /// The first signal whose use is refused where the name stands with this extension.
+    /// The first signal whose use is refused if the name is with this extension.
     pub(crate) fn read(&self, text: &[u8], extension: Option<Extension>) -> Option<u32>
         ensures { (d : Context) → Knows d self.now
             → result ≡ read_of self.now.rule d (term_named d.known text.now) extension }

@@ -10,7 +10,7 @@ use name_uses::{NameUse, range_list};
 use pld_base::OutOfMemory;
 use std::alloc::Global;
 
-/// The first signal that is read in vain where an expression uses names, in a set with this extension.
+/// The first signal that is read in vain if an expression uses names, in a set with this extension.
 pub(crate) fn first_used(
     alloc: Global,
     names: &KeptUses<'_, '_>,
@@ -35,7 +35,7 @@ pub(crate) fn first_used(
     }
 }
 
-/// The first signal that an expression with these names reads in vain, where it stands with this extension.
+/// The first signal that an expression with these names reads in vain, if it is with this extension.
 pub(crate) fn first_in(
     alloc: Global,
     names: &KeptUses<'_, '_>,

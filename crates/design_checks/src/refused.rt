@@ -7,8 +7,8 @@ ghost use Rattle.design_checks.specs.{told_if, use_at, use_order};
 use abel_tree::Ranked;
 use pld_base::Place;
 
-/// What is refused: its place in the expanded text, and the number of the name that is told, from 0 in the order of
-/// declaration. Of what rule it is, says the call that answers it.
+/// What is refused: its place in the expanded text, and the number of the name that is reported, from 0 in the
+/// order of declaration. Of what rule it is, says the call that answers it.
 #[derive(Clone, Copy, PartialEq, Eq)]
 pub struct RefusedUse {
     pub place: Place,
@@ -29,7 +29,7 @@ impl Ranked for RefusedUse {
     }
 }
 
-/// A place, where it is refused.
+/// A place, if it is refused.
 pub(crate) fn told_if(refused: bool, place: Place, name: u32) -> Option<RefusedUse>
     ensures { result ≡ first_refusal use_order (told_if refused (record { place = place; name = name })) }
 {
@@ -40,7 +40,7 @@ pub(crate) fn told_if(refused: bool, place: Place, name: u32) -> Option<RefusedU
     }
 }
 
-/// The use of a signal at a place, where there is one.
+/// The use of a signal at a place, if there is one.
 pub(crate) fn use_at(place: Place, name: Option<u32>) -> Option<RefusedUse>
     ensures { result ≡ use_at place name }
 {

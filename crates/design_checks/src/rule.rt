@@ -15,7 +15,7 @@ pub enum UseRule {
     /// A signal is read with an extension that it has: a node with none, a combinational signal with none, `.PIN` or `.OE`,
     /// a register with any but a reset or preset that the device lacks.
     Extensions,
-    /// Where the signal has the extension, columns carry what is read.
+    /// If the signal has the extension, columns carry what is read.
     Columns,
 }
 
@@ -53,7 +53,8 @@ pub fn has_read_path_on<D: Device>(
                 None => false,
             }
     } else {
-        // a cell that must be a register carries no level where nothing is assigned, as a combinational signal can't be on it
+        // a cell that must be a register carries no level at which nothing is assigned, as a combinational signal can't be
+        // on it
         matches!(extension, None | Some(Extension::Pin))
             && pair_of_pin::<D>(pin).is_some()
             && (declared.assigned || !has_wrong_kind_on::<D>(pin, false))

@@ -22,8 +22,8 @@ pub enum Rule {
     /// A control is one that its signal has.
     Controls,
     /// An equation for a clock is the level of the device's clock, and one for the enable of a cell that a pin enables is
-    /// the complement of that pin's level; neither stands in a diagram. Parentheses, constants and pairs of complements
-    /// have no bit of their own; nor has what folds, which `other_spelling` refuses.
+    /// the complement of that pin's level; neither is in a diagram. Parentheses, constants and pairs of complements have
+    /// no bit of their own; nor has what folds, which `other_spelling` refuses.
     Levels,
     /// No control is assigned by `?=`.
     DontCares,

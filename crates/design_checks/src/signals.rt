@@ -45,7 +45,7 @@ fn no_control<D: Device>(
 }
 
 /// The first refusal of a design's kinds, nodes, controls and uses, for a device and what the sections contribute. A kind
-/// is asked only where nothing of the kinds before it is refused.
+/// is asked only if nothing of the kinds before it is refused.
 pub fn check_signals<D: Device>(
     alloc: Global,
     source: &ModuleParts<'_>,

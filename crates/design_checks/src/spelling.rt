@@ -86,7 +86,7 @@ fn refused_section<D: Device>(
 
 /// The first equation of an EQUATIONS section for a clock, or for the enable of a cell that a pin enables, that is not
 /// written as a level: by signals, `!` and sets alone, up to parentheses and constants, and under no WHEN. Its target
-/// is told. None where there is none; the only refusal is want of memory.
+/// is reported. None if there isn't one; the only refusal is lack of memory.
 pub fn other_spelling<D: Device>(
     alloc: Global,
     scope: &SectionScope<'_, D>,

@@ -34,7 +34,7 @@ fn first_of_uses(
     Ok(first)
 }
 
-/// Whether what stands in a section in this role reads signals: a value, what is read, and the registers of a diagram. The
+/// Whether what is in a section in this role reads signals: a value, what is read, and the registers of a diagram. The
 /// value of a clock is compared with what the device does anyway, and that of the enable of signals each of which a pin
 /// enables; an ordinary target isn't gone through.
 fn is_read(alloc: Global, names: &KeptUses<'_, '_>, role: Role<'_>) -> Result<bool, OutOfMemory>
@@ -84,8 +84,8 @@ fn first_of_parts(
     Ok(first)
 }
 
-/// The first use that a rule refuses, for a device and the names of a source. None where there is none; the only refusal is
-/// want of memory.
+/// The first use that a rule refuses, for a device and the names of a source. None if there isn't one; the only refusal is
+/// lack of memory.
 pub fn first_use<D: Device>(
     alloc: Global,
     rule: UseRule,

@@ -88,7 +88,7 @@ fn positions_if(
     }
 }
 
-/// The first refusal of an assignment. Where nothing is compared, neither its target nor its value is gone through.
+/// The first refusal of an assignment. If nothing is compared, neither its target nor its value is gone through.
 pub(crate) fn refused_assign<D: Device>(
     alloc: Global,
     scope: &SectionScope<'_, D>,

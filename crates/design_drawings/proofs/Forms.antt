@@ -23,13 +23,13 @@ abbrev pub of_name : List ℕ → ℕ
 of_name [] = 0
 of_name (b ∷ ds) = if b == 35 then of_number (digits_value 10 ds) else (if b == 108 then 60 else (if b == 103 then 62 else (if b == 97 then 38 else 34)))
 
--- a byte that stands for itself
+-- a byte that represents itself
 pub record IsItself (x : ℕ) : Type 0 where
   pub same : escaped_byte x ≡ x ∷ []
   pub plain : x ≢ 38
   pub markup : IsNoMarkup x
 
--- a byte that stands by a name, which tells it
+-- a byte that is by a name, which gives it
 pub record IsNamed (x : ℕ) (name : List ℕ) : Type 0 where
   pub same : escaped_byte x ≡ 38 ∷ (name ++ 59 ∷ [])
   pub markup : AllByRecursion IsInName name

@@ -10,7 +10,7 @@ range_longer n =
     sym (map-id (range_with_len 0 (n + 1)))
     ∙ (map-range_with_len_more (λ k. k) 0 n n (zero-add n) ∙ ap (λ xs. xs ++ n ∷ []) (map-id (range_with_len 0 n)))
 
--- the text of the next number stands behind those of the numbers before it
+-- the text of the next number follows those of the numbers before it
 pub next_text : (text : ℕ → List ℕ) (before : List ℕ) (n : ℕ)
     → (before ++ flat_map text (range_with_len 0 n)) ++ text n ≡ before ++ flat_map text (range_with_len 0 (n + 1))
 next_text text before n =

@@ -49,7 +49,7 @@ same_name (a ∷ v) (b ∷ w) r s p q e =
     let t = same_name v w r s p.1 q.1 (tail_is a b ((v ++ 59 ∷ []) ++ r) ((w ++ 59 ∷ []) ++ s) e) in
     (ap₂ (λ (c : ℕ) (u : List ℕ). c ∷ u) (head_is a b ((v ++ 59 ∷ []) ++ r) ((w ++ 59 ∷ []) ++ s) e) t.0, t.1)
 
--- the first byte and what stands behind it
+-- the first byte and what follows it
 same_byte : (x y : ℕ) (r s : List ℕ) → HasForm x → HasForm y → escaped_byte x ++ r ≡ escaped_byte y ++ s → (x ≡ y) × (r ≡ s)
 same_byte x y r s (inl i) (inl j) e =
     let f : x ∷ r ≡ y ∷ s = sym (ap (λ (w : List ℕ). w ++ r) i.same) ∙ e ∙ ap (λ (w : List ℕ). w ++ s) j.same in

@@ -7,7 +7,7 @@ use Rattle.pld_device.specs.declared.enable.Enable.TheVariants.{Row}
 abbrev pub IsRowOf : Table → (c row : ℕ) → Type 0
 IsRowOf t c row = ((cell_at t c).enable ≡ Row row) ⊎ IsDataRow t c row
 
--- a cell of the device that has the row; none where no cell of it has
+-- a cell of the device that has the row; none if no cell of it has
 abbrev pub IsCellOf : Table → (row : ℕ) → Option ℕ → Type 0
 IsCellOf t row (Some c) = (c < length t.cells) × IsRowOf t c row
 IsCellOf t row None = (c : ℕ) → c < length t.cells → IsRowOf t c row → ⊥

@@ -10,7 +10,7 @@ use Rattle.abel_tree.specs.Entries.{Entry}
 use Rattle.fuse_listing.specs.Listing.{complements_output, literal_text, name_on, names_complement, row_text, rows_in_use}
 use Rattle.design_drawings.specs.Escaped.{escaped}
 
--- the pin is low where one of the cell's rows is true; of a register, after the clock
+-- the pin is low if one of the cell's rows is true; of a register, after the clock
 abbrev pub lowers : Flip → (is_register inverted complements : Bool) → Bool
 lowers Always is_register inverted complements = complements
 lowers AfterRegister is_register inverted complements = complements
@@ -19,7 +19,7 @@ lowers BeforeRegister is_register inverted complements = if is_register then inv
 abbrev pub lowers_pin : Table → List Bool → (cell : ℕ) → Bool
 lowers_pin t fuses c = lowers t.flip (stores t fuses c) (is_inverted t fuses c) (complements_output t fuses c)
 
--- what is assigned: the name, or its complement where the pin is low
+-- what is assigned: the name, or its complement if the pin is low
 abbrev pub target_text : Table → List Bool → (cell : ℕ) → Entry → List ℕ
 target_text t fuses c e = literal_text (complement_if (lowers_pin t fuses c) (names_complement (Some e))) e.name
 
@@ -31,7 +31,7 @@ unfoldable pub target_item : Table → List Bool → (cell : ℕ) → Entry → 
 target_item t fuses c e =
     concat (codes "<dl><dt><code>" ∷ escaped (target_text t fuses c e) ∷ sign_text (stores t fuses c) ∷ codes "</code></dt>" ∷ [])
 
--- a product, which is that of the listing's line, behind `#` or not
+-- a product, which is that of the listing's line, after `#` or not
 unfoldable pub product_item : Table → List Bool → List Entry → (front : List ℕ) → (row : ℕ) → List ℕ
 product_item t fuses es front row = codes "<dd><code>" ++ front ++ escaped (row_text t fuses es row) ++ codes "</code></dd>"
 

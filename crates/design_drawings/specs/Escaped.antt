@@ -19,7 +19,7 @@ reference n = codes "&#" ++ decimal n ++ codes ";"
 abbrev pub picture : (byte : ℕ) → List ℕ
 picture byte = reference (first_picture + byte)
 
--- tabs and line feeds stand as they are
+-- tabs and line feeds are as they are
 abbrev pub is_blank : (byte : ℕ) → Bool
 is_blank byte = byte == 9 || byte == 10
 

@@ -5,7 +5,7 @@ use Rattle.design_drawings.specs.declared.page.Piece.{Piece}
 use Rattle.design_drawings.specs.declared.page.Piece.TheVariants.{Markup, Text, Number}
 use Rattle.design_drawings.specs.Escaped.{escaped}
 
--- what stands in the page
+-- what is in the page
 abbrev pub shown : Piece → List ℕ
 shown (Markup markup) = markup.now
 shown (Text bytes) = escaped bytes.now

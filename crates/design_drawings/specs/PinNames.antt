@@ -3,7 +3,7 @@ use Rattle.std.specs.Prelude.{ℕ, Bool, false, Option, None, Some, List, []}
 use Rattle.abel_tree.specs.Entries.{Entry}
 use Rattle.fuse_listing.specs.Listing.{name_on}
 
--- the name that there may be, no text where there is none
+-- the name that there may be, no text if there isn't one
 abbrev pub name_or_none : Option Entry → List ℕ
 name_or_none (Some e) = e.name
 name_or_none None = []

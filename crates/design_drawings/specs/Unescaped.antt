@@ -2,7 +2,7 @@
 use Rattle.std.specs.Prelude.{ℕ, ◌≡◌, ◌≢◌, List, [], ◌∷◌, ◌++◌, All}
 use Rattle.design_drawings.specs.Escaped.{escaped, escaped_byte}
 
--- a page's text reads as these bytes: each stands escaped, one behind the other
+-- a page's text reads as these bytes: each is escaped, one after the other
 abbrev pub ReadsAs : (text bytes : List ℕ) → Type 0
 ReadsAs text [] = text ≡ []
 ReadsAs text (byte ∷ bytes) = (rest : List ℕ) × (text ≡ escaped_byte byte ++ rest) × ReadsAs rest bytes

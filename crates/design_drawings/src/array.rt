@@ -23,13 +23,13 @@ pub const LINE: u32 = 11;
 /// How high the pins above the columns are.
 const PINS: usize = 12;
 
-/// Where the columns begin.
+/// The beginning of the columns.
 pub const LEFT: usize = 44;
 
-/// The room for the products behind the columns.
+/// The room for the products after the columns.
 pub const BEHIND: usize = 352;
 
-/// Where the middle of a column is. Takes no memory.
+/// The middle of a column. Takes no memory.
 pub fn column_at(column: u16) -> usize
     ensures { result ≡ 48 + 9 * column }
 {
@@ -111,7 +111,7 @@ fn put_group_drawing<D: Device>(
     page.put(&[Piece::Markup("</svg>\n")])
 }
 
-/// Writes the rows, those of a cell in a drawing of their own, so that none is cut where a sheet ends.
+/// Writes the rows, those of a cell in a drawing of their own, so that none is cut at the end of a sheet.
 fn put_rows<D: Device>(page: &mut Page, design: Design) -> Result<(), OutOfMemory> {
     let mut rows = Page::new(design.alloc);
     let mut last = 0u16;
@@ -155,7 +155,7 @@ fn put_level_drawing<D: Device>(page: &mut Page, design: Design) -> Result<(), O
     page.put(&[Piece::Markup("</svg>\n")])
 }
 
-/// Writes the plot of the array: a line a row with its first fuse and, where the row is in use, its product.
+/// Writes the plot of the array: a line a row with its first fuse and, if the row is in use, its product.
 pub fn put_array<D: Device>(page: &mut Page, design: Design) -> Result<(), OutOfMemory> {
     page.put(&[Piece::Markup(
         "<div class=\"wide\" tabindex=\"0\"><div class=\"plot\"><div class=\"heads\">",

@@ -1,4 +1,4 @@
-//! What stands above the columns of the plot: the pin and the level that each carries.
+//! What is above the columns of the plot: the pin and the level that each carries.
 
 ghost use Rattle.std.specs.Prelude.{◌<◌, ◌≤◌, IfOk};
 
@@ -65,7 +65,7 @@ fn put_head<D: Device>(
     page.put(&[Piece::Markup("</text>")])
 }
 
-/// Writes a stripe behind every second pair, down a drawing of this height.
+/// Writes a stripe after every second pair, down a drawing of this height.
 pub fn put_stripes<D: Device>(page: &mut Page, height: usize) -> Result<(), OutOfMemory> {
     page.put(&[Piece::Markup("<path class=\"stripe\" d=\"")])?;
     for column in 0..D::COLUMNS {

@@ -10,7 +10,7 @@ use fuse_listing::{Burned, is_in_use, is_opened, put_row};
 use pld_base::OutOfMemory;
 use pld_device::Device;
 
-/// How many bytes of a product stand on a line.
+/// How many bytes of a product are on a line.
 const WIDTH: usize = 60;
 
 /// Writes the number of a row's first fuse.
@@ -26,7 +26,7 @@ fn put_number<D: Device>(page: &mut Page, row: u16, down: u32) -> Result<(), Out
     ])
 }
 
-/// Writes a dot for each connection that stands.
+/// Writes a dot for each connection that is.
 fn put_dots<D: Device>(
     page: &mut Page,
     design: Design,
@@ -48,7 +48,7 @@ fn put_dots<D: Device>(
     page.put(&[Piece::Markup("\"/>")])
 }
 
-/// Writes the one line that stands for the dots of a row whose connections all stand.
+/// Writes the one line that represents the dots of a row whose connections all are.
 fn put_whole<D: Device>(page: &mut Page, down: u32) -> Result<(), OutOfMemory> {
     page.put(&[
         Piece::Markup("<path class=\"whole\" d=\"M"),
@@ -61,7 +61,7 @@ fn put_whole<D: Device>(page: &mut Page, down: u32) -> Result<(), OutOfMemory> {
     ])
 }
 
-/// The front of a product that has room on a line: it ends behind a literal, where one ends in time.
+/// The front of a product that has room on a line: it ends after a literal, if one ends in time.
 fn front_length(product: &[u8]) -> usize
     requires { 0 < length product.now }
     ensures some { 0 < result }

@@ -96,7 +96,7 @@ fn put_shared<D: Device>(
     }
 }
 
-/// Writes the name of a pin, where it has one.
+/// Writes the name of a pin, if it has one.
 fn put_name(page: &mut Page, name: &[u8]) -> Result<(), OutOfMemory> {
     if name.is_empty() {
         return page.put(&[Piece::Markup("<td></td>")]);

@@ -31,7 +31,7 @@ fn longest<D: Device>(design: Design) -> u8 {
     most
 }
 
-/// Where the package begins, behind labels of so many bytes.
+/// The beginning of the package, after labels of so many bytes.
 fn left_of(longest: u8) -> usize
     ensures low { 46 ≤ result }
     ensures high { result ≤ 4000 }

@@ -53,7 +53,7 @@ fn listed(list: &[Mismatch]) -> &[Mismatch]
     list.split_at(LISTED).0
 }
 
-/// Writes disagreements, one behind the other.
+/// Writes disagreements, one after the other.
 fn put_items(page: &mut Page, design: Design, list: &[Mismatch]) -> Result<(), OutOfMemory>
     ensures { OnOk result (page.new
         ≡ page.old ++ flat_map (mismatch_item (entries_of design.entry.names.now)) list.now) }
@@ -71,7 +71,7 @@ pub fn put_mismatches(page: &mut Page, design: Design, list: &[Mismatch]) -> Res
     put_items(page, design, listed(list))
 }
 
-/// Writes the part of a run's disagreements, where there are some, and how many more there are than it lists.
+/// Writes the part of a run's disagreements, if there are some, and how many more there are than it lists.
 pub fn put_disagreements(
     page: &mut Page,
     design: Design,

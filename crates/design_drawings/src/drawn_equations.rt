@@ -19,7 +19,7 @@ use pld_base::OutOfMemory;
 use pld_device::{Device, Flip};
 use std::alloc::Global;
 
-/// Whether a cell's pin is low where one of its rows is true; of a register, after the clock. Takes no memory.
+/// Whether a cell's pin is low if one of its rows is true; of a register, after the clock. Takes no memory.
 pub fn lowers<D: Device>(design: Design, cell: u8) -> bool
     requires { cell < length D.table.cells }
     ensures { result ≡ lowers_pin D.table design.entry.file.now.fuses cell }
@@ -49,7 +49,7 @@ fn literal(alloc: Global, complement: bool, name: &[u8]) -> Result<Vec<u8>, OutO
     Ok(text)
 }
 
-/// What stands between a name and its products.
+/// What is between a name and its products.
 fn sign(is_register: bool) -> &'static str
     ensures { result.now ≡ sign_text is_register }
 {
@@ -87,7 +87,7 @@ fn put_target<D: Device>(
     ])
 }
 
-/// Writes a product on a line of its own, behind a sign or not.
+/// Writes a product on a line of its own, after a sign or not.
 #[tactic(auto, unfolding(crate::specs::Equations::product_item))]
 fn put_line<D: Device>(
     page: &mut Page,
@@ -103,7 +103,7 @@ fn put_line<D: Device>(
     page.put(&[Piece::Markup("</code></dd>")])
 }
 
-/// Writes the products behind the first one.
+/// Writes the products after the first one.
 fn put_others<D: Device>(page: &mut Page, design: Design, rows: &[u16]) -> Result<(), OutOfMemory>
     ensures { OnOk result (page.new ≡ page.old
         ++ flat_map (product_item D.table design.entry.file.now.fuses (entries_of design.entry.names.now) (codes "# ")) rows.now) }

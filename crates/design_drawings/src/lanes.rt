@@ -7,7 +7,7 @@ use crate::strips::{Run, STEP, Strip};
 use device_sim::Mismatch;
 use pld_base::{OutOfMemory, level_at};
 
-/// How far down in a lane a high level, a low one and a released pin stand.
+/// How far down in a lane a high level, a low one and a released pin are.
 const HIGH: u8 = 5;
 
 const LOW: u8 = 17;
@@ -48,7 +48,7 @@ fn shape_at(run: Run, index: usize, pin: u8) -> Shape
     }
 }
 
-/// How far down a level stands.
+/// How far down a level is.
 fn height_of(level: bool) -> u8 {
     if level { HIGH } else { LOW }
 }
@@ -83,7 +83,7 @@ fn put_pulse(page: &mut Page, left: u16, down: u32, to: bool) -> Result<(), OutO
     ])
 }
 
-/// Writes what a pin does in a vector, and answers where the pen is then.
+/// Writes what a pin does in a vector, and answers if the pen is then.
 fn put_shape(
     page: &mut Page,
     pen: Option<usize>,
@@ -154,7 +154,7 @@ fn put_released(
     page.put(&[Piece::Markup("\"/>")])
 }
 
-/// How far down the mark of a test stands: where what was expected would be.
+/// How far down the mark of a test is: where what was expected would be.
 fn mark_height(expects: u8) -> u8 {
     match expects {
         b'H' => HIGH,

@@ -11,7 +11,7 @@ use std::marker::Model;
 /// A piece of a page.
 #[derive(Clone, Copy)]
 pub enum Piece<'a> {
-    /// Markup of the program's own, which stands in the page as it is: no byte of a source or a file lives so long.
+    /// Markup of the program's own, which is in the page as it is: no byte of a source or a file lives so long.
     Markup(&'static str),
     /// Bytes of a source or of a file.
     Text(&'a [u8]),
@@ -59,7 +59,7 @@ impl Page {
         }
     }
 
-    /// Writes pieces, one behind the other.
+    /// Writes pieces, one after the other.
     pub fn put(&mut self, pieces: &[Piece]) -> Result<(), OutOfMemory>
         ensures { OnOk result (self.new ≡ self.old ++ all_shown pieces.now) }
     {

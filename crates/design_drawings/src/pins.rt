@@ -10,7 +10,7 @@ use abel_tree::Declared;
 use fuse_listing::{carry_at, cell_of, complements_output, is_in_use, name_on, pin_of, stores};
 use pld_device::{Device, Enable, cell_on};
 
-/// Where a pin's level comes from.
+/// The source of a pin's level.
 #[derive(Clone, Copy, PartialEq, Eq)]
 pub enum Flow {
     /// From outside.
@@ -75,7 +75,7 @@ fn serves_registers<D: Device>(design: Design, pin: u8) -> bool {
     false
 }
 
-/// Where the level of an assigned cell's pin comes from.
+/// The source of the level of an assigned cell's pin.
 fn cell_flow<D: Device>(design: Design, cell: u8) -> Flow
     requires { cell < length D.table.cells }
 {
@@ -96,7 +96,7 @@ fn cell_flow<D: Device>(design: Design, cell: u8) -> Flow
     }
 }
 
-/// Where a pin's level comes from. Takes no memory.
+/// The source of a pin's level. Takes no memory.
 pub fn flow_of<D: Device>(design: Design, pin: u8) -> Flow {
     if pin == D::GROUND {
         return Flow::Ground;
@@ -126,7 +126,7 @@ pub fn is_low_register<D: Device>(design: Design, pin: u8) -> bool {
     }
 }
 
-/// The bytes of a pin's name, none where it has none. Takes no memory.
+/// The bytes of a pin's name, none if it has none. Takes no memory.
 pub fn name_bytes<'a>(design: Design<'a>, pin: u8) -> &'a [u8]
     ensures { result.now ≡ pin_name (entries_of design.entry.names.now) pin }
 {

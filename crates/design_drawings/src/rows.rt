@@ -18,7 +18,7 @@ fn is_row_of<D: Device>(cell: u8, row: u16) -> bool
         || (found.first <= row && row - found.first < u16::from(found.room))
 }
 
-/// The cell that a row belongs to, none where all registers share the row. Takes no memory.
+/// The cell that a row belongs to, none if all registers share the row. Takes no memory.
 pub fn cell_of_row<D: Device>(row: u16) -> Option<u8>
     ensures within { IfSome result (λ cell. cell < length D.table.cells) }
     ensures found { IsCellOf D.table row result }
@@ -41,13 +41,13 @@ pub fn is_enable<D: Device>(row: u16) -> bool {
     false
 }
 
-/// Whether no connection of a row stands. Takes no memory.
+/// Whether no connection of a row is. Takes no memory.
 pub fn is_open<D: Device>(design: Design, row: u16) -> bool {
     let levels = design.levels();
     (0..D::COLUMNS).all(|column| is_opened::<D>(levels, row, column))
 }
 
-/// Whether each connection of a row stands. Takes no memory.
+/// Whether each connection of a row is. Takes no memory.
 pub fn is_whole<D: Device>(design: Design, row: u16) -> bool {
     let levels = design.levels();
     (0..D::COLUMNS).all(|column| !is_opened::<D>(levels, row, column))

@@ -12,7 +12,7 @@ pub const DRAWN: usize = 256;
 /// How many strips there are at most.
 pub const STRIPS: u8 = 8;
 
-/// How many vectors stand side by side.
+/// How many vectors are side by side.
 pub const STRIP: usize = 32;
 
 /// The width of a vector.
@@ -21,7 +21,7 @@ pub const STEP: usize = 20;
 /// The height of a lane.
 pub const LANE: u32 = 22;
 
-/// Where the first vector begins.
+/// The beginning of the first vector.
 pub const LEFT: usize = 150;
 
 /// The vectors of a strip: strips count from 0.
@@ -39,7 +39,7 @@ impl Strip {
         usize::from(self.number) * STRIP + usize::from(place)
     }
 
-    /// Where a vector of a strip begins. Takes no memory.
+    /// The beginning of a vector of a strip. Takes no memory.
     pub fn left_of(&self, place: u8) -> u16 {
         LEFT as u16 + u16::from(place) * STEP as u16
     }

@@ -1,4 +1,4 @@
--- What is told of the cells in turn whose other polarity takes far fewer rows.
+-- What is reported of the cells in turn whose other polarity takes far fewer rows.
 use Rattle.std.proofs.Common.{◌≡◌, ℕ, ◌+◌, ◌<◌, List, [], ◌∷◌, ◌++◌, length, get_or, Option, Some, None, Bool, true, false, filter_map, option_to_list, refl, sym, ap, ◌∙◌, subst, arith, inl, inr}
 use Rattle.std.proofs.Math.Seq.{get_or-append_seam}
 use Rattle.std.proofs.lemmas.Bool.{cases_lt}

@@ -16,8 +16,8 @@ use Rattle.design_page.specs.declared.costs.CostlyPolarity.{CostlyPolarity}
 abbrev pub IsCostly : CostlyPolarity → Type 0
 IsCostly found = (0 < found.other) × (3 * found.other ≤ found.rows)
 
--- how many rows a cell takes in a form, by the cover that the fitter makes in it; none where it may not have the form, or is too
--- wide in it
+-- how many rows a cell takes in a form, by the cover that the fitter makes in it; none if it may not have the form, or is
+-- too wide in it
 pub record TakesRows (t : Table) (net : Netlist) (w : CellWanted) (inverted : Bool) (rows : Option ℕ) : Type 0 where
   pub mask : ℕ
   pub mask_is : IsTurnMask t (plain_netlist net) mask
@@ -28,15 +28,15 @@ pub record TakesRows (t : Table) (net : Netlist) (w : CellWanted) (inverted : Bo
 abbrev pub is_costly : (rows other : ℕ) → Bool
 is_costly rows other = nat_lt 0 other && nat_le (3 * other) rows
 
--- the output of a cell that takes so many rows in its direct form and in the inverted one: told where the first fit its room and
--- are costly
+-- the output of a cell that takes so many rows in its direct form and in the inverted one: reported if the first fit its
+-- room and are costly
 abbrev pub costly_of : Cell → (direct inverted : Option ℕ) → Option CostlyPolarity
 costly_of cell (Some rows) (Some other) =
     if nat_le rows cell.room && is_costly rows other then Some (record { pin = cell.pin; rows = rows; other = other }) else None
 costly_of cell (Some rows) None = None
 costly_of cell None inverted = None
 
--- what is told of an assigned cell
+-- what is reported of an assigned cell
 pub record TellsCost (t : Table) (net : Netlist) (c : ℕ) (w : CellWanted) (told : Option CostlyPolarity) : Type 0 where
   pub direct : Option ℕ
   pub inverted : Option ℕ
@@ -44,7 +44,7 @@ pub record TellsCost (t : Table) (net : Netlist) (c : ℕ) (w : CellWanted) (tol
   pub inverted_is : TakesRows t net w true inverted
   pub told_is : told ≡ costly_of (cell_at t c) direct inverted
 
--- what is told of a cell whose pin is asked for or not: nothing where it isn't, or the cell isn't assigned
+-- what is reported of a cell whose pin is asked for or not: nothing if it isn't, or the cell isn't assigned
 abbrev pub TellsCell : Table → Netlist → ℕ → (asked : Bool) → Option CellWanted → Option CostlyPolarity → Type 0
 TellsCell t net c false wanted told = told ≡ None
 TellsCell t net c true None told = told ≡ None
@@ -54,7 +54,7 @@ TellsCell t net c true (Some w) told = TellsCost t net c w told
 abbrev pub is_asked : ℕ → Cell → Bool
 is_asked pins cell = is_on (bits 32 pins) cell.pin
 
--- the list has what is told of the cells below a number, in the order of cells
+-- the list has what is reported of the cells below a number, in the order of cells
 pub record TellsBelow (t : Table) (net : Netlist) (pins : ℕ) (c : ℕ) (list : List CostlyPolarity) : Type 0 where
   pub told : List (Option CostlyPolarity)
   pub count : length told ≡ c

@@ -29,7 +29,7 @@ fn low_pins(names: &Names) -> u32 {
     pins
 }
 
-/// The outputs with active-low names that are costly; no netlist is made where there is no such name.
+/// The outputs with active-low names that are costly; no netlist is made if there is no such name.
 fn costly_outputs<D: Device>(
     alloc: Global,
     module: &Module,

@@ -25,7 +25,7 @@ pub struct CostlyPolarity {
     pub other: usize,
 }
 
-/// How many rows a cell takes in a form; none where it may not have the form, or is too wide in it.
+/// How many rows a cell takes in a form; none if it may not have the form, or is too wide in it.
 fn rows_in<D: Device>(
     space: &mut Workspace,
     fit: &SoundFit<D>,
@@ -113,7 +113,7 @@ fn add_found(
 }
 
 /// The outputs at these pins, bit p for pin p, that fit as they are and take at least three times the rows of their other
-/// polarity, in the order of the cells. None where the device leaves no choice. It makes one pool for all covers.
+/// polarity, in the order of the cells. None if the device leaves no choice. It makes one pool for all covers.
 pub fn costly_polarities<D: Device>(
     alloc: Global,
     net: &Netlist,

@@ -18,13 +18,13 @@ use shown_text::printable;
 pub struct Parts<'a> {
     /// The name of the module, or of the fuse file.
     pub name: &'a [u8],
-    /// The title, empty where there is none.
+    /// The title, empty if there isn't one.
     pub title: &'a [u8],
     /// The line that sums it up.
     pub summary: &'a [u8],
     /// The bytes of the fuse file.
     pub file: &'a [u8],
-    /// The source, empty where there is none.
+    /// The source, empty if there isn't one.
     pub source: &'a [u8],
 }
 
@@ -94,7 +94,7 @@ fn put_title(page: &mut Page, design: Design, title: &[u8]) -> Result<(), OutOfM
     ])
 }
 
-/// Writes the head: what the design is, and how it came out.
+/// Writes the head: what the design is, and its result.
 fn put_head<D: Device>(
     page: &mut Page,
     design: Design,

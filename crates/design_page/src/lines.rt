@@ -2,7 +2,7 @@
 
 ghost use Rattle.std.specs.Prelude.{◌<◌, ◌≤◌, length};
 
-/// The first line of a text, without what ends it, and what stands behind. Takes no memory.
+/// The first line of a text, without what ends it, and what follows. Takes no memory.
 pub fn first_line(text: &[u8]) -> (&[u8], &[u8])
     ensures { 0 < length text.now → length result.1.now < length text.now }
 {

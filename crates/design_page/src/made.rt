@@ -1,4 +1,4 @@
-//! A page, with what is told of it.
+//! A page, with what is reported of it.
 
 use pld_base::OutOfMemory;
 use std::alloc::Global;
@@ -19,7 +19,7 @@ pub struct Made {
 }
 
 impl Made {
-    /// What is told where there is no page.
+    /// What is reported if there is no page.
     pub fn told(alloc: Global, status: u8, pieces: &[&[u8]]) -> Result<Made, OutOfMemory> {
         Ok(Made {
             status,
@@ -37,7 +37,7 @@ pub fn without_end(line: &[u8]) -> &[u8] {
     }
 }
 
-/// Pieces, one behind the other.
+/// Pieces, one after the other.
 pub fn joined(alloc: Global, pieces: &[&[u8]]) -> Result<Vec<u8>, OutOfMemory> {
     let mut text = Vec::new(alloc);
     for piece in pieces {

@@ -16,7 +16,7 @@ use pld_base::{DeviceName, OutOfMemory};
 use pld_device::Device;
 use std::alloc::Global;
 
-/// What comes of a fuse file that is read.
+/// What results from a fuse file that is read.
 fn made_of<D: Device>(alloc: Global, input: Input, file: &FuseFile) -> Result<Made, OutOfMemory>
     requires fuses { length file.now.fuses ≡ D.table.fuses }
     requires few { length file.now.vectors < 2 ^ 32 }
@@ -43,7 +43,7 @@ fn made_of<D: Device>(alloc: Global, input: Input, file: &FuseFile) -> Result<Ma
     })
 }
 
-/// What comes of bytes as a fuse file of a device.
+/// What results from bytes as a fuse file of a device.
 fn made_for<D: Device>(alloc: Global, input: Input) -> Result<Made, OutOfMemory>
     requires { length input.bytes.now ≤ limit }
 {
@@ -55,7 +55,7 @@ fn made_for<D: Device>(alloc: Global, input: Input) -> Result<Made, OutOfMemory>
     }
 }
 
-/// What comes of a fuse file of a device: its page, and how `simulate` ends with it.
+/// What results from a fuse file of a device: its page, and how `simulate` ends with it.
 pub fn page_of_file(alloc: Global, device: DeviceName, input: Input) -> Result<Made, OutOfMemory>
     requires { length input.bytes.now ≤ limit }
 {

@@ -31,7 +31,7 @@ fn unquoted(text: &[u8]) -> &[u8] {
     }
 }
 
-/// The bytes of a module's title, none where it has none.
+/// The bytes of a module's title, none if it has none.
 fn title_of(module: &Module) -> &[u8] {
     match &module.title {
         Some(title) => unquoted(title.text.bytes()),
@@ -129,7 +129,7 @@ fn made_unfit(alloc: Global, input: Input, line: &[u8]) -> Result<Made, OutOfMem
     Ok(made)
 }
 
-/// What comes of a source: its page, and how `compile` and `simulate` end with it.
+/// What results from a source: its page, and how `compile` and `simulate` end with it.
 pub fn page_of_source(alloc: Global, input: Input) -> Result<Made, OutOfMemory>
     requires { length input.bytes.now ≤ limit }
 {

@@ -1,4 +1,4 @@
-//! What the vectors of a fuse file come to.
+//! What the vectors of a fuse file amount to.
 
 ghost use Rattle.std.specs.Prelude.{◌≡◌, ◌<◌, ◌^◌, length};
 
@@ -11,7 +11,7 @@ use pld_base::{ListOf, OutOfMemory, Trace};
 use pld_device::Device;
 use std::alloc::Global;
 
-/// What the vectors of a fuse file came to, with what the pins show at the first of them; or the line on why they were not run.
+/// What the vectors of a fuse file gave, with what the pins show at the first of them; or the line on why they were not run.
 #[derive(Drop)]
 pub enum Outcome {
     Ran(Report, ListOf<Trace>),

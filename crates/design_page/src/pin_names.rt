@@ -47,7 +47,7 @@ fn named<D: Device>(alloc: Global, levels: &[bool], pin: u8) -> Result<Declared,
     })
 }
 
-/// The bytes of the first name of a pin, none where it has none. Takes no memory.
+/// The bytes of the first name of a pin, none if it has none. Takes no memory.
 pub fn name_of_pin(names: &Names, pin: u8) -> &[u8] {
     match name_on(names, pin) {
         Some(declared) => declared.name.bytes(),

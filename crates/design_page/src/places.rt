@@ -1,4 +1,4 @@
-//! Where the places of the expanded text stand in the source.
+//! The place of the places of the expanded text in the source.
 
 ghost use Rattle.std.specs.Prelude.{◌≡◌, ◌≤◌, ◌<◌, ◌+◌, IfOk, IfSome, length};
 
@@ -10,8 +10,8 @@ use std::alloc::Global;
 /// The first place of a text.
 const START: Place = Place { line: 1, column: 1 };
 
-/// A place of the expanded text, and where it stands in the source. What a macro or a directive stands for stands where its
-/// bytes are written, and is expanded elsewhere: at the outermost call.
+/// A place of the expanded text, and its place in the source. What a macro or a directive represents is if its bytes are
+/// written, and is expanded elsewhere: at the outermost call.
 #[derive(Clone, Copy)]
 pub struct Found {
     pub expanded: Place,
@@ -19,14 +19,14 @@ pub struct Found {
     pub call: Option<Place>,
 }
 
-/// Where each byte of the expanded text stands, and its end.
+/// The place of each byte of the expanded text, and its end.
 #[derive(Drop)]
 pub struct Origins {
     bytes: Vec<Found>,
     end: Found,
 }
 
-/// The place behind a byte.
+/// The place after a byte.
 fn place_behind(place: Place, byte: u8) -> Place {
     if byte == b'\n' {
         Place {
@@ -61,7 +61,7 @@ fn place_at(places: &[Place], offset: usize) -> Place {
     }
 }
 
-/// Where the byte stands that a reader gave last, at this place of the expanded text.
+/// The place of the byte that a reader gave last, at this place of the expanded text.
 fn found_at(reader: &Reader, places: &[Place], byte: u8, expanded: Place) -> Found {
     let outer = place_at(places, reader.offset());
     if !reader.is_in_macro() {
@@ -82,7 +82,7 @@ fn found_at(reader: &Reader, places: &[Place], byte: u8, expanded: Place) -> Fou
     }
 }
 
-/// The next byte of the expanded text, none where the text ends or is refused.
+/// The next byte of the expanded text, none if the text ends or is refused.
 fn next_of(reader: &mut Reader) -> Result<Option<u8>, OutOfMemory>
     ensures count { IfOk result (λ o. IfSome o (λ b. (reader.new.given ≡ reader.old.given + 1) × (reader.old.given < 1048576))) }
 {
@@ -93,7 +93,7 @@ fn next_of(reader: &mut Reader) -> Result<Option<u8>, OutOfMemory>
     }
 }
 
-/// Where the bytes of the expanded text of a source stand in it, as far as it is expanded.
+/// The places of the bytes of the expanded text of a source in it, as far as it is expanded.
 pub fn origins_of(alloc: Global, text: &[u8]) -> Result<Origins, OutOfMemory>
     requires { length text.now ≤ 1048576 }
 {
@@ -114,7 +114,7 @@ pub fn origins_of(alloc: Global, text: &[u8]) -> Result<Origins, OutOfMemory>
 }
 
 impl Origins {
-    /// Whether the byte of this number stands before a place of the expanded text.
+    /// Whether the byte of this number precedes a place of the expanded text.
     fn is_passed(&self, index: usize, place: Place) -> bool {
         match self.bytes.get(index) {
             Some(found) => is_before(&found.expanded, &place),
@@ -122,7 +122,7 @@ impl Origins {
         }
     }
 
-    /// Where a place of the expanded text stands: the first byte there, or the end. Takes no memory.
+    /// The place of a place of the expanded text: the first byte there, or the end. Takes no memory.
     pub fn at(&self, place: Place) -> Found {
         let mut low = 0usize;
         let mut high = self.bytes.len();

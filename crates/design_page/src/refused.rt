@@ -22,7 +22,7 @@ fn put_place(page: &mut Page, place: Place) -> Result<(), OutOfMemory> {
     ])
 }
 
-/// Writes where the refusal stands, and where that is expanded.
+/// Writes the place of the refusal, and if that is expanded.
 fn put_places(page: &mut Page, found: Found) -> Result<(), OutOfMemory> {
     page.put(&[Piece::Markup("<p>In the source: ")])?;
     put_place(page, found.source)?;
@@ -79,7 +79,7 @@ fn refused_page(
     Ok(page.into_bytes())
 }
 
-/// Where the place that a line of the report tells stands in a source, where it tells one.
+/// The place in a source that a line of the report gives, if it gives one.
 fn place_of(alloc: Global, text: &[u8], line: &[u8]) -> Result<Option<Found>, OutOfMemory>
     requires { length text.now ≤ 1048576 }
 {
@@ -89,7 +89,7 @@ fn place_of(alloc: Global, text: &[u8], line: &[u8]) -> Result<Option<Found>, Ou
     }
 }
 
-/// What comes of a source that is not compiled, with the line on why.
+/// What results from a source that is not compiled, with the line on why.
 pub fn made_refused(
     alloc: Global,
     input: Input,

@@ -56,7 +56,7 @@ fn input_of(asked: Asked) -> &str {
     }
 }
 
-/// What comes of the bytes of a file.
+/// What results from the bytes of a file.
 fn made_of(alloc: Global, asked: Asked, bytes: &[u8]) -> Result<Made, OutOfMemory>
     requires { length bytes.now ≤ limit }
 {
@@ -108,7 +108,7 @@ fn obey<F: GuardedFiles>(alloc: Global, asked: Asked, files: &mut F) -> Result<M
     }
 }
 
-/// Reports want of memory, as far as the sink takes it.
+/// Reports lack of memory, as far as the sink takes it.
 fn report_memory<K: Sink>(report: &mut K) -> u8 {
     let _ = report.put(b"error memory\n");
     8

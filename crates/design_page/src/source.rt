@@ -54,7 +54,7 @@ fn put_marked(
     ])
 }
 
-/// Writes a text line by line, with a place in it marked where there is one.
+/// Writes a text line by line, with a place in it marked if there is one.
 pub fn put_text(
     page: &mut Page,
     alloc: Global,

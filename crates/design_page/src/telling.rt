@@ -9,7 +9,7 @@ use pld_device::Device;
 use shown_text::excerpt_of;
 use std::alloc::Global;
 
-/// The refusal of a line of the report: its word, and what it tells behind the place.
+/// The refusal of a line of the report: its word, and what it gives after the place.
 fn put_words(text: &mut Vec<u8>, line: &[u8]) -> Result<(), OutOfMemory> {
     let mut blanks = 0u32;
     for byte in line {
@@ -62,8 +62,8 @@ pub fn put_place(
     put_decimal(alloc, text, place.column as usize)
 }
 
-/// Appends where in a file a refusal of this line stands, that line of the source, and a caret under the place; and the same of
-/// the call, where the place is in what a macro or a directive stands for.
+/// Appends where in a file a refusal of this line is, that line of the source, and a caret under the place; and the same of
+/// the call, if the place is in what a macro or a directive represents.
 pub fn put_refusal(
     alloc: Global,
     text: &mut Vec<u8>,

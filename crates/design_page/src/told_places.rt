@@ -1,10 +1,10 @@
-//! The place that a line of the report tells.
+//! The place that a line of the report shows.
 
 ghost use Rattle.std.specs.Prelude.{◌≤◌, length};
 
 use pld_base::Place;
 
-/// The number that a text begins with, and what stands behind.
+/// The number that a text begins with, and what follows.
 fn number_at(text: &[u8]) -> (u32, &[u8]) {
     let mut number = 0u32;
     let mut rest = text;
@@ -27,7 +27,7 @@ fn place_at(text: &[u8]) -> Place {
     Place { line, column }
 }
 
-/// The place that a line of the report tells, behind its first ` at `. Takes no memory.
+/// The place that a line of the report shows, after its first ` at `. Takes no memory.
 pub fn told_place(line: &[u8]) -> Option<Place> {
     let mut rest = line;
     'bytes: while let [_, behind @ ..] = rest {

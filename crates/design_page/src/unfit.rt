@@ -18,7 +18,7 @@ use pld_base::{ListOf, OutOfMemory, put_decimal};
 use pld_device::Device;
 use std::alloc::Global;
 
-/// The cells that are over their room, none where the fit has another fault.
+/// The cells that are over their room, none if the fit has another fault.
 fn overfull_cells<D: Device>(
     alloc: Global,
     source: &ModuleParts<'_>,

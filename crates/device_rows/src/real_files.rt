@@ -72,8 +72,8 @@ fn is_replaced(rt: &HostRuntime) -> io::Result<[bool; 4]> {
     ])
 }
 
-/// Whether the old file is replaced where the first name beside it is taken, and what has that name stands; and whether files
-/// of the longest name are written and replaced.
+/// Whether the old file is replaced if the first name beside it is taken, and what has that name is; and whether files of
+/// the longest name are written and replaced.
 fn gives_way(rt: &HostRuntime) -> io::Result<[bool; 5]> {
     let longest = format!(in rt.alloc(); "abel_host_replaced/{:n<255}", "")?;
     let mut files = HostFiles::new(rt.alloc(), rt);
@@ -86,7 +86,7 @@ fn gives_way(rt: &HostRuntime) -> io::Result<[bool; 5]> {
     ])
 }
 
-/// Whether a file is replaced in one piece, or stands.
+/// Whether a file is replaced in one piece, or is.
 pub fn replaced_files(rt: &HostRuntime) -> io::Result<[bool; 13]> {
     let made = make_old(rt)?;
     let [failed, kept, alone] = stands_when_full(rt)?;
@@ -112,13 +112,13 @@ fn make_guarded(rt: &HostRuntime) -> io::Result<bool> {
     )
 }
 
-/// Whether a write under a name is told to lose nothing.
+/// Whether a write under a name is reported to lose nothing.
 fn may_replace(rt: &HostRuntime, name: &str) -> bool {
     let mut files = HostFiles::new(rt.alloc(), rt);
     files.may_replace(name, "abel_host_guarded/in", b"front") == Ok(true)
 }
 
-/// Whether a write loses nothing where there is no file, one with the front, or no regular file, and something where there is
+/// Whether a write loses nothing if there is no file, one with the front, or no regular file, and something if there is
 /// another file, or the input itself, also through a link.
 pub fn guarded_files(rt: &HostRuntime) -> io::Result<[bool; 7]> {
     let made = make_guarded(rt)?;

@@ -9,11 +9,11 @@ use Rattle.gathering.proofs.LinkSets.{leaf_there, stored_there, reads_there}
 use Rattle.gathering.proofs.LinkFacts.{Facts, facts}
 use Rattle.gathering.proofs.Renamed.{no_loop_up, least_up, path_up, no_path_up}
 
--- each of a list's places is below a number where all that it has is
+-- each of a list's places is below a number if all that it has is
 pub all_below : (xs : List ℕ) (count : ℕ) → ((v : ℕ) → has xs v ≡ true → v < count) → All (λ (v : ℕ). v < count) xs
 all_below xs count inside k x low = inside (get_or xs k x) (list_any_at (λ y. eqb (get_or xs k x) y) xs k x low (eqb_same (get_or xs k x)))
 
--- what stands for a link past the last one
+-- what represents a link past the last one
 pub no_link : Link
 no_link = record { leaf = None; reads = record { pins = 0; q = 0; nodes = 0 }; stored = false }
 

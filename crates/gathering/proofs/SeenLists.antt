@@ -7,7 +7,7 @@ module _ {X Y : Type 0} (f : X → Y) (p : Y → Bool) where
   any_map [] = refl
   any_map (x ∷ xs) = ap (λ b. p (f x) || b) (any_map xs)
 
--- what a part says says the whole list, step by step, where no step changes anything at what isn't in the part
+-- what a part says says the whole list, step by step, if no step changes anything at what isn't in the part
 module _ {X Z : Type 0} (own : X → Bool) (say : List X → Z) (step : X → Z → Z) (each : (x : X) (xs : List X) → say (x ∷ xs) ≡ step x (say xs)) (none : (x : X) (z : Z) → own x ≡ false → step x z ≡ z) where
   pub own_says : (xs : List X) → say (filter own xs) ≡ say xs
   own_says [] = refl

@@ -1,4 +1,4 @@
--- What stands in an arena that grows.
+-- What is in an arena that grows.
 use Rattle.std.proofs.Common.{◌≡◌, ℕ, ◌<◌, false, List, [], ◌∷◌, length, get_or, Result, Ok, Err, IfOk, refl, ap₂, ◌∙◌, arith}
 use Rattle.gathering.proofs.Common.{All-head, All-tail, ExprId, formula_at, Formula, Const, view_contribution, Contribution, contributions_in, AllLieIn, Stands, Throughout, slice_get-get_or, get_or_from_slice_get}
 use Rattle.pld_base.specs.declared.out_of_memory.OutOfMemory.{OutOfMemory}
@@ -25,7 +25,7 @@ module _ (fs gs : List Formula) (stands : Stands fs gs) where
       (same_seen c (All-head (λ (x : Contribution). x.when.0 < length fs) c cs inside))
       (same_contributions cs (All-tail (λ (x : Contribution). x.when.0 < length fs) c cs inside))
 
--- what was added stands in all that the arena grows to
+-- what was added is in all that the arena grows to
 pub added : (old new : List Formula) (cs : List Contribution) (f : Formula) (g : List Formula → Formula) (r : Result ExprId OutOfMemory) → IfOk r (λ (id : ExprId). formula_at new id ≡ f) → IfOk r (λ (id : ExprId). id.0 < length new)
     → ((first : List Formula) → Stands first old → AllLieIn (length first) cs → f ≡ g first) → IfOk r (λ (id : ExprId). Throughout old new cs (λ first last. formula_at last id ≡ g first))
 added old new cs f g (Ok id) is inside same = λ first last before lie behind. same_formula new last behind id.0 inside ∙ is ∙ same first before lie

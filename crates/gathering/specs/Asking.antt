@@ -11,7 +11,7 @@ use Rattle.gathering.specs.declared.link.Link.{Link}
 use Rattle.gathering.specs.Linked.{AreLinksFrom}
 use Rattle.gathering.specs.Placed.{IsPlaced}
 
--- an enable of its own, where the cell's enable is a row
+-- an enable of its own, if the cell's enable is a row
 abbrev pub control_by_row : Enable → Option Control → Option Control
 control_by_row (Row row) control = control
 control_by_row (PinLow pin) control = None
@@ -48,7 +48,7 @@ pub record Asks (t : Table) (first now : List Formula) (cs : List Contribution) 
   pub places : All (IsPlaced cs) asked.cells.items
   pub links : (d : Context) → d.device ≡ t → AreLinksFrom d (contributions_in first cs) 0 xs asked.signals.items asked.links.items
 
--- it becomes that netlist by what the names ask that are left, of which the first has this number
+-- it becomes that netlist by what the names ask that are left, the first of which has this number
 pub record AsksBefore (t : Table) (first now : List Formula) (cs : List Contribution) (xs : List Entry) (s : ℕ) (left : List Entry) (asked : Asked) : Type 0 where
   pub nodes : (d : Context)
       → map (plain_function now) asked.nodes.items ++ nodes_from d (contributions_in first cs) s left ≡ nodes_from d (contributions_in first cs) 0 xs

@@ -13,7 +13,7 @@ is_node_kind _ = false
 abbrev pub is_linked : Table → Entry → Bool
 is_linked t x = is_node_kind x.kind || is_some (cell_of t x)
 
--- the signal as others read it: by its leaf; it reads what its function and its enable name, and nothing where it is a
+-- the signal as others read it: by its leaf; it reads what its function and its enable name, and nothing if it is a
 -- register
 pub record IsLinkOf (d : Context) (cs : List (Contribution Formula)) (s : ℕ) (x : Entry) (link : Link) : Type 0 where
   pub leaf : link.leaf ≡ leaf_by d x x.kind
@@ -25,7 +25,7 @@ abbrev pub StartsWith : (Link → Type 0) → (List ℕ → List Link → Type 0
 StartsWith first others s (n ∷ ns) (l ∷ ls) = (n ≡ s) × first l × others ns ls
 StartsWith first others s _ _ = ⊥
 
--- that, where the name is linked
+-- that, if the name is linked
 abbrev pub StartsIf : (linked : Bool) → (Link → Type 0) → (List ℕ → List Link → Type 0) → ℕ → List ℕ → List Link → Type 0
 StartsIf true first others s ns ls = StartsWith first others s ns ls
 StartsIf false first others s ns ls = others ns ls

@@ -57,7 +57,7 @@ AreLeaves rs = (v : ℕ) (l : Leaf) → leaf_in rs v ≡ Some l → IsLeaf l
 abbrev pub HasNoChain : List Link → Type 0
 HasNoChain rs = HasNoLoop (length rs) (link_reads rs)
 
--- all signals, each once, none of which reads itself or one that stands behind it
+-- all signals, each once, none of which reads itself or one that follows it
 abbrev pub IsReadOrder : List Link → List ℕ → Type 0
 IsReadOrder rs order = IsOrder (length rs) (link_reads rs) order
 
@@ -69,6 +69,6 @@ IsFirstChain rs chain = IsLeastLoop (length rs) (link_reads rs) chain
 abbrev pub IsRegisterPath : List Link → Reads → List ℕ → Type 0
 IsRegisterPath rs reads path = IsPath (length rs) (link_reads rs) (is_read_by reads rs) (is_stored_in rs) path
 
--- there are none
+-- there aren't any
 abbrev pub HasNoRegisterPath : List Link → Reads → Type 0
 HasNoRegisterPath rs reads = HasNoPath (length rs) (link_reads rs) (is_read_by reads rs) (is_stored_in rs)

@@ -19,12 +19,13 @@ is_for (part.Control control) s c = is_control s control c
 abbrev pub AllLieIn : ℕ → List Contribution → Type 0
 AllLieIn count cs = All (λ (c : Contribution). c.when.0 < count) cs
 
--- what was there stands under its id
+-- what was there is under its id
 pub record Stands (old new : List Formula) : Type 0 where
   pub keeps : (i : ℕ) (f : Formula) → slice_get old i ≡ Some f → slice_get new i ≡ Some f
   pub longer : length old ≤ length new
 
--- it holds of every arena that the first has grown from, where the contributions lie, and every one that the second grows to
+-- it holds of every arena that the first has grown from, the place of the contributions, and every one that the second grows
+-- to
 abbrev pub Throughout : (old new : List Formula) → List Contribution → (List Formula → List Formula → Type 0) → Type 0
 Throughout old new cs P =
     (first last : List Formula) → Stands first old → AllLieIn (length first) cs → Stands new last → P first last
@@ -48,7 +49,7 @@ is_free_one s c = not (is_data_of s c) || (is_some c.block && c.dontcare)
 abbrev pub part_sum : Part → ℕ → List (meant.Contribution Formula) → Formula
 part_sum part s cs = fold (λ f (c : meant.Contribution Formula). (make_or f c.holds).what) (Const false) (filter (is_for part s) cs)
 
--- the bit that is made by steps, 0 behind the last one
+-- the bit that is made by steps, 0 after the last one
 abbrev pub bit_of : List Step → ℕ → List (meant.Contribution Formula) → Formula
 bit_of [] s cs = Const false
 bit_of (step.Or part ∷ steps) s cs = (make_or (part_sum part s cs) (bit_of steps s cs)).what

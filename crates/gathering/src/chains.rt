@@ -10,7 +10,7 @@ use bit_expr::Reads;
 use pld_base::OutOfMemory;
 use std::alloc::Global;
 
-/// All signals by their places, none of which reads itself or one behind it.
+/// All signals by their places, none of which reads itself or one after it.
 pub fn read_order(alloc: Global, links: &[Link]) -> Result<ArrayVec<u8, 256>, OutOfMemory>
     requires few { length links.now ≤ 256 }
     requires leaves { AreLeaves links.now }
@@ -25,7 +25,7 @@ pub fn read_order(alloc: Global, links: &[Link]) -> Result<ArrayVec<u8, 256>, Ou
 }
 
 /// Signals by their places, each of which reads the next, and the last the first; the first is the earliest of all
-/// that lie on such a loop. None where there is none.
+/// that lie on such a loop. None if there isn't one.
 pub fn first_loop(alloc: Global, links: &[Link]) -> Result<Option<ArrayVec<u8, 256>>, OutOfMemory>
     requires few { length links.now ≤ 256 }
     requires leaves { AreLeaves links.now }
@@ -40,7 +40,7 @@ pub fn first_loop(alloc: Global, links: &[Link]) -> Result<Option<ArrayVec<u8, 2
 }
 
 /// Signals by their places: the first is read by the leaves, each reads the next, and the last is a register. None
-/// where there are none.
+/// if there aren't any.
 pub fn path_to_register(
     alloc: Global,
     links: &[Link],

@@ -7,7 +7,7 @@ ghost use Rattle.gathering.specs.{has_if_any};
 use bit_expr::{Leaf, Reads};
 use pld_base::level_at;
 
-/// A signal: the leaf by which it is read, if it can be; the leaves that it reads while it comes to rest, which a
+/// A signal: the leaf by which it is read, if it can be; the leaves that it reads while it settles, which a
 /// register does not; and whether it is a register.
 #[derive(Clone, Copy, PartialEq, Eq)]
 pub struct Link {

@@ -11,7 +11,7 @@ use abel_tree::{Declared, Meaning};
 use bit_expr::{Exprs, Leaf};
 use pld_device::{Device, cell_on};
 
-/// Whether it is a node or a combinational signal with data, which comes to rest by what it reads.
+/// Whether it is a node or a combinational signal with data, which settles by what it reads.
 fn settles(declared: &Declared) -> bool
     ensures { result ≡ settles (view_declared declared.now) }
 {
@@ -40,7 +40,7 @@ fn leaf_of<D: Device>(declared: &Declared) -> Option<Leaf>
     }
 }
 
-/// A signal by all that is given to it: it reads what its function and its enable name, and nothing where it is a register.
+/// A signal by all that is given to it: it reads what its function and its enable name, and nothing if it is a register.
 pub(crate) fn link_of<D: Device>(exprs: &Exprs, declared: &Declared, totals: &Totals) -> Link
     requires { AreTotalsIn (length (arena exprs.now)) totals.now }
     ensures { (d : Context) (first : List Formula) (list : List Contribution) (signal : ℕ) → d.device ≡ D.table

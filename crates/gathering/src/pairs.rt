@@ -6,7 +6,7 @@ ghost use Rattle.abel_meaning.specs.SoundIds as sound;
 
 use pld_device::{Device, pair_of_cell, pair_of_pin};
 
-/// What stands for a pair where there is none.
+/// What represents a pair if there isn't one.
 const NO_PAIR: u8 = 255;
 
 /// The number of a pair that may be there.

@@ -34,8 +34,8 @@ pub struct Totals {
     pub place: Option<Place>,
 }
 
-/// The function of a signal. Where it is assigned in both polarities this is said of the name, `p or not n` by what
-/// is given to the name and what to the complement; that no don't-care table or diagram matches then frees the
+/// The function of a signal. If it is assigned in both polarities this is said of the name, `p or not n` by what is
+/// given to the name and what to the complement; that no don't-care table or diagram matches then frees the
 /// complement and says nothing of the name.
 fn function_of(
     exprs: &mut Exprs,

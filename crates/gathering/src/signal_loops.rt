@@ -23,7 +23,7 @@ fn numbers_at(alloc: Global, signals: &[u32], places: &[u8]) -> Result<Vec<u32>,
 }
 
 /// Signals by their numbers in the order of declaration, each of which reads the next, and the last the first; the
-/// first is the earliest declared of all that lie on such a loop. None where there is none.
+/// first is the earliest declared of all that lie on such a loop. None if there isn't one.
 pub fn signal_loop(
     alloc: Global,
     signals: &[u32],
@@ -44,7 +44,7 @@ pub fn signal_loop(
 }
 
 /// Signals by their numbers: the first is read by the leaves of a reset, each reads the next, and the last is a
-/// register. None where there are none.
+/// register. None if there aren't any.
 pub fn reset_path(
     alloc: Global,
     signals: &[u32],

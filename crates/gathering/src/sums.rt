@@ -54,15 +54,15 @@ fn part_sum(
     Ok(sum)
 }
 
-/// How a bit is made, from the last step to the first; what comes behind the last one is 0.
+/// How a bit is made, from the last step to the first; what follows the last one is 0.
 #[derive(Clone, Copy, PartialEq, Eq)]
 pub enum Step {
-    /// It holds where a contribution for the part does, and where what comes behind does.
+    /// It holds if a contribution for the part does, and where what follows does.
     Or(Part),
-    /// The complement of what comes behind where that is asked for, else what comes behind.
+    /// The complement of what follows if that is asked for, else what follows.
     NotIf(bool),
-    /// Where don't-care tables and diagrams alone assign the signal, it holds where none of them matches; else it is
-    /// what comes behind.
+    /// Where don't-care tables and diagrams alone assign the signal, it holds if none of them matches; else it is
+    /// what follows.
     Unmatched,
 }
 

@@ -1,4 +1,4 @@
--- Where the counts of names and numbers are not refused, there are as many of both.
+-- If the counts of names and numbers are not refused, there are as many of both.
 use Rattle.std.proofs.Common.{◌≡◌, ℕ, zero, suc, ◌+◌, ◌-◌, ◌≤◌, ◌==◌, nat_le, Bool, true, false, not, ◌||◌, ◌&&◌, Option, Some, None, List, [], ◌∷◌, map, length, if◌then◌else◌, refl, ap, ap₂, ◌∙◌, arith, min}
 use Rattle.placer.proofs.Common.{list_any, range_with_len, nat_tests, length-append, length-map, Item, Span, is_bad, numbers_of, span_numbers, span_count, count_numbers, given_names, refused_if, ranges_refused, counts_refused, counts_differ, none_left, none_right, not_refused}
 use Rattle.abel_tree.specs.declared.words.Number.{Number}

@@ -1,4 +1,4 @@
--- Names that are declared, and the same names with their pins: where nothing is refused of the ones, nothing is of the others.
+-- Names that are declared, and the same names with their pins: if nothing is refused of the ones, nothing is of the others.
 use Rattle.std.proofs.Common.{◌≡◌, ℕ, ◌≤◌, ◌==◌, nat_le, nat_lt, Bool, true, false, not, ◌||◌, ◌&&◌, Option, None, Some, List, [], ◌∷◌, ◌++◌, map, length, if◌then◌else◌, refl, sym, ap, ap₂, subst, ◌∙◌, append_assoc, arith, inl, inr, is_some, unwrap_or}
 use Rattle.placer.proofs.Common.{true≢false, cases_Bool, nat_tests, append-nil, Table, Word, Kind, APin, ANode, AConstant, ADeviceName, Words, Entry, kind_of, Tree, GivenName, entry, no_words, is_unnumbered, pin_entries, constant_entries, is_on_pin, is_taken, refused_if, is_signal_pin, node_limit, number_refused, name_refused, names_refused, kind_append, or_else, any_append, none_left, none_right, not_refused, Extends, same_name, Pinned, is_node}
 use Rattle.decls.specs.declared.fault.NameFault.{NameFault}
@@ -31,7 +31,7 @@ signal_not_zero t n good = not_zero n t.ground_pin t.pins good
     not_zero m g p h = grind (arith, nat_tests)
 
 module _ (t : Table) (whole : List Entry) (pins nodes : Pinned) (dc : List ℕ → Bool) (has : HasPins t whole pins nodes) where
-  -- ---- what comes behind names that are within
+  -- ---- what follows names that are within
 
   pub within_front : (es : List Entry) (e : Entry) (new : List Entry) → IsWithin (es ++ e ∷ new) whole → IsWithin (es ++ e ∷ []) whole
   within_front es e new within = record {
@@ -51,7 +51,7 @@ module _ (t : Table) (whole : List Entry) (pins nodes : Pinned) (dc : List ℕ �
   pub within_next : (es : List Entry) (e : Entry) (new : List Entry) → IsWithin (es ++ e ∷ new) whole → IsWithin ((es ++ e ∷ []) ++ new) whole
   within_next es e new within = subst (λ l. IsWithin l whole) (sym (append_assoc es (e ∷ []) new)) within
 
-  -- the name that stands last is known as what it is declared as
+  -- the name that is last is known as what it is declared as
   kind_last : (es : List Entry) (e : Entry) → is_some (kind_of es e.name) ≡ false → IsWithin (es ++ e ∷ []) whole → kind_of whole e.name ≡ Some e.kind
   kind_last es e new within = within.kinds e.name e.kind (kind_append es (e ∷ []) e.name ∙ (ap (λ o. or_else o (kind_of (e ∷ []) e.name)) (none_of (kind_of es e.name) new) ∙ here))
     where

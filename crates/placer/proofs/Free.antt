@@ -12,7 +12,7 @@ free_is_low t es pin free = low (pin == 0) (pin == t.ground_pin) (nat_lt pin t.p
     low true b c is d e f h = absurd cc
     low false true c is d e f h = absurd cc
 
--- the pins so far are marked where they are free, and no later one is
+-- the pins so far are marked if they are free, and no later one is
 pub record IsFreeTo (t : Table) (es : List Entry) (below free : ℕ) : Type 0 where
   pub met : (pin : ℕ) → pin < 32 → pin < below → is_on (bits 32 free) pin ≡ is_pin_free t es pin
   pub rest : (pin : ℕ) → pin < 32 → below ≤ pin → is_on (bits 32 free) pin ≡ false

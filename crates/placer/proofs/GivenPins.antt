@@ -108,7 +108,7 @@ rising t (e ∷ es) base i j less low = by (needs_pin t e) i j less low (rising 
     by true (suc k) (suc l) less l_in rest = rest k l (omega (arith, less)) (omega (arith, l_in))
     by false k l less l_in rest = rest k l less l_in
 
--- a name that is known stands in the list
+-- a name that is known is in the list
 kind_index : (es : List Entry) (name : List ℕ) (k : Kind) → kind_of es name ≡ Some k → (i : ℕ) × ((i < length es) × (((get_or es i no_name).name ≡ name) × ((get_or es i no_name).kind ≡ k)))
 kind_index [] name k known = absurd cc
 kind_index (e ∷ es) name k known = by (bytes_eq name e.name) refl known (kind_index es name k)
@@ -275,7 +275,7 @@ module _ (t : Table) (m : ModuleTree) (none : name_refusals t m ≡ []) (read : 
   pub all_known : (enabled : ℕ → Bool) → uses_refused (declared_names m) (list_uses (all_released es enabled (with_pins ss ps))) ≡ []
   all_known enabled = released_known enabled ss ps low_signal
 
-  -- nodes become pins where the pin of a register may be Q
+  -- nodes become pins at which the pin of a register may be Q
   pub unpinned_if : always_inverts t ≡ true → (name : List ℕ) → nodes name ≡ None
   unpinned_if inverts name = by (names_any is_node es name) (pins name) refl refl
     where

@@ -19,7 +19,7 @@ left_none pin x some = ap (λ b. map (λ (y : GivenName). item_at y.place y.name
 pub left_one : (pin : Pinned) (x : GivenName) → is_some (pin x.name) ≡ false → items_left pin (x ∷ []) ≡ item_at x.place x.name x.negated ∷ []
 left_one pin x none = ap (λ b. map (λ (y : GivenName). item_at y.place y.name y.negated) (if not b then x ∷ [] else [])) none
 
--- numbers stand, where there are some
+-- numbers are, if there are some
 pub none_given : (pin : Pinned) (names : List Item) (ns : List Span) → (length ns == 0) ≡ true → numbers_for pin names ns ≡ spans_for pin (given_names names)
 none_given pin names [] none = refl
 none_given pin names (n ∷ ns) none = let some : (length (n ∷ ns) == 0) ≡ false = grind (arith, nat_tests) in absurd (true≢false (sym none ∙ some))

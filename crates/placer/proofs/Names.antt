@@ -1,4 +1,4 @@
--- What names stand for, with one name more.
+-- What names represent, with one name more.
 use Rattle.std.proofs.Common.{◌≡◌, ℕ, suc, ◌+◌, ◌<◌, List, [], ◌∷◌, ◌++◌, map, take, length, get_or, min, sym, ap, ◌∙◌, arith}
 use Rattle.placer.proofs.Common.{length-map, length-take, Declared, Named, meant, named_after, named_of, Entry, view_declared, mapped_more, read_after, read_names_of, stands_for}
 

@@ -24,7 +24,7 @@ module _ (pins nodes : Pinned) (dc : List ℕ → Bool) where
   other_section (section.Vectors vectors) no_declarations = refl
   other_section (section.DontCare directive) no_declarations = refl
 
--- ---- one more section, where there are equations
+-- ---- one more section, if there are equations
 
 pub no_equations : (ss : List Stmt) → (length ss == 0) ≡ true → with_equations (map view_stmt ss) ≡ []
 no_equations [] none = refl

@@ -1,4 +1,4 @@
--- Where no node becomes a pin, no more registers are declared `buffer` than before.
+-- If no node becomes a pin, no more registers are declared `buffer` than before.
 use Rattle.std.proofs.Common.{◌≡◌, ℕ, zero, suc, ◌+◌, Bool, true, false, not, ◌&&◌, Option, None, Some, List, [], ◌∷◌, ◌++◌, map, filter, if◌then◌else◌, cond, refl, sym, ap, ap₂, subst, ◌∙◌, append_assoc, is_some, slice_get, bytes_eq}
 use Rattle.placer.proofs.Common.{list_all, flat_map, position_from, position_from-zero, append-nil, Table, Word, Named, Assigned, meant, named_after, named_of, list_assigns, section_assigns, sections_assign, is_clocked_target, Kind, APin, ANode, AConstant, ADeviceName, Words, Entry, find, is_signal, names_any, Declaration, ADevice, SomePins, SomeNodes, SomeAttributes, SomeConstants, SomeOptions, DontCareFor, Statement, SectionTree, Declarations, Equations, ATable, ADiagram, SomeVectors, DontCareSection, ModuleTree, GivenName, given_names, all_said, section_declarations, declared_names, is_registered, always_inverts, buffered, all_buffered, is_register_at, buffers_refused, module_buffers_refused, names_once, read_refusals, names_behind, items_refused, parts_refused, declaration_refused, declarations_refused, none_left, none_right, module_accepted, items_signals, Pinned, node_declaration, unpinned, unpinned_items, placed_declaration, placed_declarations, placed_section, placed_module, with_equations}
 use Rattle.decls.specs.declared.fault.NameFault.TheVariants as fault
@@ -10,7 +10,7 @@ use Rattle.placer.proofs.PlacedSections.{IsReadSo}
 
 -- ---- what sections assign
 
--- a name stands for the same as a target
+-- a name represents the same as a target
 meant_same : (p n : Option ℕ) (k l : Kind) → IsPlacedKind p n k l → (ks : List Named) (s : ℕ) → meant ks s l ≡ meant ks s k
 meant_same p n (APin pin negated) l is ks s = ap (meant ks s) is
 meant_same p None (ANode i) l is ks s = ap (meant ks s) is.1.1

@@ -1,4 +1,4 @@
--- Declarations, and the same with their pins: where nothing is refused of the ones, nothing is of the others.
+-- Declarations, and the same with their pins: if nothing is refused of the ones, nothing is of the others.
 use Rattle.std.proofs.Common.{◌≡◌, ℕ, zero, suc, ◌≤◌, Bool, true, false, not, ◌||◌, ◌&&◌, Option, None, Some, List, [], ◌∷◌, ◌++◌, map, filter, zip, drop, length, if◌then◌else◌, refl, sym, ap, ap₂, subst, ◌∙◌, append_assoc, arith, is_some, unwrap_or, bytes_eq}
 use Rattle.placer.proofs.Common.{list_any, list_all, append-nil, length-map, fold-append, drop-append_seam, Table, Item, Word, Words, Entry, is_signal, names_any, APin, ANode, ADeviceName, numbers_of, Declaration, ADevice, SomePins, SomeNodes, SomeAttributes, SomeConstants, SomeOptions, DontCareFor, all_uses, GivenName, given_names, entry, no_words, all_said, said_by_either, pin_entries, node_entries, constant_entries, node_count, with_words, declared, strings_refused, names_behind, added, words_of_names, refused_if, names_refused, name_refused, ranges_refused, counts_refused, counts_differ, has_numbers, items_refused, is_device, given_count, parts_refused, declaration_refused, declarations_refused, same_bytes, any_append, count_append, none_left, none_right, refused_append, items_signals, Pinned, register_string, item_at, span_at, spans_for, node_declaration, unpinned, unpinned_items, placed_declaration}
 use Rattle.decls.specs.declared.fault.NameFault.TheVariants as fault
@@ -11,12 +11,12 @@ use Rattle.placer.proofs.PlacedNames.{register_words, placed_words, ArePlaced, s
 -- ---- a declaration
 
 module _ (t : Table) (whole : List Entry) (pins nodes : Pinned) (dc : List ℕ → Bool) (has : HasPins t whole pins nodes) where
-  -- these names and declarations are the same, but for pins
+  -- these names and declarations are the same, except for pins
   pub record IsAlong (es : List Entry) (device : Bool) (after : List Declaration) : Type 0 where
     pub names : ArePlaced pins nodes dc es (names_behind after)
     pub device_is : list_any is_device after ≡ device
 
-  -- behind them these declarations are not refused, and lead to these names
+  -- after them these declarations are not refused, and lead to these names
   pub record Steps (es : List Entry) (device : Bool) (after ds : List Declaration) : Type 0 where
     pub none : declarations_refused t after ds ≡ []
     pub along : IsAlong es device (after ++ ds)
@@ -39,7 +39,7 @@ module _ (t : Table) (whole : List Entry) (pins nodes : Pinned) (dc : List ℕ �
       or_false true = refl
       or_false false = refl
 
-  -- where all names have numbers
+  -- if all names have numbers
   all_counted : (es : List Entry) (d : Declaration) (new : List Entry) → given_count es d ≡ length (added es d) → declared es d ≡ es ++ new → names_refused t es (given_count es d) new ≡ names_refused t es (length new) new
   all_counted es d new count adds = ap (λ k. names_refused t es k new) (count ∙ ap length (added_is es d new adds))
 

@@ -6,7 +6,7 @@ use Rattle.decls.specs.declared.fault.NameFault.TheVariants as fault
 
 -- ---- one name
 
--- the number that it is given, where it has none
+-- the number that it is given, if it has none
 abbrev pub given : Option ℕ → (pin : ℕ) → ℕ
 given p pin = if pin == 0 then unwrap_or p 0 else pin
 

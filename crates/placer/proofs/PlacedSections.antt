@@ -1,4 +1,4 @@
--- A module, and the same with its pins: where nothing is refused of what is declared and used in the one, nothing is in the
+-- A module, and the same with its pins: if nothing is refused of what is declared and used in the one, nothing is in the
 -- other.
 use Rattle.std.proofs.Common.{◌≡◌, ℕ, Bool, true, false, ◌||◌, List, [], ◌∷◌, ◌++◌, map, zip, length, refl, sym, ap, ap₂, subst, ◌∙◌, append_assoc}
 use Rattle.placer.proofs.Common.{list_any, append-nil, fold-append, Table, ADeviceName, Entry, numbers_of, Declaration, ADevice, SomePins, SomeNodes, SomeAttributes, SomeConstants, SomeOptions, DontCareFor, Statement, SectionTree, Declarations, Equations, ATable, ADiagram, SomeVectors, DontCareSection, ModuleTree, Use, section_uses, list_uses, given_names, entry, no_words, all_said, pin_entries, node_entries, constant_entries, node_count, declared, section_declarations, declared_names, names_behind, is_on_pin, is_taken, sections_refused, read_refusals, is_device, declaration_refused, declarations_refused, uses_refused, any_append, none_left, none_right, extends_behind, Pinned, placed_declaration, placed_declarations, placed_section, placed_module, with_equations}
@@ -27,7 +27,7 @@ taken_behind front (d ∷ back) n on =
     subst (λ l. is_taken (names_behind l) n ≡ true) (append_assoc front (d ∷ []) back)
     (taken_behind (front ++ d ∷ []) back n (ap (λ l. is_taken l n) (fold-append declared [] front (d ∷ [])) ∙ taken_more (names_behind front) d n on))
 
--- the names behind some of these declarations are within those behind all of them
+-- the names after some of these declarations are within those after all of them
 within_behind : (front back : List Declaration) → IsWithin (names_behind front) (names_behind (front ++ back))
 within_behind front back = record { kinds = extends_behind front back; taken = taken_behind front back }
 

@@ -39,7 +39,7 @@ length_settled flip held found base (e ∷ es) = ap suc (length_settled flip hel
 
 -- ---- one signal
 
--- on this pin it is the same, but for the pin
+-- on this pin it is the same, except for the pin
 pub record IsOnPin (x f : Entry) (pin : ℕ) : Type 0 where
   pub negated : Bool
   pub kind : f.kind ≡ APin pin negated

@@ -21,7 +21,7 @@ numbered_placed pins nodes dc [] (f ∷ fs) are = absurd are
 numbered_placed pins nodes dc (e ∷ es) [] are = absurd are
 numbered_placed pins nodes dc (e ∷ es) (f ∷ fs) are = ap₂ (λ a b. a || b) are.0.numbered (numbered_placed pins nodes dc es fs are.1)
 
--- where nothing is to be placed, each pin has a number
+-- if nothing is to be placed, each pin has a number
 none_needed : (t : Table) (s : ℕ) (es : List Entry) → to_place_from t s es ≡ [] → list_any (λ (e : Entry). is_unnumbered e.kind) es ≡ false
 none_needed t s [] none = refl
 none_needed t s (e ∷ es) none = by (needs_pin t e) refl none (none_needed t (suc s) es)
@@ -61,7 +61,7 @@ module _ (t : Table) (m : ModuleTree) (none : name_refusals t m ≡ []) (ps : Li
     numbered = numbered_settled t with_all ∙ ap not (numbered_placed (pin_of es xs) (node_pin_of es xs) (dc_of es) (declared_names m) (declared_names with_all) read_so.names);
   }
 
-  -- where there are none, the module itself
+  -- if there aren't any, the module itself
   nothing_placed : to_place t es ≡ [] → HasNumberedNames t m
   nothing_placed empty = record { none = none; numbered = ap not (none_needed t 0 es empty) }
 

@@ -10,13 +10,13 @@ use Rattle.design_checks.proofs.UsesRead.{extended_uses, names_are_read, under}
 use Rattle.placer.proofs.PartsRead.{sections_read}
 use Rattle.placer.proofs.UsedSignals.{names_signals}
 
--- where each gives one that passes in both ways, so do all
+-- if each gives one that passes in both ways, so do all
 alike : {X A B : Type 0} (p : A → Bool) (q : B → Bool) (f : X → List A) (g : X → List B) → ((x : X) → list_any p (f x) ≡ list_any q (g x)) → (xs : List X) → list_any p (flat_map f xs) ≡ list_any q (flat_map g xs)
 alike p q f g same [] = refl
 alike p q f g same (x ∷ xs) = list_any-append p (f x) (flat_map f xs) ∙ (ap₂ (λ a b. a || b) (same x) (alike p q f g same xs) ∙ sym (list_any-append q (g x) (flat_map g xs)))
 
 module _ (s : ℕ) where
-  -- the uses read the signal, wherever they stand, and the numbers have it
+  -- the uses read the signal, wherever they are, and the numbers have it
   abbrev read_by : List SignalUse → Bool
   read_by us = list_any (λ (u : SignalUse). u.signal == s) us
 
@@ -36,7 +36,7 @@ module _ (s : ℕ) where
 
   -- ---- names
 
-  -- each name stands for the same in both lists, as far as the signal is read
+  -- each name represents the same in both lists, as far as the signal is read
   abbrev pub AreAlike : List Known → List Named → Type 0
   AreAlike [] [] = Unit {0}
   AreAlike [] (n ∷ ns) = ⊥

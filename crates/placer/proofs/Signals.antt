@@ -2,7 +2,7 @@
 use Rattle.std.proofs.Common.{◌≡◌, ◌≢◌, ℕ, ◌+◌, ◌<◌, ◌≤◌, ◌==◌, Bool, true, false, ◌||◌, List, [], ◌∷◌, length, get_or, set, refl, sym, ap, subst, ◌∙◌, arith, get_or-set_same, get_or-set_other, inl, inr}
 use Rattle.placer.proofs.Common.{cases_eq, bits, is_on, is_on-zero, length-bits, HasMark}
 
--- the places so far are marked where they are the number's, and no later one is
+-- the places so far are marked if they are the number's, and no later one is
 pub record IsMarkedTo (signals : List ℕ) (number place mark : ℕ) : Type 0 where
   pub met : (k : ℕ) → k < length signals → k < place → is_on (bits 32 mark) k ≡ (number == get_or signals k 0)
   pub rest : (k : ℕ) → k < 32 → place ≤ k → is_on (bits 32 mark) k ≡ false

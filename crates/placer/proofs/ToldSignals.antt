@@ -1,4 +1,4 @@
--- The first of the signals that can't be placed stands among the names.
+-- The first of the signals that can't be placed is among the names.
 use Rattle.std.proofs.Common.{rules, ◌≡◌, ℕ, suc, ◌<◌, true, List, [], ◌∷◌, length, get_or, map, take, arith}
 use Rattle.placer.proofs.Common.{length-map, length-take, Table, has, Entry, ModuleTree, no_name, names_of, IsCrowded, HasNoPlacement, module_wishes, is_read, to_place, wish}
 use Rattle.placer.proofs.GivenPins.{placed_from}

@@ -8,13 +8,13 @@ use Rattle.placer.specs.Reads.{is_read}
 use Rattle.placer.specs.Placements.{IsPlacedModule}
 use Rattle.placer.specs.Signals.{is_pin_free, pin_fits, to_place, wishes}
 
--- where it is assigned, its cell can be what it is
+-- if it is assigned, its cell can be what it is
 abbrev pub FittingHaveKinds : Type 0
 FittingHaveKinds =
     (t : Table) (read : Bool) (x : Entry) (pin : ℕ) (negated : Bool) → pin_fits t read x pin ≡ true → x.assigned ≡ true
     → has_wrong_kind t (record x { kind = APin pin negated }) ≡ false
 
--- where it is read, its bare name has a column
+-- if it is read, its bare name has a column
 abbrev pub FittingHavePaths : Type 0
 FittingHavePaths =
     (t : Table) (read : Bool) (x : Entry) (pin : ℕ) (negated : Bool) → pin_fits t read x pin ≡ true → read ≡ true
@@ -47,8 +47,8 @@ pub record HasNumberedNames (t : Table) (placed : ModuleTree) : Type 0 where
 abbrev pub PlacedNamesAreNumbered : Type 0
 PlacedNamesAreNumbered = (t : Table) (m placed : ModuleTree) → IsPlacedModule t m placed → HasNumberedNames t placed
 
--- the signal of this number has a cell that can be what it is, where it is assigned, and a column for its bare name, where
--- it is read
+-- the signal of this number has a cell that can be what it is, if it is assigned, and a column for its bare name, if it is
+-- read
 pub record IsFollowed (t : Table) (m placed : ModuleTree) (signal : ℕ) : Type 0 where
   pub kind : (get_or (names_of t placed) signal no_name).assigned ≡ true → has_wrong_kind t (get_or (names_of t placed) signal no_name) ≡ false
   pub path : is_read (names_of t m) m.sections signal ≡ true → has_read_path t (get_or (names_of t placed) signal no_name) None ≡ true

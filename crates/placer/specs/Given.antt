@@ -29,7 +29,7 @@ node_given es g = placements.node_pin_of es (pins_given g)
 abbrev pub items_left : Pinned → List GivenName → List Item
 items_left pin xs = map (λ (x : GivenName). item_at x.place x.name x.negated) (filter (λ (x : GivenName). not (is_some (pin x.name))) xs)
 
--- what stands for declarations, and for a section
+-- what represents declarations, and for a section
 abbrev pub declaration_given : List Entry → PlacedPins → Declaration → List Declaration
 declaration_given es g d = placed_declaration (pin_given es g) (node_given es g) (placements.dc_of es) d
 
@@ -43,6 +43,6 @@ section_given es g x = placed_section (pin_given es g) (node_given es g) (placem
 abbrev pub released_if : Entry → (is_enabled : Bool) → List Statement
 released_if x is_enabled = if placements.is_node x.kind && not is_enabled then released x.place x.name ∷ [] else []
 
--- what stands for a module with these equations more
+-- what represents a module with these equations more
 abbrev pub module_given : List Entry → PlacedPins → List Statement → ModuleTree → ModuleTree
 module_given es g more m = placed_module (pin_given es g) (node_given es g) (placements.dc_of es) more m

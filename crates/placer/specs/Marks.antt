@@ -1,4 +1,4 @@
--- Marks of names: which of some signals each of them stands for.
+-- Marks of names: which of some signals each of them represents.
 use Rattle.std.specs.Prelude.{◌≡◌, ℕ, ◌<◌, ◌≤◌, ◌==◌, Bool, Option, None, Some, List, [], ◌∷◌, if◌then◌else◌, length, get_or, bytes_eq}
 use Rattle.placer.specs.Prelude.{bit_or, flat_map, list_any, bits, is_on, Named, PartTree}
 use Rattle.declared_names.specs.Numbered.{number_in}
@@ -17,7 +17,7 @@ HasMark signals numbers mark = HasMarks signals (λ s. list_any (λ n. n == s) n
 
 -- ---- names
 
--- the numbers that a name stands for, if it is known
+-- the numbers that a name represents, if it is known
 abbrev pub numbers_named : List Named → List ℕ → Option (List ℕ)
 numbers_named [] name = None
 numbers_named (k ∷ ks) name = if bytes_eq name k.name then Some k.signals else numbers_named ks name
@@ -32,7 +32,7 @@ HasSameMark signals _ _ = ⊥
 abbrev pub AreMarks : (signals : List ℕ) → List Named → Marks → Type 0
 AreMarks signals ks m = (name : List ℕ) → HasSameMark signals (numbers_named ks name) (number_in m.map.entries name)
 
--- the mark is that of the numbers that something names, whatever names stand for
+-- the mark is that of the numbers that something names, whatever names represent
 abbrev pub IsMarkOf : Marks → (List Named → List ℕ) → (mark : ℕ) → Type 0
 IsMarkOf m numbers mark =
     (signals : List ℕ) (ks : List Named) → length signals ≤ 32 → AreMarks signals ks m → HasMark signals (numbers ks) mark

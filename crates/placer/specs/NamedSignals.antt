@@ -13,14 +13,14 @@ signals_used ks (Range first last) = signals_of_names ks (range_names first.text
 abbrev pub signals_in : List Named → Tree → List ℕ
 signals_in ks t = flat_map (signals_used ks) (uses t)
 
--- a signal is itself, and a constant stands for its expression over the names before it
+-- a signal is itself, and a constant represents its expression over the names before it
 abbrev pub stands_for : List Named → ℕ → Kind → List ℕ
 stands_for ks s (APin pin negated) = s ∷ []
 stands_for ks s (ANode number) = s ∷ []
 stands_for ks s (AConstant value) = signals_in ks value
 stands_for ks s ADeviceName = []
 
--- names behind these, the first of which has this number
+-- names after these, the first of which has this number
 abbrev pub read_after : List Named → ℕ → List Entry → List Named
 read_after ks s [] = ks
 read_after ks s (e ∷ es) = read_after (ks ++ record { name = e.name; signals = stands_for ks s e.kind } ∷ []) (suc s) es

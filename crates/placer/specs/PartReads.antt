@@ -10,7 +10,7 @@ use Rattle.placer.specs.Reads.{is_enable}
 abbrev pub signals_at : List Named → UsedName → List ℕ
 signals_at ks u = signals_used ks (use_of u)
 
--- what stands there in this role is read
+-- what is there in this role is read
 abbrev pub reads_as : PartRole → Bool
 reads_as (Value target) = true
 reads_as Read = true

@@ -52,12 +52,12 @@ unpinned pin names = filter (λ (x : GivenName). not (is_some (pin x.name))) (gi
 abbrev pub unpinned_items : Pinned → List Item → List Item
 unpinned_items pin names = map (λ (x : GivenName). item_at x.place x.name x.negated) (unpinned pin names)
 
--- the numbers that stand, or else those of the names' pins
+-- the numbers that are there, or else those of the names' pins
 abbrev pub numbers_for : Pinned → List Item → List Span → List Span
 numbers_for pin names [] = spans_for pin (given_names names)
 numbers_for pin names (n ∷ ns) = n ∷ ns
 
--- pins get their numbers; nodes stand one by one, and those that become pins have no other attributes than their own
+-- pins get their numbers; nodes are one by one, and those that become pins have no other attributes than their own
 abbrev pub placed_declaration : (pins nodes : Pinned) → (dc : List ℕ → Bool) → Declaration → List Declaration
 placed_declaration pins nodes dc (SomePins names numbers attributes) = SomePins names (numbers_for pins names numbers) attributes ∷ []
 placed_declaration pins nodes dc (SomeNodes names numbers attributes) = map (node_declaration nodes dc attributes) (given_names names)
@@ -78,7 +78,7 @@ abbrev pub released : Place → List ℕ → Statement
 released p name =
     AnAssign p false (AName (record { text = name; place = p }) (Some extension.Oe)) sign.Equal p (ANumber (record { value = 0; place = p }))
 
--- one more section, where there is something in it
+-- one more section, if there is something in it
 abbrev pub with_equations : List Statement → List SectionTree
 with_equations [] = []
 with_equations (s ∷ ss) = Equations (s ∷ ss) ∷ []

@@ -48,7 +48,7 @@ all_released es enabled (x ∷ xs) =
 abbrev pub module_wishes : Table → ModuleTree → List (List ℕ)
 module_wishes t m = wishes t (names_of t m) (is_read (names_of t m) m.sections)
 
--- it with these pins: itself where there are none
+-- it with these pins: itself if there aren't any
 abbrev pub placed_with : List Entry → Pins → ModuleTree → ModuleTree
 placed_with es [] m = m
 placed_with es (x ∷ xs) m =

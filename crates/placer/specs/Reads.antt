@@ -21,7 +21,7 @@ abbrev pub is_enable : Option Extension → Bool
 is_enable (Some extension.Oe) = true
 is_enable _ = false
 
--- the target is its enable, maybe in a set or behind a constant
+-- the target is its enable, maybe in a set or after a constant
 abbrev pub enables : List Named → (signal : ℕ) → Part → Bool
 enables names s (AValue t) = false
 enables names s (ATarget target) = enables_if (is_enable (target_extension target))

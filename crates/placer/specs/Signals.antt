@@ -7,7 +7,7 @@ use Rattle.pld_device.specs.declared.enable.Enable.TheVariants.{Row, PinLow}
 
 -- ---- signals
 
--- a node that is a register and assigned needs a cell, where the pin of a register may be Q
+-- a node that is a register and assigned needs a cell, if the pin of a register may be Q
 abbrev pub is_buried_register : Table → Entry → Bool
 is_buried_register t x = is_buffer_by_default t.flip && (is_registered_node x && x.assigned)
 

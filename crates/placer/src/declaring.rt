@@ -51,7 +51,7 @@ impl PlacedPins {
         alone(alloc, decl)
     }
 
-    /// What stands for a declaration.
+    /// What represents a declaration.
     fn placed_declaration(
         &self,
         alloc: Global,
@@ -80,7 +80,7 @@ impl PlacedPins {
         }
     }
 
-    /// What stands for declarations.
+    /// What represents declarations.
     pub(crate) fn placed_declarations(
         &self,
         alloc: Global,
@@ -108,7 +108,7 @@ fn alone(alloc: Global, decl: Decl) -> Result<Vec<Decl>, OutOfMemory>
     Ok(list)
 }
 
-/// Adds declarations behind others.
+/// Adds declarations after others.
 fn append(list: &mut Vec<Decl>, more: Vec<Decl>) -> Result<(), OutOfMemory>
     ensures { OnOk result (list.new.items ≡ list.old.items ++ more.items) }
 {

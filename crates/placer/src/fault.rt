@@ -7,8 +7,8 @@ use thiserror::Error;
 /// Why a module can't be placed.
 #[derive(Drop, Error)]
 pub enum PlaceFault {
-    /// Too few free pins fit these signals, which are told by their numbers, in rising order; `places` is how many fit some
-    /// of them.
+    /// Too few free pins fit these signals, which are given by their numbers, in rising order; `places` is how many fit
+    /// some of them.
     #[error("too few pins")]
     NoPlacement { signals: Vec<usize>, places: usize },
     /// Memory ran out.

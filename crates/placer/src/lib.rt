@@ -34,7 +34,8 @@ use pld_base::OutOfMemory;
 pub use seen::Seen;
 use std::alloc::Global;
 
-/// Which of the signals, told by their numbers, a module with these names reads, and of which it assigns the enable.
+/// Which of the signals, given by their numbers, a module with these names reads, and of which it assigns the
+/// enable.
 pub fn seen_in(
     alloc: Global,
     names: &[Declared],

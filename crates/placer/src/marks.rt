@@ -1,4 +1,4 @@
-//! What names stand for among some signals.
+//! What names represent among some signals.
 //!
 //! A mark is a number of 32 bits: bit k is that of the signal at place k of those that are asked for.
 
@@ -55,7 +55,7 @@ impl Marks {
         Ok(())
     }
 
-    /// The mark of a name, 0 where it is not known.
+    /// The mark of a name, 0 if it is not known.
     pub(crate) fn of_name(&self, name: &[u8]) -> u32
         ensures { IsMarkOf self.now (λ ks. signals_of_name ks name.now) result }
     {

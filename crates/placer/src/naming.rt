@@ -20,7 +20,7 @@ pub(crate) fn item_of(alloc: Global, name: &Given) -> Result<Item, OutOfMemory>
 }
 
 impl PlacedPins {
-    /// The number of a name, 0 where it was given none.
+    /// The number of a name, 0 if it was given none.
     fn number_of(&self, names: &[Declared], name: &Given) -> u32
         requires { IsEachPinned (length names.now) self.now }
         ensures { result ≡ unwrap_or (pin_given (map view_declared names.now) self.now name.now.name.items) 0 }
@@ -61,7 +61,7 @@ impl PlacedPins {
         self.spans_of(alloc, names, given.as_slice())
     }
 
-    /// The numbers that stand, or else those of the pins that the names were given.
+    /// The numbers that are there, or else those of the pins that the names were given.
     pub(crate) fn numbers_for(
         &self,
         alloc: Global,

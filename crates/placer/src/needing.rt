@@ -15,7 +15,7 @@ use std::alloc::Global;
 /// How many signals are looked at: no device has as many pins, so that already these can't all be placed.
 const MOST: usize = 32;
 
-/// Whether the pin of a register may be Q where nothing is said of it.
+/// Whether the pin of a register may be Q if nothing is said of it.
 fn is_buffer_by_default(flip: Flip) -> bool
     ensures { result ≡ is_buffer_by_default flip }
 {

@@ -31,8 +31,8 @@ fn is_enable(target: &Expr) -> bool
     }
 }
 
-/// Whether what stands in a section in this role is read: a value, a condition, the inputs of a table, and the registers of
-/// a diagram.
+/// Whether what is in a section in this role is read: a value, a condition, the inputs of a table, and the registers of a
+/// diagram.
 fn reads_as(role: Role<'_>) -> bool
     ensures { result ≡ reads_as (view_role role.entry) }
 {
@@ -46,7 +46,7 @@ fn reads_as(role: Role<'_>) -> bool
     }
 }
 
-/// Whether what stands there in this role is an equation's target that is an enable.
+/// Whether what is there in this role is an equation's target that is an enable.
 fn is_enabling(role: Role<'_>, expr: &Expr) -> bool
     ensures { result ≡ is_enabling (view_role role.entry) (view expr.now) }
 {

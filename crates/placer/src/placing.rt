@@ -60,7 +60,7 @@ fn refusal(
     })
 }
 
-/// Why signals, told by their numbers, can't all be placed.
+/// Why signals, given by their numbers, can't all be placed.
 fn unplaced(alloc: Global, signals: &[usize], fault: Unplaced) -> Result<PlaceFault, OutOfMemory>
     ensures { IfOk result (λ f. (wishes : List (List ℕ)) → IsRefusal wishes fault → TellsKeptSet signals.now wishes f) }
 {
@@ -131,7 +131,7 @@ fn place_signals<D: Device>(
     }
 }
 
-/// The module with a pin for each pin without a number and each buried register: itself where there are none. The names
+/// The module with a pin for each pin without a number and each buried register: itself if there aren't any. The names
 /// are what `declare` answers for it.
 pub fn place<D: Device>(alloc: Global, source: Module, names: &Names) -> Result<Module, PlaceFault>
     requires names { entries_of names.now ≡ names_of D.table (view_module source) }

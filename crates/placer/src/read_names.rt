@@ -11,7 +11,7 @@ use indexmap::IndexMap;
 use pld_base::OutOfMemory;
 use std::alloc::Global;
 
-/// What names stand for where an expression reads them, and where a target names them.
+/// What names represent if an expression reads them, and if a target names them.
 #[derive(Drop)]
 pub(crate) struct Naming {
     pub(crate) reading: Marks,
@@ -19,7 +19,7 @@ pub(crate) struct Naming {
 }
 
 impl Naming {
-    /// The mark of what a name stands for where it is read: a signal stands for itself, a constant for what its expression
+    /// The mark of what a name represents if it is read: a signal represents itself, a constant for what its expression
     /// names.
     fn read_mark(
         &self,
@@ -39,7 +39,7 @@ impl Naming {
         }
     }
 
-    /// The mark of what it stands for as a target.
+    /// The mark of what it represents as a target.
     fn target_mark(
         &self,
         alloc: Global,
@@ -77,7 +77,7 @@ impl Naming {
     }
 }
 
-/// What the names stand for among these signals.
+/// What the names represent among these signals.
 pub(crate) fn naming_of(
     alloc: Global,
     names: &[Declared],

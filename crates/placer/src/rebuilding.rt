@@ -38,7 +38,7 @@ fn add_released(
 }
 
 impl PlacedPins {
-    /// The equations that release the pins of nodes; `enabled` has bit k where the enable of the signal at place k is
+    /// The equations that release the pins of nodes; `enabled` has bit k if the enable of the signal at place k is
     /// assigned.
     fn all_released(
         &self,
@@ -72,7 +72,7 @@ impl PlacedPins {
         Ok(Section::Declarations(placed))
     }
 
-    /// What stands for a section.
+    /// What represents a section.
     fn placed_section(
         &self,
         alloc: Global,
@@ -88,7 +88,7 @@ impl PlacedPins {
         }
     }
 
-    /// What stands for sections.
+    /// What represents sections.
     fn placed_sections(
         &self,
         alloc: Global,
@@ -106,7 +106,7 @@ impl PlacedPins {
         Ok(list)
     }
 
-    /// The module with the pins, and with these equations behind all else.
+    /// The module with the pins, and with these equations after all else.
     fn placed_module(
         &self,
         alloc: Global,
@@ -138,8 +138,8 @@ impl PlacedPins {
         })
     }
 
-    /// The module with the pins, whose nodes among them are released; `enabled` has bit k where the enable of the signal
-    /// at place k is assigned.
+    /// The module with the pins, whose nodes among them are released; `enabled` has bit k if the enable of the signal at
+    /// place k is assigned.
     pub(crate) fn rebuilt(
         &self,
         alloc: Global,
@@ -156,7 +156,7 @@ impl PlacedPins {
     }
 }
 
-/// One more section, where there are equations for it.
+/// One more section, if there are equations for it.
 fn with_equations(
     mut sections: Vec<Section>,
     equations: Vec<Stmt>,

@@ -60,7 +60,7 @@ fn wish_of<D: Device>(
     wanted_of::<D>(alloc, declared, free, read, pins.as_slice())
 }
 
-/// Those of signals, told by their numbers; `read` has bit k where the signal at place k is read.
+/// Those of signals, given by their numbers; `read` has bit k if the signal at place k is read.
 pub(crate) fn wishes_of<D: Device>(
     alloc: Global,
     names: &[Declared],

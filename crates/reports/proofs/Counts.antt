@@ -30,7 +30,7 @@ sum_next f a n =
 pub count_next : (p : ℕ → Bool) (a n : ℕ) → count_by p (range_with_len a (n + 1)) ≡ count_by p (range_with_len a n) + counted (p (a + n))
 count_next p a n = sum_next (λ x. counted (p x)) a n
 
--- one number more, which counts where it passes
+-- one number more, which counts if it passes
 pub one_more : (p : ℕ → Bool) (a n k count used : ℕ) (b : Bool) → a + n ≡ k → count ≡ count_by p (range_with_len a n) → used ≡ counted b → b ≡ p k → count + used ≡ count_by p (range_with_len a (n + 1))
 one_more p a n k count used b at before is here =
     let same : counted b ≡ counted (p (a + n)) = ap counted (here ∙ ap p (sym at)) in

@@ -1,4 +1,4 @@
--- Names that are assigned, one behind the other.
+-- Names that are assigned, one after the other.
 use Rattle.std.proofs.Common.{◌≡◌, ℕ, ◌+◌, ◌<◌, Bool, true, false, ◌||◌, List, [], ◌∷◌, ◌++◌, length, drop, get_or, map, Some, None, Bor, bytes_eq, filter_map, if◌then◌else◌, refl, sym, ap, ap₂, ◌∙◌, append_assoc}
 use Rattle.std.specs.List.{list_any}
 use Rattle.std.proofs.lemmas.List.{drop_more}
@@ -23,7 +23,7 @@ pub seen_as : (name bytes : List ℕ) (seen slice : List (Bor (List ℕ))) (is :
 seen_as name bytes seen slice is e same told =
     told ∙ (ap₂ (λ (n : List ℕ) (xs : List (Bor (List ℕ))). list_any (λ (s : Bor (List ℕ)). bytes_eq n s.now) xs) e same ∙ seen_at name seen)
 
--- an assignment of a name that is seen is told
+-- an assignment of a name that is seen is reported
 pub second_told : (seen : List (List ℕ)) (w : Word) (ws : List Word) (before : List Warning) → true ≡ list_any (bytes_eq w.text) seen
     → (before ++ warned SecondAssignment w.place w.text ∷ []) ++ seconds seen ws ≡ before ++ seconds seen (w ∷ ws)
 second_told seen w ws before is =
@@ -48,7 +48,7 @@ pub names_skip : (statements : List Stmt) (k : ℕ) (s : Stmt) → k < length st
     → names_from statements k ≡ names_from statements (k + 1)
 names_skip statements k s low at is = rw (drop_more statements k s low, at, sym is) refl
 
--- a test of sections by what they stand for
+-- a test of sections by what they represent
 any_viewed : (xs : List Section) → list_any (λ (s : Section). is_vectors (view_section s)) xs ≡ list_any is_vectors (map view_section xs)
 any_viewed [] = refl
 any_viewed (x ∷ xs) = ap (λ b. is_vectors (view_section x) || b) (any_viewed xs)

@@ -19,7 +19,7 @@ view_binary : (s : Binary) (p : Place) (l r : Expr) → view (expr.Binary s p l 
 unfolding expr.roll-Expr denote.Hole.Carrier.roll
 view_binary s p l r = fold-roll-Expr Tree SetMember expr_layer member_layer (open_expr.Binary s p l r)
 
--- an operator and its right side are told, and its left side is left
+-- an operator and its right side are reported, and its left side is left
 pub sums_down : (es : List Entry) (s : Binary) (p : Place) (l r : Expr) (before told after all : List Warning) → told ≡ before ++ sum_if (is_sum es s (view l) (view r)) p
     → after ≡ told ++ sums_in es (view r) → before ++ sums_in es (view (expr.Binary s p l r)) ≡ all → after ++ sums_in es (view l) ≡ all
 sums_down es s p l r before told after all here right so =

@@ -1,4 +1,4 @@
--- The words of a string, one behind the other.
+-- The words of a string, one after the other.
 use Rattle.std.proofs.Common.{◌≡◌, ℕ, suc, ◌+◌, ◌<◌, ◌≤◌, Bool, true, false, nat_lt, List, [], ◌∷◌, ◌++◌, length, take, drop, Option, Some, None, cond, if◌then◌else◌, filter_map, refl, sym, ap, ◌∙◌, subst, arith, append_assoc}
 use Rattle.std.proofs.lemmas.Bool.{ltb-false}
 use Rattle.std.proofs.lemmas.List.{drop_all, take_all}
@@ -8,7 +8,7 @@ use Rattle.reports.proofs.Common.{option_to_list}
 use Rattle.reports.specs.Warnings.{is_separator, with_first, words_in}
 use Rattle.reports.specs.declared.warning.Warning.{Warning}
 
--- where the first separator is, or the end
+-- if the first separator is, or the end
 abbrev ended : List ℕ → ℕ
 ended [] = 0
 ended (b ∷ bs) = if is_separator b then 0 else suc (ended bs)
@@ -67,7 +67,7 @@ option_first : {X : Type 0} (o : Option X) (xs : List X) → cons_option o xs �
 option_first None xs = refl
 option_first (Some x) xs = refl
 
--- one word more is told
+-- one word more is reported
 pub word_told : (h : List ℕ → Option Warning) (word : List ℕ) (text behind : List ℕ) (before after all : List Warning) → words_in text ≡ word ∷ words_in behind
     → after ≡ before ++ option_to_list (h word) → before ++ filter_map h (words_in text) ≡ all → after ++ filter_map h (words_in behind) ≡ all
 word_told h word text behind before after all first told so =

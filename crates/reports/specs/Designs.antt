@@ -1,4 +1,4 @@
--- How each refusal of a design is told; want of memory is no refusal (this project's report).
+-- How each refusal of a design is reported; lack of memory is no refusal (this project's report).
 use Rattle.std.specs.Prelude.{ℕ, Option, None, List, [], ◌∷◌, codes}
 use Rattle.reports.specs.Prelude.{Entry}
 use Rattle.design_checks.specs.declared.fault.DesignFault.{DesignFault}

@@ -1,4 +1,4 @@
--- How it is told that a netlist doesn't fit; want of memory is no refusal (this project's report).
+-- How it is reported that a netlist doesn't fit; lack of memory is no refusal (this project's report).
 use Rattle.std.specs.Prelude.{ℕ, Option, None, Some, List, [], ◌∷◌, ◌++◌, codes, length}
 use Rattle.reports.specs.Prelude.{decimal, flat_map, option_to_list, Table, cell_at, Entry, Ranks, first_refusal, cell_wanted, own_control}
 use Rattle.std.specs.Global.{Vec}
@@ -51,7 +51,7 @@ abbrev pub enable_text : List Entry → Option CellWanted → Option (List ℕ)
 enable_text es None = None
 enable_text es (Some w) = control_text es (codes "EnableTooWide") w.enable (w.name ∷ [])
 
--- how many rows a cover has; none was tried where the cell may not have the form, or its lists are too long
+-- how many rows a cover has; none was tried if the cell may not have the form, or its lists are too long
 abbrev pub count_text : Option (Vec Cube) → List ℕ
 count_text None = codes "-"
 count_text (Some rows) = decimal (length rows.items)
@@ -67,7 +67,7 @@ room_text t es tried None = None
 room_text t es tried (Some w) =
     Some (line_head (codes "TooManyProducts") w.place ++ (names_text es (w.name ∷ []) ++ tried_text (cell_at t w.cell).room tried))
 
--- the line of a refusal of the fit; none for want of memory
+-- the line of a refusal of the fit; none for lack of memory
 abbrev pub fit_text : Table → List Entry → Netlist → FitFault → Option (List ℕ)
 fit_text t es net (fault.TooWide c) = wide_text es (cell_wanted net c)
 fit_text t es net (fault.NotShared which a b point) = unshared_text es which (cell_wanted net a) (cell_wanted net b)

@@ -1,10 +1,10 @@
--- How it is told that signals can't be placed (this project's report).
+-- How it is reported that signals can't be placed (this project's report).
 use Rattle.std.specs.Prelude.{ℕ, Option, None, List, [], ◌∷◌, ◌++◌, codes, slice_get, option_map}
 use Rattle.reports.specs.Prelude.{decimal, Place, Entry}
 use Rattle.reports.specs.RefusalTold.{line_head}
 use Rattle.reports.specs.DesignTold.{names_text}
 
--- where the first of them is declared
+-- the declaration of the first of them
 abbrev pub first_place : List Entry → (signals : List ℕ) → Option Place
 first_place es [] = None
 first_place es (s ∷ ss) = option_map (λ (e : Entry). e.place) (slice_get es s)

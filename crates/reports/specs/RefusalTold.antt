@@ -1,8 +1,8 @@
--- How a refusal of a source is told (this project's report).
+-- How a refusal of a source is reported (this project's report).
 use Rattle.std.specs.Prelude.{ℕ, Option, None, Some, List, [], ◌∷◌, ◌++◌, codes}
 use Rattle.reports.specs.Prelude.{decimal, Place}
 
--- the word of a refusal, its place, and the name that is told with it
+-- the word of a refusal, its place, and the name that is reported with it
 pub record Telling : Type 0 where
   pub word : List ℕ
   pub place : Place

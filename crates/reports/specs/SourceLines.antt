@@ -1,4 +1,4 @@
--- How each refusal of a source is told; want of memory is no refusal (this project's report).
+-- How each refusal of a source is reported; lack of memory is no refusal (this project's report).
 use Rattle.std.specs.Prelude.{ℕ, Option, None, Some, List, slice_get, codes}
 use Rattle.reports.specs.Prelude.{option_map, Entry}
 use Rattle.abel_lexer.specs.declared.fault.ScanFault.{ScanFault}

@@ -1,4 +1,4 @@
--- What of a source is rarely meant, in the order in which it is told (this project's rule: docs/MANUAL.md).
+-- What of a source is rarely meant, in the order in which it is reported (this project's rule: docs/MANUAL.md).
 use Rattle.std.specs.Prelude.{ℕ, Bool, true, false, ◌&&◌, Option, None, Some, List, [], ◌∷◌, ◌++◌, if◌then◌else◌, bytes_eq, codes, filter_map}
 use Rattle.std.specs.List.{flat_map, list_any}
 use Rattle.std.specs.Str.{str_eq_ignore_ascii_case}
@@ -38,7 +38,7 @@ abbrev pub is_plus : Binary → Bool
 is_plus binary.Plus = true
 is_plus _ = false
 
--- an operator that is `+` between single operands, and what is told of it
+-- an operator that is `+` between single operands, and what is reported of it
 abbrev pub is_sum : List Entry → Binary → (left right : Tree) → Bool
 is_sum es sign t u = is_plus sign && (is_single es t && is_single es u)
 

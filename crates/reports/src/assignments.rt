@@ -34,7 +34,7 @@ fn is_seen(seen: &[&[u8]], name: &[u8]) -> bool
     seen.iter().any(|other| name == *other)
 }
 
-/// Tells an assignment of a name that was seen; else the name is seen from now on.
+/// Gives an assignment of a name that was seen; else the name is seen from now on.
 fn find_second<'a>(
     found: &mut Found,
     seen: &mut Vec<&'a [u8]>,

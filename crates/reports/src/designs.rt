@@ -10,7 +10,7 @@ use design_checks::DesignFault;
 use pld_base::OutOfMemory;
 use std::alloc::Global;
 
-/// `error NAME at LINE:COLUMN` and the name that is told, or the names of the chain. Of want of memory there is no line.
+/// `error NAME at LINE:COLUMN` and the name that is reported, or the names of the chain. Lack of memory has no line.
 pub fn design_line(
     alloc: Global,
     names: &Names,

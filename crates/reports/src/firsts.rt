@@ -8,7 +8,7 @@ ghost use Rattle.reports.specs.Fits.{control_order, first_own};
 use bit_expr::{Control, Netlist};
 use fitter::{SharedControl, own_control};
 
-/// Whether a control's first target stands before that of another.
+/// Whether a control's first target precedes that of another.
 #[tactic(auto, using(crate::proofs::ControlOrder::before_by))]
 fn is_before(here: &Control, there: &Control) -> bool
     ensures { result ≡ is_before control_order here.now there.now }
@@ -37,7 +37,7 @@ fn earlier(left: Option<Control>, right: Option<Control>) -> Option<Control>
     }
 }
 
-/// Of the cells' own resets, or presets, that whose first target comes first in the source.
+/// Of the cells' own resets, or presets, that whose first target is first in the source.
 pub(crate) fn first_own(net: &Netlist, which: SharedControl) -> Option<Control>
     ensures { result ≡ first_own which net.now }
 {

@@ -73,7 +73,7 @@ fn enable_line(alloc: Global, names: &Names, wanted: &CellWanted) -> Result<Vec<
     told(alloc, names, b"EnableTooWide", enable.place, &[wanted.name])
 }
 
-/// Appends how many rows a cover has, `-` where there is none, and a piece behind it.
+/// Appends how many rows a cover has, `-` if there isn't one, and a piece after it.
 fn put_count(
     alloc: Global,
     text: &mut Vec<u8>,
@@ -131,8 +131,8 @@ fn room_line<D: Device>(
     Ok(line)
 }
 
-/// `error NAME at LINE:COLUMN` and what is told with it, over the names of the source and the netlist that does not fit,
-/// of which the refusal is. Of want of memory there is no line.
+/// `error NAME at LINE:COLUMN` and what is reported with it, over the names of the source and the netlist that does not
+/// fit, of which the refusal is. Lack of memory has no line.
 pub fn fit_line<D: Device>(
     alloc: Global,
     names: &Names,

@@ -9,14 +9,14 @@ use crate::warning::{Cause, Found};
 use abel_tree::{Decl, Word};
 use pld_base::{OutOfMemory, Place};
 
-/// Whether a byte stands between words.
+/// Whether a byte is between words.
 fn is_separator(byte: u8) -> bool
     ensures { result ≡ is_separator byte }
 {
     matches!(byte, b',' | b' ' | b'\'' | 9 | 10 | 12 | 13 | 26)
 }
 
-/// Whether a word may stand in a string and has no effect.
+/// Whether a word may be in a string and has no effect.
 fn is_idle(word: &[u8]) -> bool
     ensures { result ≡ is_idle word.now }
 {
@@ -27,14 +27,14 @@ fn is_idle(word: &[u8]) -> bool
         || word.eq_ignore_ascii_case(b"retain")
 }
 
-/// Where the first separator of a text is.
+/// If the first separator of a text is.
 fn first_separator(text: &[u8]) -> Option<usize>
     ensures { result ≡ position is_separator text.now }
 {
     text.iter().position(|byte| is_separator(*byte))
 }
 
-/// The bytes in front of the first separator, and those behind it.
+/// The bytes in front of the first separator, and those after it.
 fn next_word(text: &[u8]) -> (&[u8], &[u8])
     requires { 0 < length text.now }
     ensures less { length result.1.now < length text.now }
@@ -48,7 +48,7 @@ fn next_word(text: &[u8]) -> (&[u8], &[u8])
     (word, behind.split_at(1).1)
 }
 
-/// Tells a word that is idle.
+/// Gives a word that is idle.
 fn find_idle_word(found: &mut Found, word: &[u8], place: Place) -> Result<(), OutOfMemory>
     ensures { OnOk result (found.new ≡ found.old ++ option_to_list (idle_word place word.now)) }
 {

@@ -15,7 +15,7 @@ use pld_base::OutOfMemory;
 use set_expr::SectionFault;
 use std::alloc::Global;
 
-/// The line of what there is to tell, unless memory is out.
+/// The line of what there is to report, unless memory is out.
 fn line(alloc: Global, telling: Result<Telling<'_>, OutOfMemory>) -> Result<Vec<u8>, OutOfMemory>
     ensures { IfOk result (λ line. option_map told_line (result_ok telling.entry) ≡ Some line.items) }
 {
@@ -25,14 +25,14 @@ fn line(alloc: Global, telling: Result<Telling<'_>, OutOfMemory>) -> Result<Vec<
     }
 }
 
-/// `error NAME at LINE:COLUMN`, of a text that is no module. Of want of memory there is no line.
+/// `error NAME at LINE:COLUMN`, of a text that is no module. Lack of memory has no line.
 pub fn read_line(alloc: Global, fault: ReadFault) -> Result<Vec<u8>, OutOfMemory>
     ensures { IfOk result (λ line. option_map told_line (read_telling fault) ≡ Some line.items) }
 {
     line(alloc, of_reading(fault))
 }
 
-/// The same of names, with the name that is refused behind the place.
+/// The same of names, with the name that is refused after the place.
 pub fn name_line(alloc: Global, fault: &NameFault) -> Result<Vec<u8>, OutOfMemory>
     ensures { IfOk result (λ line. option_map told_line (name_telling fault.now) ≡ Some line.items) }
 {

@@ -11,7 +11,7 @@ use abel_tree::Names;
 use pld_base::{OutOfMemory, Place, put_decimal};
 use std::alloc::Global;
 
-/// Where the first of these names is declared.
+/// The declaration of the first of these names.
 fn first_place(names: &Names, signals: &[usize]) -> Option<Place>
     ensures { result ≡ first_place (entries_of names.now) signals.now }
 {
@@ -27,7 +27,7 @@ fn first_place(names: &Names, signals: &[usize]) -> Option<Place>
     }
 }
 
-/// Appends the names of these signals, each behind a blank.
+/// Appends the names of these signals, each after a blank.
 fn put_signals(text: &mut Vec<u8>, names: &Names, signals: &[usize]) -> Result<(), OutOfMemory>
     ensures { OnOk result (text.new.items
         ≡ text.old.items ++ names_text (entries_of names.now) signals.now) }

@@ -11,7 +11,7 @@ use pld_base::{OutOfMemory, put_decimal, put_hex};
 use pld_device::{Device, Fuses};
 use std::alloc::Global;
 
-/// Appends a piece and a number behind it.
+/// Appends a piece and a number after it.
 fn put_number(
     alloc: Global,
     text: &mut Vec<u8>,

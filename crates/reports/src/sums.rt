@@ -63,7 +63,7 @@ fn is_sum(names: &Names, sign: Binary, left: &Expr, right: &Expr) -> bool
     matches!(sign, Binary::Plus) && is_single(names, left) && is_single(names, right)
 }
 
-/// Tells an operator that is `+` between single signals.
+/// Gives an operator that is `+` between single signals.
 fn find_sum(found: &mut Found, is_told: bool, place: Place) -> Result<(), OutOfMemory>
     ensures { OnOk result (found.new ≡ found.old ++ sum_if is_told place) }
 {
@@ -73,7 +73,7 @@ fn find_sum(found: &mut Found, is_told: bool, place: Place) -> Result<(), OutOfM
     Ok(())
 }
 
-/// Finds each `+` of an expression that stands between single signals.
+/// Finds each `+` of an expression that is between single signals.
 #[cycle(sums)]
 pub fn find_sums(found: &mut Found, names: &Names, expr: &Expr) -> Result<(), OutOfMemory>
     ensures { OnOk result (found.new ≡ found.old ++ sums_in (entries_of names.now) (view expr.now)) }

@@ -8,7 +8,7 @@ use pld_base::{OutOfMemory, Place, put_decimal};
 use std::alloc::Global;
 use std::marker::Model;
 
-/// The word of a refusal, its place, and the name that is told with it.
+/// The word of a refusal, its place, and the name that is reported with it.
 #[derive(Drop)]
 pub(crate) struct Telling<'a> {
     pub word: &'a [u8],
@@ -25,7 +25,7 @@ impl<'a> Model for Telling<'a> {
     ghost view = { λ t. record { word = t.word.now; place = t.place; name = option_map (λ n. n.now) t.name } };
 }
 
-/// Appends a number and a piece behind it.
+/// Appends a number and a piece after it.
 fn put_numbered(
     alloc: Global,
     text: &mut Vec<u8>,
@@ -39,7 +39,7 @@ fn put_numbered(
     Ok(())
 }
 
-/// Appends a blank and a name, where there is one.
+/// Appends a blank and a name, if there is one.
 pub fn put_tail(text: &mut Vec<u8>, name: Option<&[u8]>) -> Result<(), OutOfMemory>
     ensures { OnOk result (text.new.items ≡ text.old.items ++ tail_text (option_map (λ n. n.now) name.entry)) }
 {

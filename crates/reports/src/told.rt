@@ -1,4 +1,4 @@
-//! A line that tells a word, a place and names.
+//! A line that gives a word, a place and names.
 
 ghost use Rattle.std.specs.Prelude.{◌≡◌, ◌++◌, Some, IfOk, OnOk};
 ghost use Rattle.reports.specs.Prelude.{entries_of};
@@ -10,7 +10,7 @@ use abel_tree::Names;
 use pld_base::{OutOfMemory, Place};
 use std::alloc::Global;
 
-/// Appends the names of these numbers, each behind a blank.
+/// Appends the names of these numbers, each after a blank.
 pub(crate) fn put_names(
     text: &mut Vec<u8>,
     names: &Names,
@@ -25,7 +25,7 @@ pub(crate) fn put_names(
     Ok(())
 }
 
-/// The line that tells the names of these numbers.
+/// The line that gives the names of these numbers.
 pub(crate) fn told(
     alloc: Global,
     names: &Names,

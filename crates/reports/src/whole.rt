@@ -74,7 +74,7 @@ fn has_vectors(sections: &[Section]) -> bool
     sections.iter().any(|section| is_vectors(section))
 }
 
-/// Tells that a source has no test vectors.
+/// Says that a source has no test vectors.
 fn find_no_vectors(found: &mut Found, module: &Module) -> Result<(), OutOfMemory>
     ensures { OnOk result (found.new ≡ found.old ++ no_vectors_in (view_module module.now)) }
 {

@@ -1,4 +1,4 @@
-//! The word, the place and the name of each refusal; of want of memory there are none.
+//! The word, the place and the name of each refusal; of lack of memory there aren't any.
 
 ghost use Rattle.std.specs.Prelude.{◌≡◌};
 ghost use Rattle.std.specs.Result.{result_ok};

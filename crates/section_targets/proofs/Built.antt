@@ -28,7 +28,7 @@ pub nodes_append : (us vs : List CountedUnit) → units_nodes (us ++ vs) ≡ uni
 nodes_append [] vs = omega arith
 nodes_append (u ∷ us) vs = omega (arith, nodes_append us vs)
 
--- a unit that isn't refused and doesn't pass the limit leaves it to those behind it
+-- a unit that isn't refused and doesn't pass the limit leaves it to those after it
 limit_clear : (rs : List SectionFault) (p : Place) (past : Bool) (later more : List SectionFault) → rs ≡ [] → limit_at rs p past later ≡ [] → (later ≡ []) × (limit_at rs p past more ≡ more)
 limit_clear [] p false later more e h = (h, refl)
 limit_clear _ p _ later more e h = absurd cc
@@ -51,12 +51,12 @@ limit_stays count (u ∷ us) vs h = by_unit u.refusals (is_past count u.nodes) h
     by_unit [] false h k = k h
     by_unit _ _ h k = refl
 
--- what stops units stops them with more behind them, or behind what was made
+-- what stops units stops them with more after them, or after what was made
 pub stops_on : (f : SectionFault) (count later : ℕ) (us vs : List CountedUnit) → (limit_refused count us ≡ f ∷ [] → limit_refused later vs ≡ f ∷ []) → Stops f count us → Stops f later vs
 stops_on f count later us vs k (NoMemory h) = NoMemory h
 stops_on f count later us vs k (AtLimit h) = AtLimit (k h)
 
--- ---- what stands
+-- ---- what is
 
 pub keeps_on : (old mid new : List Formula) → Keeps old mid → Keeps mid new → Keeps old new
 keeps_on old mid new h k i f e = k i f (h i f e)

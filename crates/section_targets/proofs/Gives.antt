@@ -12,13 +12,13 @@ use Rattle.section_targets.proofs.Looks.{next_of}
 pub stops_nodes : (us : List CountedUnit) (gs : List (meant.Contribution Formula)) (ps : List Place) (old new : Contributions) (f : SectionFault) → StopsWith us [] [] old new f → StopsWith us gs ps old new f
 stops_nodes us gs ps old new f s = subst (λ vs. StopsWith vs gs ps old new f) (append-nil us) (builds_stop us [] [] gs [] ps old new f s)
 
--- memory is out behind nodes that were made
+-- memory is out after nodes that were made
 pub memory_after : (us : List CountedUnit) (gs : List (meant.Contribution Formula)) (ps : List Place) (old new : List Node) (list more : List Contribution) → more ≡ list → IsBuilt us [] [] (record { exprs = old; list = list }) (record { exprs = new; list = list }) → StopsWith us gs ps (record { exprs = old; list = list }) (record { exprs = new; list = more }) fault.OutOfMemory
 memory_after us gs ps old new list more e b =
     stops_nodes us gs ps (record { exprs = old; list = list }) (record { exprs = new; list = more }) fault.OutOfMemory
     (NoMemory refl, subst (λ (l : List Contribution). Leaves (record { exprs = old; list = list }) (record { exprs = new; list = l }) [] []) (sym e) (leaves_nodes old new list b.made.grew.keeps))
 
--- a contribution behind nodes that were made
+-- a contribution after nodes that were made
 pub given_after : (us : List CountedUnit) (g : meant.Contribution Formula) (p : Place) (old new : List Node) (list more : List Contribution) (c : Contribution) → IsBuilt us [] [] (record { exprs = old; list = list }) (record { exprs = new; list = list }) → more ≡ list ++ c ∷ [] → c.when.0 < length (arena new) → view_contribution (arena new) c ≡ g → c.place ≡ p → IsBuilt us (g ∷ []) (p ∷ []) (record { exprs = old; list = list }) (record { exprs = new; list = more })
 given_after us g p old new list more c b e inside v q =
     record {
@@ -51,7 +51,7 @@ one_kept d fs g a id old new r k h i b =
     rw (← kept_formula fs (arena old.exprs) g.guard.when k h, ← kept_formula fs (arena old.exprs) id k i) b
 
 module _ (d : Context) (fs : List Formula) (g : Giving) (xs : List Aim) (ids : List ExprId) (each : length xs ≡ length ids) (k : ℕ) where
-  -- the signal at k, and those behind it
+  -- the signal at k, and those after it
   from_here : (x : Aim) (id : ExprId) (old new : Contributions) (r : Result Unit SectionFault) → k < length xs
       → GivesEach d fs g (get_or xs k x ∷ drop (k + 1) xs) (get_or ids k id ∷ drop (k + 1) ids) old new r → GivesEach d fs g (drop k xs) (drop k ids) old new r
   from_here x id old new r lt b =
@@ -64,7 +64,7 @@ module _ (d : Context) (fs : List Formula) (g : Giving) (xs : List Aim) (ids : L
       from_here x id old new r lt
       (builds_then (each_part fs g (formula_at fs (get_or ids k id) ∷ [])) (each_part fs g (map (formula_at fs) (drop (k + 1) ids))) (each_given d fs g (get_or xs k x ∷ []) (formula_at fs (get_or ids k id) ∷ [])) (each_given d fs g (drop (k + 1) xs) (map (formula_at fs) (drop (k + 1) ids))) (places_of (get_or xs k x ∷ [])) (places_of (drop (k + 1) xs)) old mid new r b c)
 
-  -- where one stops, those behind it aren't given
+  -- if one stops, those after it aren't given
   pub each_stops : (x : Aim) (id : ExprId) (old new : Contributions) (f : SectionFault) → k < length xs
       → GivesEach d fs g (get_or xs k x ∷ []) (get_or ids k id ∷ []) old new (Err f) → GivesEach d fs g (drop k xs) (drop k ids) old new (Err f)
   each_stops x id old new f lt b =

@@ -16,7 +16,7 @@ back_more f xs k x some h i =
 pub back_none : {A B : Type 0} (f : A → B) (xs : List A) → map f (drop (length xs) xs) ≡ []
 back_none f xs = ap (map f) (drop_all (length xs) xs (omega arith))
 
--- there is a place where some is
+-- there is a place at which some is
 pub placed_any : {X : Type 0} (t : X → Bool) (xs : List X) → is_some (position t xs) ≡ list_any t xs
 placed_any {X = X} t xs = ap is_some (position_from-zero t xs) ∙ from 0 xs
   where
@@ -32,7 +32,7 @@ firsts_push firsts all m h s part =
     let test = λ (x : Manner). is_same_part x s part in
     find-append test firsts (m ∷ []) ∙ ap (λ o. option_or o (first_manner (m ∷ []) s part)) (h s part) ∙ sym (find-append test all (m ∷ []))
 
--- nothing need be kept where the part is assigned before
+-- nothing need be kept if the part is assigned before
 pub firsts_stay : (firsts all : List Manner) (m f : Manner) → AreFirsts firsts all → Some f ≡ first_manner firsts m.signal (part_of m.extension) → AreFirsts firsts (all ++ m ∷ [])
 firsts_stay firsts all m f h e s part =
     sym (find-append (λ (x : Manner). is_same_part x s part) all (m ∷ []) ∙ ap (λ o. option_or o (first_manner (m ∷ []) s part)) (sym (h s part))

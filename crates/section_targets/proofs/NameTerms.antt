@@ -1,4 +1,4 @@
--- What names stand for, and the members of sets one at a time.
+-- What names represent, and the members of sets one at a time.
 use Rattle.std.proofs.Common.{◌≡◌, ℕ, inl, inr, zero, suc, ◌+◌, ◌≤◌, Bool, true, false, Option, None, Some, List, [], ◌∷◌, ◌++◌, if◌then◌else◌, length, map, get_or, slice_get, cond, bytes_eq, refl, sym, ap, ◌∙◌, subst, arith, append_assoc, append-nil, length-append}
 use Rattle.section_targets.proofs.Common.{cases_cond, position_from, position_from-zero, map-append, slice_get_past, slice_get-get_or, get_or-append_seam, Entry, find, range_names, SetMember, OneMember, SpanMember, members_of, targets_of, all_targets, Term, Terms, NoTerm, Known, term_named, term_meant, term_of, terms_of, member_before, named_before, known_after, known_of, NamedSignals, IsOfTerm, AreOfTerms, StandFor}
 use Rattle.abel_meaning.specs.Terms.{Number}
@@ -12,7 +12,7 @@ position_past test i (x ∷ es) j e = elim (cases_cond (test x) (Some i) (positi
   | inr h ↦ omega (arith, position_past test (i + 1) es j (sym h))
 ]
 
--- what stands at a place, a number where nothing does
+-- what is at a place, a number if nothing does
 abbrev pub term_or : Option Known → Term
 term_or None = Number 0
 term_or (Some k) = k.term
@@ -56,7 +56,7 @@ placed ks es later w h =
 
 -- ---- names by number
 
--- what stands at a place, a number where nothing does
+-- what is at a place, a number if nothing does
 abbrev pub IsAt : ℕ → Option NamedSignals → Term → Type 0
 IsAt count None t = t ≡ Number 0
 IsAt count (Some n) t = IsOfTerm count n t
@@ -71,7 +71,7 @@ module _ (count : ℕ) (es : List Entry) (ns : List NamedSignals) (ks : List Kno
   pub named_none : find es w ≡ None → term_named ks w ≡ Number 0
   named_none e = placed ks es h.later w h.names ∙ ap (term_at ks) e
 
-  -- what a name stands for, by its place
+  -- what a name represents, by its place
   pub named_at : (i : ℕ) (o : Option NamedSignals) → find es w ≡ Some i → slice_get ns i ≡ o → IsAt count o (term_named ks w)
   named_at i o e g =
       subst (IsAt count o) (sym (placed ks es h.later w h.names ∙ ap (term_at ks) e))

@@ -6,7 +6,7 @@ use Rattle.abel_tree.specs.declared.names.Names.{Names}
 use Rattle.pld_device.specs.Table.{Table}
 use Rattle.expr_bits.proofs.NamesBefore.{entry_at, entries_long}
 
--- at one place no output is told first
+-- at one place no output is reported first
 pub output_first : (t : Table) (before : List Manner) (x : Entry) (p : Place) (m : Manner) (b : Bool) → b ≡ is_output t x m.extension → b ≡ false → Some (NotAnOutput p (Some m.signal)) ≡ first_refusal section_order (no_output t x p m ++ mixed before x p m)
 output_first t before x p m true e n = absurd cc
 output_first t before x p m false e n =

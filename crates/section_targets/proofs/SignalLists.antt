@@ -11,7 +11,7 @@ some_append (Some s ∷ xs) ys = ap (λ ss. s ∷ ss) (some_append xs ys)
 
 -- ---- the first 33
 
--- of two lists, one behind the other
+-- of two lists, one after the other
 listed_both : {A : Type 0} (n m k : ℕ) (xs ys : List A) → n ≤ m → n ≤ k → take n (take m xs ++ take k ys) ≡ take n (xs ++ ys)
 listed_both zero m k xs ys h i = refl
 listed_both (suc n) zero k xs ys h i = absurd (omega (arith, h))
@@ -24,7 +24,7 @@ joined P list us vs xs ys l u v a b = (
   subst (All P) (sym l) (All-take P 33 (us ++ vs) (All-append P us vs a b)),
 )
 
--- signals behind others
+-- signals after others
 pub signals_joined : (count : ℕ) (a b n : NamedSignals) (xs ys : List ℕ) (p q : Bool) → AreSignals count a xs p → AreSignals count b ys q
     → n.alone ≡ a.alone && b.alone → n.signals ≡ take 33 (a.signals ++ b.signals) → AreSignals count n (xs ++ ys) (p && q)
 signals_joined count a b n xs ys p q h k alone list =
@@ -89,7 +89,7 @@ signals_extended count e a n t h list alone =
       inside = subst (All (λ (s : ℕ). s < count)) (sym list) h.inside;
     }
 
--- a special stands for no signal
+-- a special represents no signal
 pub special_none : (count : ℕ) (n : NamedSignals) (letter : ℕ) → AreSignals count n [] false → IsOfTerm count n (special_term letter)
 special_none count n letter h =
     cond_both (bytes_eq (letter ∷ []) (codes "X")) X (if bytes_eq (letter ∷ []) (codes "C") then Pulse else Release) (IsOfTerm count n) (λ e. h)
@@ -104,7 +104,7 @@ both_assoc x y z = rw (append_assoc x.refusals y.refusals z.refusals, append_ass
 pub start_same : (d : Context) (p : Place) (w : List ℕ) → start_at d p p w ≡ p
 start_same d p w = cond_both (is_signal_number d.names (find d.names w)) p p (λ q. q ≡ p) (λ e. refl) (λ e. refl)
 
--- those of a name, which all stand at one place
+-- those of a name, which all are at one place
 pub side_named : (count : ℕ) (n : NamedSignals) (s : Side) (x : TargetFound) (p : Place) (xs : List ℕ) (b : Bool) → s.fault ≡ first_refusal section_order x.refusals → x.aims ≡ aims_at p xs → AreSignals count n xs b
     → s.aims ≡ aims_at p n.signals → IsSide count s x
 side_named count n s x p xs b f e h list =
@@ -137,7 +137,7 @@ side_set count p a n x f h e fault list =
 pub side_length : (count : ℕ) (s : Side) (x : TargetFound) → IsSide count s x → length s.aims ≡ min 33 (length x.aims)
 side_length count s x h = ap length h.aims ∙ length-take 33 x.aims
 
--- all are where no more than 32 are found
+-- all are if no more than 32 are found
 pub side_all : (count : ℕ) (s : Side) (x : TargetFound) → IsSide count s x → length x.aims ≤ 32 → s.aims ≡ x.aims
 side_all count s x h few = h.aims ∙ take_all 33 x.aims (omega (arith, few))
 

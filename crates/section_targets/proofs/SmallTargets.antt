@@ -36,7 +36,7 @@ few_by d None xs t h l = absurd (h refl)
 few_by d (Some v) xs t h l =
     omega (arith, term_narrow d t, member_narrow (constant_of d t).shape, subst (λ s. width_of s ≤ 32) (sym l.0.shape) l.3)
 
--- where nothing is refused of a name, its signals are no more than its positions
+-- if nothing is refused of a name, its signals are no more than its positions
 name_few : (d : Context) (p q : Place) (w : List ℕ) → d.known ≡ known_of d.names → (target_name d p q w).refusals ≡ [] → length (target_name d p q w).aims ≤ 32
 name_few d p q w k e =
     let f = found_use p (name_found (names_found d.names) w) in
@@ -59,7 +59,7 @@ side_few d p (AName word x) k e = name_few d word.place (start_of d p word) word
 side_few d p (ASet q ms x) k e = wide_none q (target_members d ms) e
 side_few d p t k e = member_few d t k e
 
--- where no fault is found, the signals are all there
+-- if no fault is found, the signals are all there
 pub side_whole : (d : Context) (count : ℕ) (s : Side) (p : Place) (t : Tree) → d.known ≡ known_of d.names → IsSide count s (left_side d p t) → None ≡ s.fault → ((left_side d p t).refusals ≡ []) × (s.aims ≡ (left_side d p t).aims)
 side_whole d count s p t k h e =
     let r = none_refused section_order (left_side d p t).refusals (e ∙ h.fault) in

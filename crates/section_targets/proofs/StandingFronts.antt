@@ -1,4 +1,4 @@
--- What stands after walks one after another, whatever they answer.
+-- What is after walks one after another, whatever they answer.
 use Rattle.std.proofs.Common.{◌≡◌, ℕ, false, Option, None, Some, List, [], ◌++◌, Result, Ok, Err, length, refl, sym, ap, ◌∙◌, subst, arith}
 use Rattle.section_targets.proofs.Common.{append-nil, none-some, Place, arena, Formula, Contributions, SectionFault, section_order, earlier, is_some, Manner, Contributed, Leaves, Builds, CountedUnit, units_nodes, Walks, standing}
 use Rattle.abel_meaning.specs.Contributions as meant
@@ -36,7 +36,7 @@ stands_same gs ps old new e =
       stays = λ f k. e;
     }
 
--- one that is made where nothing is refused so far
+-- one that is made if nothing is refused so far
 pub stands_made : {R : Type 0} (us : List CountedUnit) (gs : List (meant.Contribution Formula)) (ps : List Place) (old made new : Walked) (r : Result R SectionFault) → old.fault ≡ None → Builds us gs ps (standing old) (standing made) r → standing new ≡ standing made
     → StillStands gs ps old new
 stands_made us gs ps old made new r o b e =
@@ -45,7 +45,7 @@ stands_made us gs ps old made new r o b e =
       stays = λ f k. absurd (none-some f (sym o ∙ k));
     }
 
--- a walk behind which nothing is refused
+-- a walk after which nothing is refused
 pub stands_whole : (all ms : List Manner) (us : List CountedUnit) (gs : List (meant.Contribution Formula)) (ps : List Place) (old new : Walked) → Walks all us gs ps ms old new → new.fault ≡ None → StillStands gs ps old new
 stands_whole all ms us gs ps old new w e =
     record {
@@ -53,13 +53,13 @@ stands_whole all ms us gs ps old new w e =
       stays = λ f k. absurd (none-some f (sym (clear_before old.fault (length (arena old.exprs)) us (sym e ∙ w.fault)) ∙ k));
     }
 
--- nothing was refused before a unit behind which nothing is
+-- nothing was refused before a unit after which nothing is
 pub none_so_far : (f x : Option SectionFault) (new : Walked) → new.fault ≡ earlier section_order f x → is_some new.fault ≡ false → f ≡ None
 none_so_far f x new e s = (both_clear f x (sym (ap is_some e) ∙ s)).0
 
 -- ---- one after another
 
--- where a walk ends, what would follow isn't made
+-- if a walk ends, what would follow isn't made
 pub stands_less : (gs hs : List (meant.Contribution Formula)) (ps qs : List Place) (old new : Walked) → StillStands gs ps old new → StillStands (gs ++ hs) (ps ++ qs) old new
 stands_less gs hs ps qs old new s =
     record { front = leaves_less (standing old) (standing new) gs hs ps qs s.front; stays = s.stays }
@@ -81,7 +81,7 @@ stands_then all ms us gs hs ps qs old mid new w a b = by_fault mid.fault refl
           stays = λ x k. same ∙ a.stays x k;
         }
 
--- behind what is refused nothing is made, whatever is given
+-- after what is refused nothing is made, whatever is given
 pub stands_alike : (gs hs : List (meant.Contribution Formula)) (ps : List Place) (old new : Walked) → (old.fault ≡ None → gs ≡ hs) → StillStands gs ps old new → StillStands hs ps old new
 stands_alike gs hs ps old new h s = by_fault old.fault refl
   where

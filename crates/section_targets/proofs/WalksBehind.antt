@@ -5,7 +5,7 @@ use Rattle.abel_meaning.specs.Contributions as meant
 use Rattle.section_targets.specs.declared.walked.Walked.{Walked}
 use Rattle.section_targets.proofs.Built.{left_empty, right_empty, both_empty, refused_append, nodes_append, limit_append, limit_stays, keeps_on, made_then, builds_none}
 
--- ---- the first refusal of units behind others
+-- ---- the first refusal of units after others
 
 -- the first refusal of two lists of units, of which something of the first is refused
 refused_front : (count : ℕ) (us vs : List CountedUnit) (y : SectionFault) → Some y ≡ first_refusal section_order (all_refused count us)
@@ -55,7 +55,7 @@ fault_append (Some x) (Some y) count later us vs e h =
 
 -- ---- walks one after another
 
--- units behind others
+-- units after others
 pub walks_then : (all ms ns : List Manner) (us vs : List CountedUnit) (gs hs : List (meant.Contribution Formula)) (ps qs : List Place) (old mid new : Walked)
     → Walks all us gs ps ms old mid → Walks (all ++ ms) vs hs qs ns mid new → Walks all (us ++ vs) (gs ++ hs) (ps ++ qs) (ms ++ ns) old new
 walks_then all ms ns us vs gs hs ps qs old mid new a b =
@@ -81,7 +81,7 @@ walks_none all out a =
       given = λ e. (builds_none (standing out)).made;
     }
 
--- behind what is refused only refusals count
+-- after what is refused only refusals count
 pub walks_alike : (all ms : List Manner) (us vs : List CountedUnit) (gs hs : List (meant.Contribution Formula)) (ps qs : List Place) (old new : Walked) (f : SectionFault)
     → old.fault ≡ Some f → units_refused us ≡ units_refused vs → Walks all us gs ps ms old new → Walks all vs hs qs ms old new
 walks_alike all ms us vs gs hs ps qs old new f e r w =
@@ -99,7 +99,7 @@ walks_alike all ms us vs gs hs ps qs old new f e r w =
 
 -- ---- one unit
 
--- a unit that is refused, or one behind what is refused
+-- a unit that is refused, or one after what is refused
 unit_fault : (f : Option SectionFault) (count : ℕ) (u : CountedUnit) → is_some (earlier section_order f (first_refusal section_order (units_refused (u ∷ [])))) ≡ true
     → earlier section_order f (first_refusal section_order (units_refused (u ∷ []))) ≡ fault_behind f count (u ∷ [])
 unit_fault (Some x) count u h = refl
@@ -124,7 +124,7 @@ walks_refused all ms u gs ps fault old new e h s x a =
     told : new.fault ≡ earlier section_order old.fault (first_refusal section_order (units_refused (u ∷ [])))
     told = h ∙ ap (earlier section_order old.fault) e
 
--- where nothing is refused so far, and nothing of a unit, neither was before
+-- if nothing is refused so far, and nothing of a unit, neither was before
 pub both_clear : (f g : Option SectionFault) → is_some (earlier section_order f g) ≡ false → (f ≡ None) × (g ≡ None)
 both_clear None None h = (refl, refl)
 both_clear None (Some y) h = absurd cc

@@ -1,4 +1,4 @@
--- What stands in the list of contributions after some were appended (this project's rule).
+-- What is in the list of contributions after some were appended (this project's rule).
 use Rattle.std.specs.Prelude.{◌≡◌, ℕ, ◌<◌, List, [], ◌++◌, All, length, map}
 use Rattle.section_targets.specs.Prelude.{Place, arena, Grew, Formula, Contribution, Contributions, Keeps, view_contribution}
 use Rattle.abel_meaning.specs.Contributions as meant
@@ -11,7 +11,7 @@ pub record Appends (old new : Contributions) (given : List (meant.Contribution F
   pub gives : given ≡ map (view_contribution (arena new.exprs)) more ++ later
   pub stand : places ≡ map (λ (c : Contribution). c.place) more ++ later_places
 
--- the nodes that were there stand, and a front of what is given was appended
+-- the nodes that were there are, and a front of what is given was appended
 pub record Leaves (old new : Contributions) (given : List (meant.Contribution Formula)) (places : List Place) : Type 0 where
   pub keeps : Keeps (arena old.exprs) (arena new.exprs)
   pub more : List Contribution

@@ -3,7 +3,7 @@ use Rattle.std.specs.Prelude.{ℕ, ◌<◌, List, All, map}
 use Rattle.section_targets.specs.Prelude.{Place, ExprId}
 use Rattle.section_targets.specs.declared.aim.Aim.{Aim}
 
--- where the signals are named
+-- the places at which the signals are named
 abbrev pub places_of : List Aim → List Place
 places_of aims = map (λ (a : Aim). a.place) aims
 

@@ -46,11 +46,11 @@ abbrev pub differs_from : Option Manner → Manner → Bool
 differs_from None m = false
 differs_from (Some f) m = if is_data m.extension then differs_as_data f m else differ f.complement m.complement
 
--- data are on the clock just where the signal is registered, and controls are not
+-- data are on the clock just if the signal is registered, and controls are not
 abbrev pub is_against_kind : Entry → Manner → Bool
 is_against_kind x m = if is_data m.extension then differ x.words.registered (on_clock m) else m.clocked
 
--- refused as assigned in two ways, where these were assigned before
+-- refused as assigned in two ways, if these were assigned before
 abbrev pub mixed : List Manner → Entry → Place → Manner → List SectionFault
 mixed before x p m =
     if differs_from (first_manner before m.signal (part_of m.extension)) m || is_against_kind x m
@@ -74,7 +74,7 @@ may_be_assigned (Some extension.Fb) = false
 may_be_assigned (Some extension.Pin) = false
 may_be_assigned _ = true
 
--- a control stands beside data of its signal
+-- a control is beside data of its signal
 abbrev pub is_output : Table → Entry → Option Extension → Bool
 is_output t x e = is_output_kind t x.kind && (may_be_assigned e && (is_data e || x.assigned))
 

@@ -12,7 +12,7 @@ pub record TargetFound : Type 0 where
   pub refusals : List SectionFault
   pub aims : List Aim
 
--- signals that all stand at one place
+-- signals that all are at one place
 abbrev pub aim_at : Place → (signal : ℕ) → Aim
 aim_at p s = record { signal = s; place = p }
 
@@ -30,11 +30,11 @@ abbrev mutual
   all_name_signals term.NoTerm = true
   all_name_signals (term.Before t ts) = names_signals t && all_name_signals ts
 
--- a name stands for no signals
+-- a name represents no signals
 abbrev pub no_signals : Place → Option ℕ → Term → List SectionFault
 no_signals p name t = if names_signals t then [] else NotAnOutput p name ∷ []
 
--- a name at its place p; q is where its signals stand
+-- a name at its place p; q is the place of its signals
 abbrev pub target_use : (p q : Place) → (name : Option ℕ) → Found → Term → TargetFound
 target_use p q name f t =
     record {
@@ -67,7 +67,7 @@ abbrev pub target_range : Context → Place → List (List ℕ) → TargetFound
 target_range d p [] = record { refusals = []; aims = [] }
 target_range d p (name ∷ names) = targets_both (target_name d p p name) (target_range d p names)
 
--- what is found of a member of a target; what is no name alone is refused where it begins
+-- what is found of a member of a target; what is no name alone is refused at its beginning
 abbrev mutual
   pub target_member : Context → Tree → TargetFound
   target_member d (ASpecial letter p) = no_target (MisplacedSpecial p)
@@ -89,8 +89,8 @@ abbrev pub is_signal_number : List Entry → Option ℕ → Bool
 is_signal_number es None = false
 is_signal_number es (Some n) = is_signal (get_or es n no_name).kind
 
--- where the signals of a side stand that is a name, with or without `!`: a signal where the side begins, and what a
--- constant brings at the constant's name
+-- the place of the signals of a side that is a name, with or without `!`: a signal at the beginning of the side,
+-- and what a constant brings at the constant's name
 abbrev pub start_at : Context → (begin used : Place) → List ℕ → Place
 start_at d p q text = if is_signal_number d.names (find d.names text) then p else q
 

@@ -28,7 +28,7 @@ units_nodes (u ∷ us) = u.nodes + units_nodes us
 abbrev pub is_past : (count nodes : ℕ) → Bool
 is_past count nodes = nat_lt 0 nodes && nat_lt MOST (count + nodes)
 
--- a unit that isn't refused passes the limit, or those behind it may; none behind a refused one is counted
+-- a unit that isn't refused passes the limit, or those after it may; none after a refused one is counted
 abbrev pub limit_at : (refusals : List SectionFault) → Place → (past : Bool) → (later : List SectionFault)
     → List SectionFault
 limit_at [] p true later = fault.NodeLimit p ∷ []

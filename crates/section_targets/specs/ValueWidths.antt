@@ -11,6 +11,6 @@ abbrev pub value_width : Place → ℕ → Option Value → List SectionFault
 value_width p n None = []
 value_width p n (Some v) = wrong_width p n v.shape
 
--- no X position may stand in an assigned value or in a condition, whose width must meet
+-- no X position may be in an assigned value or in a condition, whose width must meet
 abbrev pub value_refused : Place → ℕ → Found → List SectionFault
 value_refused p n f = f.refusals ++ (f.specials ++ value_width p n f.value)

@@ -2,7 +2,7 @@
 
 use pld_base::Place;
 
-/// A signal at the place where a target names it.
+/// A signal at the place at which a target names it.
 #[derive(Clone, Copy, PartialEq, Eq)]
 pub struct Aim {
     pub signal: u32,

@@ -34,7 +34,7 @@ impl Assigned {
         }
     }
 
-    /// How the same part of the signal is assigned first. Takes no memory, and no longer where a part is assigned
+    /// How the same part of the signal is assigned first. Takes no memory, and no longer if a part is assigned
     /// often.
     pub fn first(&self, manner: Manner) -> Option<Manner>
         ensures { result ≡ first_manner self.now manner.signal (part_of manner.extension) }

@@ -31,7 +31,7 @@ pub struct Giver<'a> {
     pub giving: Giving,
 }
 
-/// Whether the block that the guard stands in is don't-care for the signal.
+/// Whether the block that the guard is in is don't-care for the signal.
 fn is_free(scope: &Scope<'_>, guard: Guard, signal: u32) -> bool
     requires { signal < length (entries_of scope.now) }
     ensures { (d : Context) (fs : List Formula) → d.names ≡ entries_of scope.now → result ≡ is_dontcare (view_guard fs guard) (name_at d signal) guard.block }
@@ -40,7 +40,7 @@ fn is_free(scope: &Scope<'_>, guard: Guard, signal: u32) -> bool
     guard.block.is_some() && (guard.dontcare || attributes.contains(Attributes::DC))
 }
 
-/// Appends what a signal is given where the guard and this bit are 1.
+/// Appends what a signal is given if the guard and this bit are 1.
 pub fn give(
     giver: &Giver<'_>,
     aim: Aim,

@@ -1,4 +1,4 @@
-//! The signals that names stand for as targets.
+//! The signals that names represent as targets.
 
 ghost use Rattle.std.specs.Prelude.{◌≡◌, ◌==◌, ◌<◌, ℕ, Bool, List, [], ◌∷◌, ◌++◌, ◌&&◌, true, IfOk, length};
 ghost use Rattle.section_targets.specs.Prelude.{entries_of, targets_of, some_signals, Term, Known, term_named, extended_if};
@@ -9,15 +9,15 @@ use pld_base::{ListOf, OutOfMemory};
 use set_expr::Scope;
 use std::alloc::Global;
 
-/// The signals that a name stands for, from the left, and whether it stands for nothing else. A target has at most 32
-/// signals, so that 33 of them tell that there are too many: no more are listed.
+/// The signals that a name represents, from the left, and whether it represents nothing else. A target has at most 32
+/// signals, so that 33 of them say that there are too many: no more are listed.
 #[derive(Drop)]
 pub struct NamedSignals {
     pub signals: ListOf<u32>,
     pub alone: bool,
 }
 
-/// The names of a source, with what the first of them stand for.
+/// The names of a source, with what the first of them represent.
 #[derive(Clone, Copy)]
 pub(crate) struct Targets<'a> {
     pub(crate) alloc: Global,
@@ -48,7 +48,7 @@ impl NamedSignals {
         })
     }
 
-    /// With others behind them.
+    /// With others after them.
     pub(crate) fn with(self, rest: &NamedSignals) -> Result<NamedSignals, OutOfMemory>
         ensures { IfOk result (λ n. (count : ℕ) (xs ys : List ℕ) (b c : Bool) → AreSignals count self xs b → AreSignals count rest.now ys c → AreSignals count n (xs ++ ys) (b && c)) }
     {
@@ -77,7 +77,7 @@ impl NamedSignals {
         NamedSignals::none(targets.alloc, true).with(named)
     }
 
-    /// With an extension at each, if there is one: a name stands for no signal then.
+    /// With an extension at each, if there is one: a name represents no signal then.
     pub(crate) fn extended(self, extension: Option<Extension>) -> NamedSignals
         ensures { (count : ℕ) (t : Term) → IsOfTerm count self t → IsOfTerm count result (extended_if extension t) }
     {
@@ -90,7 +90,7 @@ impl NamedSignals {
         }
     }
 
-    /// Whether it stands for nothing at all.
+    /// Whether it represents nothing at all.
     fn is_nothing(&self) -> bool
         ensures { result ≡ self.now.alone && (length self.now.signals == 0) }
     {

@@ -11,7 +11,7 @@ use pld_base::{ListOf, OutOfMemory};
 use set_expr::Scope;
 use std::alloc::Global;
 
-/// The signals that each name of a source stands for, in the order of the names: a signal itself, and a constant the
+/// The signals that each name of a source represents, in the order of the names: a signal itself, and a constant the
 /// signals of its set.
 pub fn target_names(alloc: Global, scope: &Scope<'_>) -> Result<ListOf<NamedSignals>, OutOfMemory>
     ensures { IfOk result (λ named. StandFor (length (entries_of scope.now)) (entries_of scope.now) named (known_of (entries_of scope.now))) }

@@ -22,7 +22,7 @@ pub fn add_node(exprs: &mut Exprs, node: Node, unit: Place) -> Result<ExprId, Se
     }
 }
 
-/// The guard of what counts where the condition is 0, as nodes of the unit at this place.
+/// The guard of what counts if the condition is 0, as nodes of the unit at this place.
 pub fn guard_else(
     exprs: &mut Exprs,
     guard: ExprId,

@@ -48,7 +48,7 @@ fn opposes_kind(declared: &Declared, manner: Manner) -> bool
     }
 }
 
-/// What is refused of one signal of a target: as no output, which comes first at its place, or as assigned in two ways.
+/// What is refused of one signal of a target: as no output, which is first at its place, or as assigned in two ways.
 fn refuse_aim<D: Device>(
     before: &Assigned,
     declared: &Declared,
@@ -67,7 +67,7 @@ fn refuse_aim<D: Device>(
 }
 
 /// Checks the signals of a target that are assigned in this way against what was assigned before, and notes how they
-/// are assigned. The first refusal by place comes.
+/// are assigned. The first refusal by place occurs.
 pub fn check_aims<D: Device>(
     scope: &Scope<'_>,
     way: Way,

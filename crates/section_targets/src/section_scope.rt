@@ -20,8 +20,8 @@ use set_expr::{Scope, Shaped};
 use std::alloc::Global;
 use std::marker::Model;
 
-/// The names of a source on a device, and the signals that each stands for as a target, learnt once for all its sections.
-/// A contract sees the names.
+/// The names of a source on a device, and the signals that each represents as a target, learnt once for all its sections. A
+/// contract sees the names.
 #[derive(Drop)]
 pub struct SectionScope<'a, D: Device> {
     names: DeviceScope<'a, D>,
@@ -60,7 +60,7 @@ impl<'a, D: Device> SectionScope<'a, D> {
         self.names.scope()
     }
 
-    /// The names with the signals that each stands for.
+    /// The names with the signals that each represents.
     fn targets(&self, alloc: Global) -> Targets<'_>
         ensures scope { result.scope.now ≡ self.now }
         ensures named { AreNames self.now result.named.now }
@@ -93,8 +93,8 @@ impl<'a, D: Device> SectionScope<'a, D> {
         self.names.reads_signal(alloc, expr)
     }
 
-    /// The bits of an expression of which nothing is refused, in just the counted nodes. Only `NodeLimit` or want of memory
-    /// can come.
+    /// The bits of an expression of which nothing is refused, in just the counted nodes. Only `NodeLimit` or lack of memory
+    /// can occur.
     pub fn bits(&self, alloc: Global, expr: &Expr, exprs: &mut Exprs) -> Result<Shaped, ExprFault>
         requires accepted { refusal_of self.now (view expr.now) ≡ None }
         ensures { MakesBits (context_for D.table self.now) (view expr.now) exprs.old exprs.new result }

@@ -19,7 +19,7 @@ pub struct Side {
     pub fault: Option<SectionFault>,
 }
 
-/// The number of the name with this text, None where it is not declared. Takes no memory.
+/// The number of the name with this text, None if it is not declared. Takes no memory.
 pub fn number_of(scope: &Scope<'_>, text: &[u8]) -> Option<u32>
     ensures { result ≡ find (entries_of scope.now) text.now }
 {
@@ -42,8 +42,8 @@ fn list_aims(alloc: Global, signals: &[u32], place: Place) -> Result<Vec<Aim>, A
         .collect(alloc)
 }
 
-/// Where the signals of the name with this number stand: where the side begins if it is a signal's, and else where it is
-/// used.
+/// The place of the signals of the name with this number: the beginning of the side if it is a signal's, and else the
+/// place of its use.
 fn start(scope: &Scope<'_>, number: Option<u32>, used: Place, begin: Place) -> Place
     ensures { result ≡ (if is_signal_number (entries_of scope.now) number then begin else used) }
 {
@@ -59,14 +59,14 @@ fn start(scope: &Scope<'_>, number: Option<u32>, used: Place, begin: Place) -> P
     }
 }
 
-/// Refused where a name stands for what is no signal.
+/// Refused if a name represents what is no signal.
 fn refuse_mixed(alone: bool, place: Place, name: Option<u32>) -> Option<SectionFault>
     ensures { result ≡ first_refusal section_order (if alone then [] else NotAnOutput place name ∷ []) }
 {
     (!alone).then_some(SectionFault::NotAnOutput(place, name))
 }
 
-/// Refused where a set has more than 32 positions.
+/// Refused if a set has more than 32 positions.
 pub(crate) fn refuse_wide(place: Place, width: usize) -> Option<SectionFault>
     ensures { (n : ℕ) → width ≡ min 33 n → result ≡ first_refusal section_order (too_wide place n) }
 {
@@ -84,8 +84,8 @@ impl Side {
         }
     }
 
-    /// The name with this text, used at this place. A signal that it names itself stands where the side begins, and what a
-    /// constant brings at the name.
+    /// The name with this text, used at this place. A signal that it names itself is at the beginning of the side, and
+    /// what a constant brings at the name.
     pub(crate) fn of_name(
         targets: &Targets<'_>,
         text: &[u8],
@@ -107,7 +107,7 @@ impl Side {
         })
     }
 
-    /// With what is found of a member behind it.
+    /// With what is found of a member after it.
     #[tactic(auto, using(abel_tree::proofs::FirstRefusals::first_append))]
     pub(crate) fn with(self, other: &Side) -> Result<Side, OutOfMemory>
         ensures { IfOk result (λ s. (count : ℕ) (x y : TargetFound) → IsSide count self x → IsSide count other.now y → IsSide count s (targets_both x y)) }

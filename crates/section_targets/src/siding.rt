@@ -33,7 +33,7 @@ pub(crate) fn left_side(
     }
 }
 
-/// What is no name alone, in a target or header: refused as no output where it begins. Takes no memory.
+/// What is no name alone, in a target or header: refused as no output at its beginning. Takes no memory.
 pub fn refuse_operator(scope: &Scope<'_>, expr: &Expr) -> SectionFault
     ensures { result ≡ NotAnOutput (first_place (view expr.now)) (first_name (entries_of scope.now) (view expr.now)) }
 {

@@ -14,7 +14,7 @@ use std::alloc::Global;
 
 /// What was walked so far: its nodes and contributions, how it assigns signals, and the first refusal by place. Once
 /// something is refused, units are only checked, and `exprs` and `list` stay. Where memory runs out, the nodes that were
-/// there stand, and `list` has a front of what was to be appended.
+/// there are, and `list` has a front of what was to be appended.
 #[derive(Drop)]
 pub struct Walked {
     pub exprs: Exprs,
@@ -39,7 +39,7 @@ impl Walked {
         }
     }
 
-    /// Keeps the refusal of a unit where it is the first; whether anything is refused so far.
+    /// Keeps the refusal of a unit if it is the first; whether anything is refused so far.
     pub fn refuse(&mut self, fault: Option<SectionFault>) -> bool
         ensures first { self.new ≡ record self.old { fault = first.earlier section_order self.old.fault fault } }
         ensures refused { result ≡ is_some self.new.fault }

@@ -22,7 +22,7 @@ fn known_word(alloc: Global, places: &[Option<ExprId>]) -> Result<Vec<ExprId>, A
         .collect(alloc)
 }
 
-/// The rightmost bit, 0 where there is none.
+/// The rightmost bit, 0 if there isn't one.
 fn first_bit(word: &[ExprId]) -> ExprId
     ensures { result ≡ get_or word.now 0 (record { 0 = 0 }) }
 {

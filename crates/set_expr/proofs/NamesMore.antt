@@ -20,7 +20,7 @@ first_or : {A : Type 0} (b : Bool) (x : A) (o more n : Option A) → more ≡ op
 first_or true x o more n e = refl
 first_or false x o more n e = e
 
--- a new name stands behind the others
+-- a new name follows the others
 pub inserted : (es : List (Vec ℕ × KnownName)) (key : Vec ℕ) (v : KnownName) (w : List ℕ) → under (by_bytes es) key.items ≡ None
     → under (by_bytes (insert_entry (λ a b. bytes_eq a.items b.items) es key v)) w ≡ option_or (under (by_bytes es) w) (if bytes_eq w key.items then Some v else None)
 inserted [] key v w e = refl

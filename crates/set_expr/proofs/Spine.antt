@@ -12,7 +12,7 @@ Link = Binary × Place × Expr
 abbrev pub seen : Binary × Place × Bor Expr → Link
 seen x = (x.0, x.1, x.2.now)
 
--- a first operand with the operators behind it, the innermost the last of the list
+-- a first operand with the operators after it, the innermost the last of the list
 abbrev pub built : Expr → List Link → Expr
 built e [] = e
 built e (x ∷ xs) = expr.Binary x.0 x.1 (built e xs) x.2
@@ -35,7 +35,7 @@ first_below e (x ∷ xs) = omega (arith, first_below e xs, left_below x.0 x.1 (b
 view_both : (s : Binary) (p : Place) (l r : Expr) (ns : List NameFound) → found_of ns (view (expr.Binary s p l r)) ≡ found_both s p (found_of ns (view l)) (found_of ns (view r))
 view_both s p l r ns = search (rules, the_lemmas)
 
--- on the way down: the first operand and the operators behind it make up the whole
+-- on the way down: the first operand and the operators after it make up the whole
 pub record Down (first : Expr) (xs : List Link) (whole : Expr) : Type 0 where
   pub same : built first xs ≡ whole
   pub size : size-Expr first ≤ size-Expr whole

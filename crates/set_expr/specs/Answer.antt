@@ -74,10 +74,10 @@ first_place (AParen p t) = p
 first_place (AUnary sign p t) = p
 first_place (ABinary sign p t u) = first_place t
 
--- what was there stands under its id
+-- what was there is under its id
 abbrev pub Keeps : (old new : List Formula) → Type 0
 Keeps old new = (i : ℕ) (f : Formula) → slice_get old i ≡ Some f → slice_get new i ≡ Some f
 
--- the first refusal of an expression, none where nothing is refused
+-- the first refusal of an expression, none if nothing is refused
 abbrev pub refusal_of : Names → Tree → Option SectionFault
 refusal_of n t = first_refusal section_order (expression_found (entries_of n) t).refusals

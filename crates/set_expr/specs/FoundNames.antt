@@ -1,4 +1,4 @@
--- What is refused of expressions over names; a constant stands for its expression (ABEL-HDL Reference Manual,
+-- What is refused of expressions over names; a constant represents its expression (ABEL-HDL Reference Manual,
 -- constants and sets).
 use Rattle.std.specs.Prelude.{ℕ, Bool, true, false, Option, None, Some, List, [], ◌∷◌, ◌++◌, if◌then◌else◌, unwrap_or, bytes_eq, codes}
 use Rattle.set_expr.specs.Prelude.{Place, Kind, APin, ANode, AConstant, ADeviceName, Entry, Tree, ANumber, ASpecial, AName, ASet, AParen, AUnary, ABinary, SetMember, OneMember, SpanMember, Members, NoMember, MoreMembers, Single, Value, plain_value}
@@ -7,7 +7,7 @@ use Rattle.set_expr.specs.declared.fault.SectionFault.{SectionFault}
 use Rattle.set_expr.specs.declared.fault.SectionFault.TheVariants.{MisplacedSpecial}
 use Rattle.set_expr.specs.Refusals.{Found, found_both, found_under, found_set}
 
--- what is known of a name: what is found of it at its declaration, and whether it stands for `.C.` or `.Z.`
+-- what is known of a name: what is found of it at its declaration, and whether it represents `.C.` or `.Z.`
 pub record NameFound : Type 0 where
   pub name : List ℕ
   pub found : Found
@@ -32,7 +32,7 @@ found_special letter p =
     then record { refusals = []; specials = MisplacedSpecial p ∷ []; value = Some (one_position true) }
     else refused_there (MisplacedSpecial p)
 
--- what X positions behind a name are refused as: one refusal, at the name
+-- what X positions after a name are refused as: one refusal, at the name
 abbrev pub at_name : Place → List SectionFault → List SectionFault
 at_name p [] = []
 at_name p (x ∷ xs) = MisplacedSpecial p ∷ []
@@ -47,7 +47,7 @@ found_use p n =
 abbrev pub nothing_found : NameFound
 nothing_found = record { name = []; found = found_value (plain_value 0); is_pulse = false }
 
--- what is known of a name, none where it isn't declared
+-- what is known of a name, none if it isn't declared
 abbrev pub named : List NameFound → List ℕ → Option NameFound
 named [] name = None
 named (n ∷ ns) name = if bytes_eq name n.name then Some n else named ns name
@@ -79,19 +79,19 @@ abbrev mutual
   found_before ns (OneMember t) fs = found_of ns t ∷ fs
   found_before ns (SpanMember first last) fs = range_found ns first.place (range_names first.text last.text) fs
 
--- the expression is `.C.` or `.Z.` itself, up to parentheses: the name of a constant that is may stand in a row of
+-- the expression is `.C.` or `.Z.` itself, up to parentheses: the name of a constant that is may be in a row of
 -- vectors alone
 abbrev pub is_pulse : Tree → Bool
 is_pulse (ASpecial letter p) = if bytes_eq (letter ∷ []) (codes "X") then false else true
 is_pulse (AParen p t) = is_pulse t
 is_pulse _ = false
 
--- a constant's expression is refused nothing where it is `.C.` or `.Z.`
+-- a constant's expression is refused nothing if it is `.C.` or `.Z.`
 abbrev pub found_constant : (pulse : Bool) → Found → Found
 found_constant true f = found_value (plain_value 0)
 found_constant false f = f
 
--- what a declared name stands for
+-- what a declared name represents
 abbrev pub found_kind : List NameFound → Kind → Found
 found_kind ns (APin pin negated) = found_value (one_position false)
 found_kind ns (ANode number) = found_value (one_position false)
@@ -102,7 +102,7 @@ abbrev pub is_pulse_kind : Kind → Bool
 is_pulse_kind (AConstant t) = is_pulse t
 is_pulse_kind _ = false
 
--- what is known of an entry behind these names
+-- what is known of an entry after these names
 abbrev pub found_entry : List NameFound → Entry → NameFound
 found_entry ns e = record { name = e.name; found = found_kind ns e.kind; is_pulse = is_pulse_kind e.kind }
 

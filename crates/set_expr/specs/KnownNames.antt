@@ -52,7 +52,7 @@ IsKnownIf None None = Unit {0}
 IsKnownIf (Some k) (Some n) = IsKnownName k n
 IsKnownIf _ _ = ⊥
 
--- where a name stands in the list, if it is known
+-- the place of a name in the list, if it is known
 abbrev pub IsPlaced : Option KnownName → Option ℕ → Type 0
 IsPlaced None place = place ≡ None
 IsPlaced (Some k) place = place ≡ Some k.number

@@ -1,5 +1,5 @@
--- What is refused of set expressions, with places (ABEL-HDL Reference Manual, operators and sets; this project's rule
--- where the special values may stand).
+-- What is refused of set expressions, with places (ABEL-HDL Reference Manual, operators and sets; the places at which
+-- special values are allowed are this project's rule).
 use Rattle.std.specs.Prelude.{ℕ, ◌+◌, ◌==◌, nat_lt, Bool, true, false, if◌then◌else◌, Option, None, Some, List, [], ◌∷◌, ◌++◌}
 use Rattle.set_expr.specs.Prelude.{Place, Shape, Number, Single, Set, member_width, Value, is_relation, plain_value, binary_value, unary_value, joined_value, no_position}
 use Rattle.abel_tree.specs.declared.words.Binary.{Binary}
@@ -8,8 +8,8 @@ use Rattle.abel_tree.specs.declared.words.Unary.{Unary}
 use Rattle.set_expr.specs.declared.fault.SectionFault.{SectionFault}
 use Rattle.set_expr.specs.declared.fault.SectionFault.TheVariants.{NotConstant, ZeroDivisor, BadWidth}
 
--- what is found of an expression: its refusals; what its X positions are refused as where none may stand; and its
--- value at a point that gives no level, none where it is refused
+-- what is found of an expression: its refusals; what its X positions are refused as at a place at which none is
+-- allowed; and its value at a point that gives no level, none if it is refused
 pub record Found : Type 0 where
   pub refusals : List SectionFault
   pub specials : List SectionFault
@@ -27,7 +27,7 @@ abbrev pub unequal : Place → Shape → Shape → List SectionFault
 unequal p (Set v) (Set w) = if v == w then [] else BadWidth p ∷ []
 unequal p s t = []
 
--- and, where one bit isn't spread, one bit beside a set of several
+-- and, if one bit isn't spread, one bit beside a set of several
 abbrev pub unequal_unspread : Place → Shape → Shape → List SectionFault
 unequal_unspread p Single (Set w) = if w == 1 then [] else BadWidth p ∷ []
 unequal_unspread p (Set w) Single = if w == 1 then [] else BadWidth p ∷ []
@@ -56,7 +56,7 @@ operator_refusals binary.Over p s t n = no_divisor p s t n
 operator_refusals binary.Rest p s t n = no_divisor p s t n
 operator_refusals _ p s t n = unequal_unspread p s t
 
--- and of two operands, where both have a value
+-- and of two operands, if both have a value
 abbrev pub operands_refused : Binary → Place → Option Value → Option Value → List SectionFault
 operands_refused sign p None u = []
 operands_refused sign p (Some v) None = []
@@ -81,7 +81,7 @@ found_both sign p f g =
     ++ (specials_refused (is_relation sign) f.specials g.specials ++ operands_refused sign p f.value g.value))
     [] (value_of_both sign f.value g.value)
 
--- the value of an operand, a number's where it has none
+-- the value of an operand, a number's if it has none
 abbrev pub value_or_none : Option Value → Value
 value_or_none None = plain_value 0
 value_or_none (Some v) = v

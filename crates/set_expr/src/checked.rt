@@ -3,8 +3,8 @@
 use crate::fault::SectionFault;
 use crate::shaped::Shape;
 
-/// The first refusal of an expression, and where nothing is refused its shape and the first of its X positions,
-/// as what it is refused as.
+/// The first refusal of an expression, and if nothing is refused its shape and the first of its X positions, as
+/// what it is refused as.
 #[derive(Clone, Copy, PartialEq, Eq)]
 pub struct Checked {
     pub shape: Option<Shape>,

@@ -89,8 +89,8 @@ fn part_width(shape: Option<Shape>) -> u8
     }
 }
 
-/// What is found of the members of a set so far: their X positions, their refusals and how many positions they
-/// have, 255 where there are more.
+/// What is found of the members of a set so far: their X positions, their refusals and how many positions they have,
+/// 255 if there are more.
 #[derive(Clone, Copy, PartialEq, Eq)]
 pub(crate) struct Members {
     special: Option<SectionFault>,

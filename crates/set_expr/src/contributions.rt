@@ -11,7 +11,7 @@ pub struct Target {
     pub extension: Option<Extension>,
 }
 
-/// Where its bit is 1, a contribution says that the signal is 1, that it may be either, or that its table or
+/// If its bit is 1, a contribution says that the signal is 1, that it may be either, or that its table or
 /// diagram matches.
 #[derive(Clone, Copy, PartialEq, Eq)]
 pub enum Gives {
@@ -20,9 +20,9 @@ pub enum Gives {
     Match,
 }
 
-/// What is given to a target, or to its complement, where the bit `when` is 1. Tables and diagrams are blocks,
-/// numbered from 0 through the source; an equation has the block of the diagram that it stands in, and else
-/// none. `dontcare` says that the block is don't-care for the signal. The place is the target's.
+/// What is given to a target, or to its complement, if the bit `when` is 1. Tables and diagrams are blocks,
+/// numbered from 0 through the source; an equation has the block of the diagram that it is in, and else none.
+/// `dontcare` says that the block is don't-care for the signal. The place is the target's.
 #[derive(Clone, Copy, PartialEq, Eq)]
 pub struct Contribution {
     pub target: Target,
@@ -42,7 +42,7 @@ pub struct Contributions {
     pub list: ListOf<Contribution>,
 }
 
-/// What stands round a statement: the conditions as one bit, whether `@DCSET` is in force for the block, and the
+/// What surrounds a statement: the conditions as one bit, whether `@DCSET` is in force for the block, and the
 /// block.
 #[derive(Clone, Copy, PartialEq, Eq)]
 pub struct Guard {

@@ -5,11 +5,11 @@ use pld_base::{OutOfMemory, Place};
 use std::alloc::{AllocError, AllocFailed};
 use thiserror::Error;
 
-/// A refusal of a section with its place in the expanded text. A number is that of the name that is told, from
-/// 0 in the order of declaration.
+/// A refusal of a section with its place in the expanded text. A number is that of the name that is reported,
+/// from 0 in the order of declaration.
 #[derive(Clone, Copy, Debug, PartialEq, Eq, Error)]
 pub enum SectionFault {
-    /// `.X.`, `.C.` or `.Z.` where it may not stand, or a name that holds one.
+    /// `.X.`, `.C.` or `.Z.` at a place at which it isn't allowed, or a name that holds one.
     #[error("a special value that may not stand here")]
     MisplacedSpecial(Place),
     /// An operator of numbers beside what has bits.
@@ -50,7 +50,7 @@ impl Ranked for SectionFault {
 
     ghost ranks = { section_order };
 
-    /// Want of memory stands at line 0.
+    /// Lack of memory has line 0.
     fn place(&self) -> Place {
         match *self {
             SectionFault::MisplacedSpecial(place) => place,

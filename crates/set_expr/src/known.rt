@@ -13,7 +13,7 @@ use pld_base::OutOfMemory;
 use std::alloc::Global;
 use std::marker::Model;
 
-/// What is known of all names of a source. A look-up takes no longer where there are many.
+/// What is known of all names of a source. A look-up takes no longer if there are many.
 #[derive(Drop)]
 pub(crate) struct KnownNames {
     names: IndexMap<Vec<u8>, KnownName>,

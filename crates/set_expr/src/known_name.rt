@@ -3,7 +3,7 @@
 use crate::checked::Checked;
 
 /// What is known of a name: its number in the order of declaration, what the check of its declaration finds, and
-/// whether it stands for `.C.` or `.Z.`.
+/// whether it represents `.C.` or `.Z.`.
 #[derive(Clone, Copy, PartialEq, Eq)]
 pub struct KnownName {
     pub number: u32,

@@ -34,7 +34,8 @@ pub(crate) fn known_names(alloc: Global, names: &Names) -> Result<KnownNames, Ou
     Ok(known)
 }
 
-/// What a declaration comes to by the names before it, and whether the name stands for `.C.` or `.Z.`.
+/// What a declaration amounts to by the names before it, and whether the name represents `.C.` or
+/// `.Z.`.
 fn learn(
     alloc: Global,
     known: &KnownNames,

@@ -5,7 +5,7 @@ ghost use Rattle.set_expr.specs.Prelude.{computes_numbers, is_relation, unary_nu
 
 use abel_tree::{Binary, Unary};
 
-/// What an operator gives of two numbers. Where the divisor is 0 the quotient is 0 and the rest the number itself;
+/// What an operator gives of two numbers. If the divisor is 0 the quotient is 0 and the rest the number itself;
 /// relations give 0 here.
 #[tactic(auto, using(crate::proofs::WholeNumbers::and_by_position, crate::proofs::WholeNumbers::or_by_position, crate::proofs::WholeNumbers::xor_by_position, crate::proofs::WholeNumbers::xnor_by_position))]
 pub fn number_of(sign: Binary, left: u32, right: u32) -> u32

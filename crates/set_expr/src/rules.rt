@@ -12,7 +12,7 @@ use crate::shaped::Shape;
 use abel_tree::{Binary, Unary, earlier};
 use pld_base::Place;
 
-/// The shape of what an operator gives, where both operands have one.
+/// The shape of what an operator gives, if both operands have one.
 fn shape_of_both(sign: Binary, left: Option<Shape>, right: Option<Shape>) -> Option<Shape>
     ensures { (v u : Value) → HasShapeIf left (Some v) → HasShapeIf right (Some u) → HasShapeIf result (Some (binary_value sign v u)) }
 {

@@ -65,14 +65,14 @@ impl<'a> Scope<'a> {
         self.names.list.as_slice()
     }
 
-    /// Pins are below 32, nodes below 128: this does nothing, and tells it.
+    /// Pins are below 32, nodes below 128: this does nothing, and states it.
     pub fn are_placed(&self)
         ensures { ArePlaced self.now }
     {
         let _names = self.names;
     }
 
-    /// A constant names earlier names alone: this does nothing, and tells it.
+    /// A constant names earlier names alone: this does nothing, and states it.
     pub fn are_in_order(&self)
         ensures { AreInOrder (entries_of self.now) }
     {
@@ -94,8 +94,8 @@ impl<'a> Scope<'a> {
         checked_name(&self.known, text, place)
     }
 
-    /// What is found of an expression: its first refusal, or its shape and the first of its X positions. Calls go as
-    /// deep as the nestings, however many operators stand in a row, and constants are looked up.
+    /// What is found of an expression: its first refusal, or its shape and the first of its X positions. Calls go as deep
+    /// as the nestings, however many operators are in a row, and constants are looked up.
     pub fn check(&self, alloc: Global, expr: &Expr) -> Result<Checked, OutOfMemory>
         ensures { IfOk result (λ c. SumsUp c (expression_found (entries_of self.now) (view expr.now))) }
     {

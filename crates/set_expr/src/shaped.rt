@@ -1,4 +1,4 @@
-//! What an expression comes to.
+//! What an expression amounts to.
 
 use bit_expr::ExprId;
 use pld_base::ListOf;

@@ -11,7 +11,7 @@ pub told_of : (rs : List SectionFault) (f : SectionFault) → first_refusal sect
 told_of rs fault.OutOfMemory e = tt
 told_of rs _ e = e
 
--- where nothing is refused of both, nothing is of the units
+-- if nothing is refused of both, nothing is of the units
 pub accepted_right : (c u : Option SectionFault) → earlier section_order c u ≡ None → u ≡ None
 accepted_right c u e = (both_clear c u (ap is_some e)).1
 

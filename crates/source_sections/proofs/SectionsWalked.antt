@@ -1,4 +1,4 @@
--- A section is walked by its statements, rows or states, and behind it those that are left; the same of declarations.
+-- A section is walked by its statements, rows or states, and after it those that are left; the same of declarations.
 use Rattle.std.proofs.Common.{◌≡◌, ℕ, Bool, true, Option, List, [], ◌∷◌, ◌++◌, refl, sym, subst}
 use Rattle.source_sections.proofs.Common.{arena, formula_at, Table, Names, SectionTree, Declaration, DontCareFor, Context, after_declarations, after_section, formulas, context_for, view_guard, Manner, Walked, AreFirsts, Walks, walks_none, walks_then, WalksSection, section_manners, sections_manners, section_places, sections_places, units_of_section, units_of_sections}
 use Rattle.abel_meaning.specs.Sections.{next_block, section_gives, sections_give, unguarded}
@@ -8,14 +8,14 @@ use Rattle.set_expr.specs.declared.contributions.Guard.{Guard}
 
 -- ---- declarations
 
--- whether the directive is in force behind declarations
+-- whether the directive is in force after declarations
 pub declarations_then : (on : Bool) (d : Declaration) (ds : List Declaration) → after_declarations on (d ∷ ds) ≡ after_declarations (after_declarations on (d ∷ [])) ds
 declarations_then on (DontCareFor directive) ds = refl
 declarations_then on _ ds = refl
 
 -- ---- one section
 
--- no condition stands round a block or statements
+-- no condition surrounds a block or statements
 guard_open : (d : Context) (fs : List Formula) (g : Guard) (on : Bool) (block : Option ℕ) → formula_at fs g.when ≡ Const true → g.dontcare ≡ on → g.block ≡ block → view_guard fs g ≡ unguarded (formulas d) on block
 guard_open d fs g on block w o b = rw (w, o, b) refl
 
@@ -23,7 +23,7 @@ guard_open d fs g on block w o b = rw (w, o, b) refl
 abbrev pub Within : Context → List Manner → Bool → ℕ → SectionTree → (old new : Walked) → Type 0
 Within d all on block s old new = Walks all (units_of_section d all s) (section_gives (formulas d) d on block s) (section_places d s) (section_manners d all s) old new
 
--- what a walk under its guard leaves is left of a section where that is so under the guard of no condition
+-- what a walk under its guard leaves is left of a section if that is so under the guard of no condition
 pub section_walked : (d : Context) (on : Bool) (block : ℕ) (all : List Manner) (g : Guard) (own : Option ℕ) (s x : SectionTree) (old new : Walked) (Leaves : meant.Guard Formula → Type 0)
     → s ≡ x → formula_at (arena old.exprs) g.when ≡ Const true → g.dontcare ≡ on → g.block ≡ own
     → (Leaves (unguarded (formulas d) on own) → Within d all on block x old new) → Leaves (view_guard (arena old.exprs) g) → Within d all on block s old new

@@ -17,7 +17,7 @@ use Rattle.source_sections.specs.SectionUnits.{section_manners, sections_manners
 abbrev pub view_sections : List Section → List SectionTree
 view_sections list = map view_section list
 
--- a section where `@DCSET` is in force or not, as the block with this number where it is one, behind what was walked
+-- a section where `@DCSET` is in force or not, as the block with this number if it is one, after what was walked
 -- before
 abbrev pub WalksSection : Table → Names → (on : Bool) → (block : ℕ) → SectionTree → (old new : Walked) → Type 0
 WalksSection t n on block s old new =

@@ -1,5 +1,5 @@
--- What the sections of a source contribute, and when which answer comes (ABEL-HDL Reference Manual, sections of a module;
--- the first refusal by place is this project's rule).
+-- What the sections of a source contribute, and when which answer occurs (ABEL-HDL Reference Manual, sections of a
+-- module; the first refusal by place is this project's rule).
 use Rattle.std.specs.Prelude.{◌≡◌, ◌+◌, Some, List, [], ◌++◌, length, map, Result, Ok, Err}
 use Rattle.pld_device.specs.Table.{Table}
 use Rattle.bit_expr.specs.Arena.{arena}
@@ -36,7 +36,7 @@ pub record AreContributed (d : Design) (found : Contributions) : Type 0 where
   pub places : map (λ (c : Contribution). c.place) found.list ≡ sections_places d.context d.sections
   pub nodes : length (arena found.exprs) ≡ length (arena []) + units_nodes (source_units d)
 
--- want of memory, or the first of refusals
+-- lack of memory, or the first of refusals
 abbrev pub IsTold : List SectionFault → SectionFault → Type 0
 IsTold rs fault.OutOfMemory = Unit {0}
 IsTold rs f = first_refusal section_order rs ≡ Some f

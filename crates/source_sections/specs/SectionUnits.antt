@@ -14,7 +14,7 @@ use Rattle.truth_tables.specs.TableUnits.{assigned_by, table_places, units_of_ta
 use Rattle.state_diagrams.specs.DiagramUnits.{diagram_manners, units_of_diagram}
 use Rattle.state_diagrams.specs.DiagramPlaces.{diagram_places}
 
--- how a section assigns signals behind what was assigned before, in order; vectors assign none
+-- how a section assigns signals after what was assigned before, in order; vectors assign none
 abbrev pub section_manners : Context → List Manner → SectionTree → List Manner
 section_manners d before (Equations ss) = statements_manners d (statements_of ss)
 section_manners d before (ATable place inputs clocked outputs rows) = assigned_by clocked (output_header d outputs)
@@ -37,7 +37,7 @@ abbrev pub sections_places : Context → List SectionTree → List Place
 sections_places d [] = []
 sections_places d (s ∷ ss) = section_places d s ++ sections_places d ss
 
--- the units of a section behind what was assigned before; nothing stands round its statements, and what is refused of
+-- the units of a section after what was assigned before; nothing surrounds its statements, and what is refused of
 -- vectors is a list of its own
 abbrev pub units_of_section : Context → List Manner → SectionTree → List CountedUnit
 units_of_section d before (Equations ss) = units_of_statements d (Const true) before (statements_of ss)

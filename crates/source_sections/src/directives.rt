@@ -24,7 +24,7 @@ fn after_declaration(on: bool, decl: &Decl) -> bool
     }
 }
 
-/// Whether it is in force after declarations, where it is `on` before them. Takes no memory.
+/// Whether it is in force after declarations, if it is `on` before them. Takes no memory.
 pub(crate) fn after_declarations(mut on: bool, decls: &[Decl]) -> bool
     ensures { result ≡ designs.after_declarations on (map view_decl decls.now) }
 {
@@ -53,7 +53,7 @@ fn after_statement(on: bool, stmt: &Stmt) -> bool
     }
 }
 
-/// After statements one behind another. Calls go as deep as the nestings of statements.
+/// After statements one after another. Calls go as deep as the nestings of statements.
 #[cycle(directives)]
 pub(crate) fn after_statements(mut on: bool, stmts: &[Stmt]) -> bool
     ensures { result ≡ directives.after_statements on (view_list stmts.now) }
@@ -75,7 +75,7 @@ fn after_choices(mut on: bool, arms: &[CaseArm]) -> bool
     on
 }
 
-/// After a transition: the statements behind a goal, both branches of IF. Calls go as deep as the nestings of transitions.
+/// After a transition: the statements after a goal, both branches of IF. Calls go as deep as the nestings of transitions.
 #[cycle(arms)]
 fn after_arm(on: bool, arm: &Arm) -> bool
     ensures { result ≡ directives.after_branch on (view_arm arm.now) }
@@ -96,7 +96,7 @@ fn after_arm(on: bool, arm: &Arm) -> bool
     }
 }
 
-/// After transitions one behind another.
+/// After transitions one after another.
 fn after_arms(mut on: bool, arms: &[Arm]) -> bool
     ensures { result ≡ directives.after_branches on (view_arms arms.now) }
 {
@@ -106,8 +106,8 @@ fn after_arms(mut on: bool, arms: &[Arm]) -> bool
     on
 }
 
-/// Whether it is in force after states, where it is `on` before them: the statements of each, and then its transitions.
-/// Takes no memory.
+/// Whether it is in force after states, if it is `on` before them: the statements of each, and then its transitions. Takes
+/// no memory.
 pub(crate) fn after_states(mut on: bool, states: &[State]) -> bool
     ensures { result ≡ directives.after_states on (map view_state states.now) }
 {

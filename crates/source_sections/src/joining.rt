@@ -12,9 +12,9 @@ use section_targets::{SectionScope, Walked};
 use set_expr::{Contributions, SectionFault};
 use std::alloc::Global;
 
-/// What the sections of a module contribute in their order, made in an arena of their own, where nothing is refused of
-/// its constants and its sections. Else the first refusal by place; the limit of nodes counts among them. Everything is
-/// gone over once: each unit is checked, and made where no unit is refused so far.
+/// What the sections of a module contribute in their order, made in an arena of their own, if nothing is refused of its
+/// constants and its sections. Else the first refusal by place; the limit of nodes counts among them. Everything is
+/// gone over once: each unit is checked, and made if no unit is refused so far.
 pub fn contributions<D: Device>(
     alloc: Global,
     scope: &SectionScope<'_, D>,

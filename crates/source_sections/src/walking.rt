@@ -1,4 +1,4 @@
-//! The walk over sections, one after another: each unit is checked, and made where nothing is refused so far.
+//! The walk over sections, one after another: each unit is checked, and made if nothing is refused so far.
 
 ghost use Rattle.std.specs.Prelude.{◌≡◌, ℕ, [], Some, IfOk, OnOk};
 ghost use Rattle.abel_tree.specs.View.{view_section};
@@ -18,7 +18,7 @@ use state_diagrams::walk_diagram;
 use std::alloc::Global;
 use truth_tables::walk_table;
 
-/// Whether `@DCSET` is in force after a section, where it is `on` before it. Takes no memory.
+/// Whether `@DCSET` is in force after a section, if it is `on` before it. Takes no memory.
 fn after_section(on: bool, section: &Section) -> bool
     ensures { result ≡ directives.after_section on (view_section section.now) }
 {
@@ -31,8 +31,8 @@ fn after_section(on: bool, section: &Section) -> bool
     }
 }
 
-/// The number of the next block behind a section, which may be the block with this number; so many blocks that there is
-/// none are more than memory holds.
+/// The number of the next block after a section, which may be the block with this number; so many blocks that there isn't
+/// one are more than memory holds.
 fn block_after(block: u32, section: &Section) -> Result<u32, OutOfMemory>
     ensures { IfOk result (λ b. b ≡ next_block block (view_section section.now)) }
 {
@@ -45,8 +45,8 @@ fn block_after(block: u32, section: &Section) -> Result<u32, OutOfMemory>
     }
 }
 
-/// A section behind what was walked before. The guard round it has no condition, and the number of the section where it is
-/// a block; statements stand in no block.
+/// A section after what was walked before. The guard round it has no condition, and the number of the section if it is a
+/// block; statements are in no block.
 fn walk_section<D: Device>(
     alloc: Global,
     scope: &SectionScope<'_, D>,

@@ -7,7 +7,7 @@ use Rattle.state_diagrams.proofs.StateBits.{bit_at}
 
 -- ---- one register
 
--- one, and a match behind it
+-- one, and a match after it
 pub register_given : (d : Context) (h k : meant.Guard Formula) (p : Place) (a : Aim) (w : Formula) (old mid new : Contributions) (r : Result Unit SectionFault) → k ≡ h
     → IsBuilt (part p (make_and h.holds w).nodes ∷ []) (contribution d h None false true meant.One a.signal (make_and h.holds w).what ∷ []) (a.place ∷ []) old mid
     → Builds [] (contribution d k None false true meant.Match a.signal k.holds ∷ []) (a.place ∷ []) mid new r
@@ -32,7 +32,7 @@ sized xs = sym (length-map xs (λ (x : Aim). x.signal))
 abbrev pub goal_word : Context → List Aim → Goal → List Formula
 goal_word d xs g = (formulas d).word (length xs) (term_of d.known (view g.value))
 
--- the value, and the registers behind it, in parts of the goal's unit
+-- the value, and the registers after it, in parts of the goal's unit
 abbrev pub goal_parted : Context → meant.Guard Formula → List Aim → Goal → Work
 goal_parted d h xs g =
     before (record { units = part g.place (term_nodes d (view g.value)) ∷ []; gives = []; places = [] }) (goal_work d h g.place xs (goal_word d xs g))

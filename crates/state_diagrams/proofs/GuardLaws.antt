@@ -31,7 +31,7 @@ first rs = first_refusal section_order rs
 abbrev pub Choice : Type 0
 Choice = Tree × (Place × Branch)
 
--- a condition before others, behind what was found
+-- a condition before others, after what was found
 pub conditions_next : (d : Context) (f : Option SectionFault) (c : Choice) (cs : List Choice)
     → earlier section_order (earlier section_order f (first (condition_refused d c.1.0 c.0))) (first (choices_refused d (choices_of cs))) ≡ earlier section_order f (first (choices_refused d (choices_of (c ∷ cs))))
 conditions_next d f c cs =
@@ -59,7 +59,7 @@ conditions_then d g h p x cs old mid new r same b a =
     (two_parts p (choice_nodes d g (view x.condition) false) (choices_nodes d g (choices_of cs)) old mid new r
     (subst (λ (f : Formula). IsBuilt (part p (choice_nodes d f (view x.condition) false) ∷ []) [] [] old mid) same b) a)
 
--- where it stops, those behind it aren't made
+-- if it stops, those after it aren't made
 pub conditions_stop : (d : Context) (g h : Formula) (p : Place) (x : CaseArm) (cs : List Choice) (old new : Contributions) (f : SectionFault) → h ≡ g
     → StopsWith (part p (choice_nodes d h (view x.condition) false) ∷ []) [] [] old new f
     → StopsWith (part p (choices_nodes d g (choices_of (view_choice x ∷ cs))) ∷ []) [] [] old new f
@@ -68,7 +68,7 @@ conditions_stop d g h p x cs old new f same s =
     (stops_longer p [] (choice_nodes d g (view x.condition) false) (choices_nodes d g (choices_of cs)) old new f
     (subst (λ (k : Formula). StopsWith (part p (choice_nodes d k (view x.condition) false) ∷ []) [] [] old new f) same s))
 
--- the unit of conditions, made or stopped where nothing is refused so far
+-- the unit of conditions, made or stopped if nothing is refused so far
 pub conditions_made : (d : Context) (g : ExprId) (p : Place) (cs : Choices) (f : Option SectionFault) (old now new : Walked) (ns : List Node) (r : Result Unit SectionFault)
     → f ≡ first (choices_refused d cs) → now ≡ record old { fault = earlier section_order old.fault f } → is_some now.fault ≡ false → BuildsConditions d (formula_at (arena now.exprs) g) p cs now.exprs ns r → AfterMaking r (record now { exprs = ns }) new
     → (all : List Manner) → AreFirsts old.before all → Walks all (case_unit d (formula_at (arena old.exprs) g) p cs ∷ []) [] [] [] old new

@@ -70,7 +70,7 @@ module _ {W : Type 0} (ev : Evaluator W) (d : Context) (g h : Guard W) where
   state_by_any : (w : W) (ss : List ℕ) (s : StateTree) → state_gives ev d ss s (under g w) ≡ regarded_all (state_gives ev d ss s (under h w))
   state_by_any w ss s = parts _ _ (statements_by_any w (statements_of s.statements)) (branches_by_any w ss s.transitions)
 
-  -- under any other guard states give the same, but for block and don't-care
+  -- under any other guard states give the same, except for block and don't-care
   pub states_by_any : (ss : List ℕ) (states : List StateTree) → states_give ev d g ss states ≡ regarded_all (states_give ev d h ss states)
   states_by_any ss [] = refl
   states_by_any ss (s ∷ states) = parts _ _ (state_by_any (is_state ev d ss (term_of d.known s.value)) ss s) (states_by_any ss states)

@@ -8,7 +8,7 @@ use Rattle.abel_tree.specs.Extensions.{is_data}
 
 -- ---- signals that are seen, in any order
 
--- registers, and those that came before
+-- registers, and those that was earlier
 abbrev pub AreSeen : (registers before seen : List ℕ) → Type 0
 AreSeen ss before seen = (s : ℕ) → is_among seen s ≡ (is_among ss s || is_among before s)
 
@@ -20,7 +20,7 @@ seen_next ss before seen s h = λ t.
     joined true b c = refl
     joined false b c = or_comm c (b || false) ∙ ap (λ x. x || c) (or-false b)
 
--- one that came before already
+-- one that was earlier already
 seen_again : (ss before seen : List ℕ) (s : ℕ) → AreSeen ss before seen → is_among before s ≡ true → AreSeen ss (s ∷ before) seen
 seen_again ss before seen s h e = λ t. h t ∙ ap (λ b. is_among ss t || b) (there t (t == s) refl)
   where
@@ -28,7 +28,7 @@ seen_again ss before seen s h e = λ t. h t ∙ ap (λ b. is_among ss t || b) (t
     there t true p = ap (is_among before) (eqb-true t s p) ∙ e
     there t false p = refl
 
--- data to a signal that is no register and didn't come before
+-- data to a signal that is no register and didn't precede
 first_other : (data_to register came : Bool) → (data_to && not (register || came)) ≡ (data_to && not register && not came)
 first_other true false came = refl
 first_other _ _ came = refl
@@ -58,7 +58,7 @@ module _ (fs : List Formula) (d : Context) (g : meant.Guard Formula) (xs : List 
   abbrev stands : (before : List ℕ) → List Contribution → List Place
   stands before cs = other_places before (length ids) (map (other_signal (signals_of xs)) (map view cs)) (map (λ (c : Contribution). c.place) cs)
 
-  -- a match beside a contribution, where this holds
+  -- a match beside a contribution, if this holds
   abbrev beside : meant.Contribution Formula → Formula → meant.Contribution Formula
   beside c f = record c { extension = None; gives = meant.Match; holds = f }
 
@@ -79,7 +79,7 @@ module _ (fs : List Formula) (d : Context) (g : meant.Guard Formula) (xs : List 
             (All-map (λ (x : Contribution). x.when.0 < length fs) (pushed_beside c) ids bits.0) p.inside;
       }
 
-  -- one contribution before others, which is of another signal or not, and came before or not
+  -- one contribution before others, which is of another signal or not, and preceded or not
   one_pushed : (c : Contribution) (cs : List Contribution) (before seen : List ℕ) (other : Bool) → view c ≡ regarded d g (view c) → AreSeen (signals_of xs) before seen
       → ((ss ts : List ℕ) → AreSeen (signals_of xs) ss ts → ArePushed fs (meant_by (first_of_each ss (others cs))) (stands ss cs) (pushed_for ids ts cs))
       → ArePushed fs (meant_by (first_of_each before (cond other (view c ∷ others cs) (others cs))))

@@ -1,4 +1,4 @@
--- The number of a value that reads no signal, by its bits where all signals are 0.
+-- The number of a value that reads no signal, by its bits if all signals are 0.
 use Rattle.std.proofs.Common.{◌≡◌, ℕ, suc, ◌<◌, ◌≤◌, Bool, true, false, ◌||◌, Option, None, Some, List, [], ◌∷◌, length, map, refl, sym, ap, ap₂, ◌∙◌, subst, arith}
 use Rattle.state_diagrams.proofs.Common.{ExprId, Formula, formula_value, Names, entries_of, Tree, none_refused, Context, bits_of, Value, width_of, number_with, Term, Terms, known_of, term_of, term_value, set_value, constant_of, empty_point, binary_value, unary_value, joined_value, number_small, number_of_digits, SectionFault, IsShaped, bits_at, positions, refusal_of, expression_found, section_order, all_zero}
 use Rattle.expr_bits.specs.Reads.{reads_signal, any_reads_signal}
@@ -38,7 +38,7 @@ mutual
 
 -- ---- the number of positions
 
--- the positions of a value that reads no signal, where it is no number of its own
+-- the positions of a value that reads no signal, if it is no number of its own
 pub places_say : (d : Context) (fs : List Formula) (s : Shaped) (t : Term) → reads_signal t ≡ false → IsShaped fs s (constant_of d t) (bits_of d t).what
     → ((n : ℕ) → s.shape ≡ shape.Number n → ⊥) → number_with (map (formula_value all_zero) (bits_at fs s.places)) ≡ (constant_of d t).number
 places_say d fs s t still h other =

@@ -1,4 +1,4 @@
--- What stands after walks over transitions, states and diagrams, part by part, whatever they answer.
+-- What is after walks over transitions, states and diagrams, part by part, whatever they answer.
 use Rattle.std.proofs.Common.{◌≡◌, ℕ, ◌<◌, true, Option, None, Some, List, [], ◌∷◌, ◌++◌, length, map, refl, sym, ap, ◌∙◌, subst, option_map, Bool, filter}
 use Rattle.state_diagrams.proofs.Common.{Place, Table, ExprId, arena, formula_at, Formula, Goal, Tree, Branch, AnIf, ACase, OtherBranch, NoBranch, ABranch, Choices, choices_of, statements_of, StateTree, view, view_state, guarded, has_other, choice_nodes, condition_of, Context, other_gives, state_gives, formulas, term_of, no_matches, Guard, SectionFault, view_guard, expression_found, Aim, Manner, Walked, IsBit, value_refused, CountedUnit, Walks, AreBothGuards, WalksCondition, WalksStatements, StandsStatements, Statements, case_unit, branch_manners, signals_of, state_guard, statements_manners, Machine, StandsFor, WalksBranch, WalksConditions, WalksUnit, WalksValue, context_of_machine, branch_work, branches_work, choices_work, goal_unit, header_work, others_work, state_bit, state_places, state_unit, state_work, states_work, where_holds, within_work, other_branch_places, Work, before, StandsWork, StillStands, standing, stands_less, stands_same, stands_then, view_goal, view_if, is_some, Arm, If, other_of, view_arm, target_member, registers_given, registers_refused, aims_places, given_by, places_by, WalksBlock, state_manners, StandsBlock, StandsBranch, StandsBranches, StandsChoices, StandsOthers, StandsStates, StandsUnder, first_of_each, is_other, other_matches, other_places, other_signal, no_block, states_give, StandsValue}
 use Rattle.abel_meaning.specs.Contributions as meant
@@ -15,7 +15,7 @@ use Rattle.state_diagrams.proofs.WalkedDiagrams.{register_signals, registers_cle
 
 -- ---- guards
 
--- a guard counts only where nothing was refused before
+-- a guard counts only if nothing was refused before
 pub under_still : (g : Guard) (work : meant.Guard Formula → Work) (old new : Walked) → StandsWork (work (view_guard (arena old.exprs) g)) old new → StandsUnder g work old new
 under_still g work old new a = λ h e. by_fault h e old.fault refl
   where
@@ -35,11 +35,11 @@ module _ (g : Guard) (us : meant.Guard Formula → List CountedUnit) (v w : mean
 pub stands_front : (g : Guard) (v w : meant.Guard Formula → Work) (old new : Walked) → StandsUnder g v old new → StandsUnder g (λ h. before (v h) (w h)) old new
 stands_front g v w old new b = λ h e. stands_less (v h).gives (w h).gives (v h).places (w h).places old new (b h e)
 
--- what is given behind a unit that gives nothing, where the walk ends at the unit
+-- what is given after a unit that gives nothing, if the walk ends at the unit
 pub nothing_given : (gs : List (meant.Contribution Formula)) (ps : List Place) (old new : Walked) → StillStands [] [] old new → StillStands gs ps old new
 nothing_given gs ps old new s = stands_less [] gs [] ps old new s
 
--- where the same stands
+-- the place of the same
 pub stands_as : (gs : List (meant.Contribution Formula)) (ps : List Place) (old mid new : Walked) → standing new ≡ standing mid → StillStands gs ps old mid → StillStands gs ps old new
 stands_as gs ps old mid new e s =
     record { front = subst (λ x. Leaves (standing old) x gs ps) (sym e) s.front; stays = λ f k. e ∙ s.stays f k }
@@ -124,7 +124,7 @@ module _ {D : Type 0} (t : Table) (m : Machine D) (g : Guard) (gs : BothGuards) 
       (stands_then mid.before (branch_manners d b) (branch_work d (guarded (formulas d) h k) m.registers.now mid.before b).units (one h).gives (other h).gives (one h).places (other h).places mid far new v
       (inner (guarded (formulas d) h k) (under_then h e)) (other_stands t m else j o far new stands outer))
 
--- an IF of the code, where the walk ends behind its branch
+-- an IF of the code, if the walk ends after its branch
 pub if_ends : {D : Type 0} (t : Table) (m : Machine D) (g : Guard) (gs : BothGuards) (i : If) (both : Bool) (old mid far : Walked) → both ≡ is_some i.otherwise
     → WalksCondition t m.scope.now g.when i.place (view i.condition) both old mid → AreBothGuards t m.scope.now g.when (view i.condition) both old mid gs → StillStands [] [] old mid
     → StandsBranch t m (record g { when = gs.then }) (view_arm i.then) mid far → StandsBranch t m g (view_if i) old far
@@ -150,7 +150,7 @@ if_stands t m g gs i both old mid far new e a guards still x walks y =
 
 -- ---- CASE
 
--- the arms behind the conditions
+-- the arms after the conditions
 pub case_stands : {D : Type 0} (t : Table) (m : Machine D) (g : Guard) (p : Place) (cs : Choices) (old mid new : Walked) → g.when.0 < length (arena old.exprs)
     → WalksConditions t m.scope.now g.when p cs old mid → StillStands [] [] old mid → StandsChoices t m g cs mid new → StandsBranch t m g (ACase p cs) old new
 case_stands t m g p cs old mid new lt a still b =
@@ -245,7 +245,7 @@ states_stand t m g listed s states old mid new walks a b = λ h p q.
     let ws = states_work d h m.registers.now [] [] states in
     stands_then old.before (state_manners d s) w.units w.gives ws.gives w.places ws.places old mid new (walks h p q old.before (λ k z. refl)) (a h p q) (b h p q)
 
--- where the walk ends before the matches of other signals
+-- if the walk ends before the matches of other signals
 pub others_end : {D : Type 0} (t : Table) (m : Machine D) (g : Guard) (states : List StateTree) (old new : Walked) → StandsStates t m g states old new → StandsOthers t m g states old new
 others_end t m g states old new a = λ h p q.
     let d = context_of_machine t m in

@@ -1,5 +1,5 @@
 -- The bit of a state: bits in an arena that grows, a bit that is made in parts, and the literals of registers, one after
--- another, which are where the present state has the value.
+-- another, which are if the present state has the value.
 use Rattle.std.proofs.Common.{◌≡◌, suc, ◌<◌, false, List, [], ◌∷◌, ◌++◌, length, map, get_or, refl, sym, ap, ap₂, ◌∙◌, subst, arith, ℕ, Bool, true, None, ◌/◌, ◌%◌, Result, Ok, Err, subst₂, add-one, length-append, ◌==◌}
 use Rattle.state_diagrams.proofs.Common.{get_or-map, length-map, map-append, All-append, AreIn, ExprId, formula_at, Formula, Const, StateTree, Context, Keeps, Aim, IsBit, AreBits, kept_formula, kept_inside, state_bit, state_bits, make_not, make_and, condition, register_literals, registers_equal, is_state, formulas, digits, Term, constant_of, number_guard, length-reverse, Place, Node, arena, Made, free, ◌>>=◌, digits_low_first, length_digits, SectionFault, high_bit, two_parts, NoMemory, built_nodes, leaves_nodes, limit_here, stops_longer, MakesBit, bare_read, register_literal, signals_of, make_literal, reverse-append, All-cons, All-nil}
 use Rattle.abel_meaning.specs.Terms as term
@@ -107,7 +107,7 @@ guard_last d xs x n =
     ∙ ap (λ (bs : List Bool). register_literals d (Const true) (ss ++ x.signal ∷ []) bs) (more_digits w n)
     ∙ literals_last d (Const true) ss x.signal (digits w (n / 2)) (n % 2 == 1) (sym (length-reverse (digits_low_first w (n / 2)) ∙ length_digits w (n / 2))))
 
--- the literal of one register more on the right, behind the others
+-- the literal of one register more on the right, after the others
 pub guard_then : (d : Context) (p : Place) (xs ys : List Aim) (x : Aim) (n : ℕ) (old mid new : List Node) (found : ExprId) (r : Result ExprId SectionFault) → xs ≡ ys ++ x ∷ []
     → MakesBit p (number_guard d (signals_of ys) (n / 2)) old mid (Ok found) → MakesBit p (register_literal d (formula_at (arena mid) found) x.signal (n % 2 == 1)) mid new r → MakesBit p (number_guard d (signals_of xs) n) old new r
 guard_then d p xs ys x n old mid new found r e a m =

@@ -26,7 +26,7 @@ listed_as d n listed s m f e h = by f (state_refused d n listed s) e h
         never : r ∷ rs ≡ [] → ⊥
         never e = cc
 
--- ---- behind the registers
+-- ---- after the registers
 
 pub manners_accepted : (rs : List SectionFault) (ms ns : List Manner) → rs ≡ [] → ms ++ ns ≡ ms ++ manners_behind rs ns
 manners_accepted [] ms ns e = refl
@@ -53,7 +53,7 @@ no_manners x all o f h e = by x.refusals (sym e ∙ h)
     by [] g = absurd cc
     by (r ∷ rs) g = sym (append-nil all)
 
--- where no fault is found, the registers are all there
+-- if no fault is found, the registers are all there
 pub member_whole : (d : Context) (s : Side) (t : Tree) → d.known ≡ known_of d.names → IsSide (length d.names) s (target_member d t) → s.fault ≡ None → ((target_member d t).refusals ≡ []) × (s.aims ≡ (target_member d t).aims) × (length s.aims ≤ 32)
 member_whole d s t k h e =
     let r = none_refused section_order (target_member d t).refusals (sym e ∙ h.fault) in
@@ -86,12 +86,12 @@ within_walk t m g s old mid new lt a b =
     under_then g (λ h all. statements_work d all ss h) (λ h all. branches_work d h m.registers.now all s.transitions) (statements_manners d ss) (branches_manners d s.transitions) old mid new lt
     (statements_under t m.scope.now g ss old mid a) b
 
--- what stands in a state, under its own guard
+-- what is in a state, under its own guard
 pub within_plain : {D : Type 0} (t : Table) (m : Machine D) (g : Guard) (s : StateTree) (old new : Walked) → WalksWithin t m g s old new
     → WalksWork old.before (within_work (context_of_machine t m) (view_guard (arena old.exprs) g) m.registers.now old.before s) (state_manners (context_of_machine t m) s) old new
 within_plain t m g s old new w = w (view_guard (arena old.exprs) g) (λ o. refl) old.before (λ k p. refl)
 
--- what stands in a state of so many registers, with what it gives where this holds
+-- what is in a state of so many registers, with what it gives if this holds
 abbrev inside_work : Context → meant.Guard Formula → List Aim → List Manner → StateTree → (n : ℕ) → (holds : Formula) → Work
 inside_work d h xs all s n f =
     record {

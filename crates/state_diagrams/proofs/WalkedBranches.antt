@@ -17,7 +17,7 @@ unit_work u = record { units = u ∷ []; gives = []; places = [] }
 abbrev pub with_list : Option (List Stmt) → Statements
 with_list o = with_statements (option_map (λ l. map view_stmt l) o)
 
--- a goal's own unit, and the statements behind it
+-- a goal's own unit, and the statements after it
 pub goal_walk : {D : Type 0} (t : Table) (m : Machine D) (g : Guard) (x : Goal) (old mid new : Walked) → g.when.0 < length (arena old.exprs)
     → WalksValue t m g x old mid → WalksStatements t m.scope.now g (with_list x.with) mid new → WalksBranch t m g (view_goal x) old new
 goal_walk t m g x old mid new lt a b =
@@ -81,7 +81,7 @@ if_walk t m g gs i both old mid far new e a guards x y =
 
 -- ---- CASE
 
--- the arms behind the conditions
+-- the arms after the conditions
 pub case_walk : {D : Type 0} (t : Table) (m : Machine D) (g : Guard) (p : Place) (cs : Choices) (old mid new : Walked) → g.when.0 < length (arena old.exprs)
     → WalksConditions t m.scope.now g.when p cs old mid → WalksChoices t m g cs mid new → WalksBranch t m g (ACase p cs) old new
 case_walk t m g p cs old mid new lt a b =

@@ -20,7 +20,7 @@ walks_refusing all ms us gs hs ps qs old new s w =
 
 -- ---- other signals
 
--- matches behind the states
+-- matches after the states
 pub others_walk : (d : Context) (h : meant.Guard Formula) (xs : List Aim) (all ms : List Manner) (ss : List StateTree) (ids : List ExprId) (old mid new : Walked) → mid.fault ≡ None
     → WalksWork all (states_work d h xs all [] ss) ms old mid → AreBits (arena mid.exprs) ids (state_bits d xs ss)
     → new.list.items ≡ mid.list.items ++ pushed_for ids (signals_of xs) (drop (length old.list.items) mid.list.items)
@@ -92,7 +92,7 @@ register_signals d t e = ap some_signals (member_positions d t e) ∙ some_posit
 
 -- ---- diagrams
 
--- behind registers that were noted
+-- after registers that were noted
 noted_walks : (all ms ns before : List Manner) (us : List CountedUnit) (gs : List (meant.Contribution Formula)) (ps : List Place) (old new : Walked) → Walks (all ++ ms) us gs ps ns (record old { before = before }) new → Walks all us gs ps (ms ++ ns) old new
 noted_walks all ms ns before us gs ps old new w =
     record { keeps = w.keeps; fault = w.fault; manners = subst (AreFirsts new.before) (append_assoc all ms ns) w.manners; given = w.given }

@@ -11,7 +11,7 @@ AreClear t n cs = choices_refused (context_for t n) cs ≡ []
 abbrev pub case_unit : Context → (guard : Formula) → Place → Choices → CountedUnit
 case_unit d g p cs = record { place = p; refusals = choices_refused d cs; nodes = choices_nodes d g cs }
 
--- what is left by making the guards behind conditions of which nothing is refused
+-- what is left by making the guards after conditions of which nothing is refused
 abbrev pub BuildsConditions : {R : Type 0} → Context → (guard : Formula) → Place → Choices → (old new : List Node)
     → Result R SectionFault → Type 0
 BuildsConditions d g p cs old new r = BuildsNodes (part p (choices_nodes d g cs) ∷ []) old new r

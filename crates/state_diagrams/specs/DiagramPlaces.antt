@@ -1,4 +1,4 @@
--- Where what a state diagram gives stands (this project's rule).
+-- Where what a state diagram gives is (this project's rule).
 use Rattle.std.specs.Prelude.{true, false, Some, List, [], ◌∷◌, ◌++◌, length, map}
 use Rattle.state_diagrams.specs.Prelude.{Place, Formula, Const, Tree, statements_of, StateTree, Context, states_give, formulas, Aim, places_of, target_member, statements_places}
 use Rattle.abel_meaning.specs.Contributions as meant
@@ -18,7 +18,7 @@ states_places d xs (s ∷ states) = state_places d xs s ++ states_places d xs st
 abbrev pub no_block : meant.Guard Formula
 no_block = record { holds = Const true; dontcare = false; block = Some 0 }
 
--- states, then matches of other signals where each is first given data
+-- states, then matches of other signals if each is first given data
 abbrev pub others_places : Context → List Aim → List StateTree → List Place
 others_places d xs states =
     states_places d xs states

@@ -1,4 +1,4 @@
--- What stands after a walk over a state diagram, whatever the answer (this project's rule).
+-- What is after a walk over a state diagram, whatever the answer (this project's rule).
 use Rattle.std.specs.Prelude.{◌≡◌, List, [], map}
 use Rattle.state_diagrams.specs.Prelude.{Table, arena, Formula, Goal, Names, Branch, Choices, StateTree, Guard, view_guard, StillStands, Walked, context_for, Work}
 use Rattle.abel_tree.specs.declared.diagrams.Diagram.{Diagram}
@@ -9,13 +9,13 @@ use Rattle.state_diagrams.specs.DiagramWalks.{StandsFor, context_of_machine, giv
 use Rattle.state_diagrams.specs.DiagramWorks.{branch_work, branches_work, choices_work, header_work, others_work, states_work}
 use Rattle.state_diagrams.specs.Goals.{goal_unit}
 
--- work under any guard that this one stands for
+-- work under any guard that this one represents
 abbrev pub StandsUnder : Guard → (meant.Guard Formula → Work) → (old new : Walked) → Type 0
 StandsUnder g work old new = (h : meant.Guard Formula) → StandsFor g old h → StandsWork (work h) old new
 
 -- ---- transitions
 
--- a goal without the statements behind it
+-- a goal without the statements after it
 abbrev pub StandsValue : {D : Type 0} → Table → Machine D → Guard → Goal → (old new : Walked) → Type 0
 StandsValue t m g x old new =
     StandsWork (goal_unit (context_of_machine t m) (view_guard (arena old.exprs) g) m.registers.now x []) old new
@@ -56,7 +56,7 @@ abbrev pub StandsOthers : {D : Type 0} → Table → Machine D → Guard → Lis
 StandsOthers t m g states old new =
     StandsBlock g (λ h. others_work (context_of_machine t m) h m.registers.now [] states) old new
 
--- a diagram behind what was walked before
+-- a diagram after what was walked before
 abbrev pub StandsDiagram : Table → Names → Guard → Diagram → (old new : Walked) → Type 0
 StandsDiagram t n g x old new =
     StillStands (given_by (context_for t n) g x (arena old.exprs)) (places_by (context_for t n) x) old new

@@ -7,7 +7,7 @@ use Rattle.truth_tables.specs.TableUnits.{if_none}
 
 -- ---- the header
 
--- the registers are targets on the clock, behind what was assigned before
+-- the registers are targets on the clock, after what was assigned before
 abbrev pub registers_refused : Context → List Manner → TargetFound → List SectionFault
 registers_refused d before t = if_none t.refusals (aims_refused d before None false true t.aims)
 
@@ -44,7 +44,7 @@ abbrev pub choices_refused : Context → Choices → List SectionFault
 choices_refused d NoChoice = []
 choices_refused d (MoreChoices c colon b cs) = condition_refused d colon c ++ choices_refused d cs
 
--- the units of transitions to n registers, under a guard and behind what was assigned before
+-- the units of transitions to n registers, under a guard and after what was assigned before
 abbrev mutual
   pub units_of_branch : Context → (guard : Formula) → (n : ℕ) → List Manner → Branch → List CountedUnit
   units_of_branch d g n before (AGoal p value ss) =
@@ -82,7 +82,7 @@ state_guard d ss v = register_literals d (Const true) ss (digits (length ss) (st
 abbrev pub state_manners : Context → StateTree → List Manner
 state_manners d s = statements_manners d (statements_of s.statements) ++ branches_manners d s.transitions
 
--- what stands in a state, under its guard
+-- what is in a state, under its guard
 abbrev pub units_within : Context → (guard : Formula) → (n : ℕ) → List Manner → StateTree → List CountedUnit
 units_within d g n before s =
     units_of_statements d g before (statements_of s.statements)
@@ -93,7 +93,7 @@ abbrev pub units_of_state : Context → List ℕ → List Manner → (refusals :
 units_of_state d ss before refusals s guard =
     record { place = s.place; refusals = refusals; nodes = guard.nodes } ∷ units_within d guard.what (length ss) before s
 
--- states behind those that are listed before
+-- states after those that are listed before
 abbrev pub units_of_states : Context → List ℕ → List Manner → (listed : List ℕ) → List StateTree → List CountedUnit
 units_of_states d ss before listed [] = []
 units_of_states d ss before listed (s ∷ states) =
@@ -105,7 +105,7 @@ abbrev pub states_manners : Context → List StateTree → List Manner
 states_manners d [] = []
 states_manners d (s ∷ states) = state_manners d s ++ states_manners d states
 
--- states stand for no registers that are refused
+-- states represent no registers that are refused
 abbrev pub units_behind : List SectionFault → Place → List CountedUnit → List CountedUnit
 units_behind [] p us = us
 units_behind (r ∷ rs) p us = record { place = p; refusals = r ∷ rs; nodes = 0 } ∷ []
@@ -115,11 +115,11 @@ units_for d before p t states =
     units_behind (registers_refused d before t) p
     (units_of_states d (signals_of t.aims) (before ++ register_manners t) [] states)
 
--- the units of a diagram at this place, behind what was assigned before
+-- the units of a diagram at this place, after what was assigned before
 abbrev pub units_of_diagram : Context → List Manner → Place → (registers : Tree) → List StateTree → List CountedUnit
 units_of_diagram d before p registers states = units_for d before p (target_member d registers) states
 
--- how a diagram of these registers assigns signals, behind what was assigned before
+-- how a diagram of these registers assigns signals, after what was assigned before
 abbrev pub manners_behind : List SectionFault → List Manner → List Manner
 manners_behind [] ms = ms
 manners_behind (r ∷ rs) ms = []

@@ -16,15 +16,15 @@ use Rattle.state_diagrams.specs.StateValues.{state_refused}
 abbrev pub context_of_machine : {D : Type 0} → Table → Machine D → Context
 context_of_machine t m = context_for t m.scope.now
 
--- units with what they give, behind all that assigned signals before
+-- units with what they give, after all that assigned signals before
 abbrev pub WalksWork : List Manner → Work → List Manner → (old new : Walked) → Type 0
 WalksWork all w ms old new = Walks all w.units w.gives w.places ms old new
 
--- a guard stands for this one, where nothing is refused so far
+-- a guard represents this one, if nothing is refused so far
 abbrev pub StandsFor : Guard → Walked → meant.Guard Formula → Type 0
 StandsFor g old h = old.fault ≡ None → view_guard (arena old.exprs) g ≡ h
 
--- work under any guard that this one stands for, behind all that assigned signals before
+-- work under any guard that this one represents, after all that assigned signals before
 abbrev pub WalksUnder : Guard → (meant.Guard Formula → List Manner → Work) → List Manner → (old new : Walked) → Type 0
 WalksUnder g work ms old new =
     (h : meant.Guard Formula) → StandsFor g old h
@@ -32,7 +32,7 @@ WalksUnder g work ms old new =
 
 -- ---- transitions
 
--- a goal without the statements behind it
+-- a goal without the statements after it
 abbrev pub WalksValue : {D : Type 0} → Table → Machine D → Guard → Goal → (old new : Walked) → Type 0
 WalksValue t m g x old new =
     (all : List Manner) → AreFirsts old.before all
@@ -75,7 +75,7 @@ WalksUnit t m listed s old new =
     (all : List Manner) → AreFirsts old.before all
     → Walks all (state_unit (context_of_machine t m) (signals_of m.registers.now) listed s ∷ []) [] [] [] old new
 
--- what stands in a state, under its guard
+-- what is in a state, under its guard
 abbrev pub WalksWithin : {D : Type 0} → Table → Machine D → Guard → StateTree → (old new : Walked) → Type 0
 WalksWithin t m g s old new =
     WalksUnder g (λ h all. within_work (context_of_machine t m) h m.registers.now all s)
@@ -87,7 +87,7 @@ WalksBlock g work ms old new =
     (h : meant.Guard Formula) → h.dontcare ≡ g.dontcare → h.block ≡ g.block
     → (all : List Manner) → AreFirsts old.before all → WalksWork all (work h all) ms old new
 
--- states behind those that are listed
+-- states after those that are listed
 abbrev pub WalksStates : {D : Type 0} → Table → Machine D → Guard → (listed : List ℕ) → List StateTree → (old new : Walked) → Type 0
 WalksStates t m g listed states old new =
     WalksBlock g (λ h all. states_work (context_of_machine t m) h m.registers.now all listed states)
@@ -107,7 +107,7 @@ WalksOthers t m g states old new =
     WalksBlock g (λ h all. others_work (context_of_machine t m) h m.registers.now all states)
     (states_manners (context_of_machine t m) states) old new
 
--- the units of a diagram behind what was assigned before
+-- the units of a diagram after what was assigned before
 abbrev pub units_of : Context → (before : List Manner) → Diagram → List CountedUnit
 units_of d before x = units_of_diagram d before x.place (view x.registers) (map view_state x.states)
 
@@ -119,7 +119,7 @@ given_by d g x fs = diagram_gives (formulas d) d (view_guard fs g) (term_of d.kn
 abbrev pub places_by : Context → Diagram → List Place
 places_by d x = diagram_places d (view x.registers) (map view_state x.states)
 
--- a diagram behind what was walked before
+-- a diagram after what was walked before
 abbrev pub WalksDiagram : Table → Names → Guard → Diagram → (old new : Walked) → Type 0
 WalksDiagram t n g x old new =
     (all : List Manner) → AreFirsts old.before all

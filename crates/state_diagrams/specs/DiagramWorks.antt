@@ -1,4 +1,4 @@
--- The units of transitions and states to these registers with what they give, under a guard of formulas and behind what was
+-- The units of transitions and states to these registers with what they give, under a guard of formulas and after what was
 -- assigned (ABEL-HDL Reference Manual, state diagrams).
 use Rattle.std.specs.Prelude.{ℕ, true, false, Some, List, [], length, map}
 use Rattle.state_diagrams.specs.Prelude.{Formula, Branch, Choices, StateTree, Context, branch_gives, branches_give, choices_give, in_state, is_state, state_gives, states_give, with_others, formulas, term_of, Aim, Manner, places_of, Work, given_freely}
@@ -37,7 +37,7 @@ choices_work d h xs all cs =
 
 -- ---- states
 
--- what stands in a state of these registers, under its guard
+-- what is in a state of these registers, under its guard
 abbrev pub within_work : Context → meant.Guard Formula → List Aim → List Manner → StateTree → Work
 within_work d h xs all s =
     record {
@@ -46,11 +46,11 @@ within_work d h xs all s =
       places = state_places d xs s;
     }
 
--- an outer guard, where this holds
+-- an outer guard, if this holds
 abbrev pub where_holds : meant.Guard Formula → Formula → meant.Guard Formula
 where_holds h f = record { holds = f; dontcare = h.dontcare; block = h.block }
 
--- a state behind those that are listed
+-- a state after those that are listed
 abbrev pub state_work : Context → meant.Guard Formula → List Aim → List Manner → (listed : List ℕ) → StateTree → Work
 state_work d h xs all listed s =
     record {

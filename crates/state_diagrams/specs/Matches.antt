@@ -20,7 +20,7 @@ regarded d g c = record c { block = g.block; dontcare = is_dontcare g (name_at d
 abbrev pub other_signal : {W : Type 0} → (registers : List ℕ) → meant.Contribution W → Option ℕ
 other_signal ss c = if is_other ss c then Some c.signal else None
 
--- of such signals, each at its place, the places of those that come first, so many times
+-- of such signals, each at its place, the places of those that are first, so many times
 abbrev pub other_places : (before : List ℕ) → (states : ℕ) → List (Option ℕ) → List Place → List Place
 other_places before n [] ps = []
 other_places before n (o ∷ os) [] = []
@@ -32,7 +32,7 @@ other_places before n (Some s ∷ os) (p ∷ ps) =
 abbrev pub is_first : (seen : List ℕ) → Contribution → Bool
 is_first seen c = is_data c.target.extension && not (is_among seen c.target.signal)
 
--- a match beside a contribution, where the bit is 1
+-- a match beside a contribution, if the bit is 1
 abbrev pub pushed_beside : Contribution → ExprId → Contribution
 pushed_beside c id =
     record c { target = record { signal = c.target.signal; extension = None }; what = gives.Match; when = id }
@@ -47,7 +47,7 @@ abbrev pub seen_if : (first : Bool) → List ℕ → Contribution → List ℕ
 seen_if true seen c = seen ++ c.target.signal ∷ []
 seen_if false seen c = seen
 
--- what is pushed for several contributions, behind the signals that were seen
+-- what is pushed for several contributions, after the signals that were seen
 abbrev pub pushed_for : List ExprId → (seen : List ℕ) → List Contribution → List Contribution
 pushed_for ids seen [] = []
 pushed_for ids seen (c ∷ cs) =

@@ -1,4 +1,4 @@
--- Where what transitions give stands: at the registers of the diagram, and at the targets of statements (this project's
+-- Where what transitions give is: at the registers of the diagram, and at the targets of statements (this project's
 -- rule).
 use Rattle.std.specs.Prelude.{List, [], ◌∷◌, ◌++◌}
 use Rattle.state_diagrams.specs.Prelude.{Place, Branch, AGoal, AnIf, ACase, OtherBranch, NoBranch, ABranch, Choices, NoChoice, MoreChoices, Context, with_statements, Aim, statements_places}

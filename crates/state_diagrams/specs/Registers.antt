@@ -4,7 +4,7 @@ use Rattle.state_diagrams.specs.Prelude.{first_refusal, Tree, Context, section_o
 use Rattle.section_targets.specs.declared.sides.Side.{Side}
 use Rattle.state_diagrams.specs.DiagramUnits.{registers_refused}
 
--- their first refusal behind what was assigned before, and where nothing is refused the registers from the left
+-- their first refusal after what was assigned before, and if nothing is refused the registers from the left
 pub record AreRegisters (d : Context) (before : List Manner) (t : Tree) (s : Side) : Type 0 where
   pub fault : s.fault ≡ first_refusal section_order (registers_refused d before (target_member d t))
   pub aims : s.fault ≡ None → s.aims ≡ (target_member d t).aims

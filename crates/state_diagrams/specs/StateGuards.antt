@@ -13,7 +13,7 @@ MakesBit p m old new r = BuildsNodes (part p m.nodes ∷ []) old new r × IfOk r
 abbrev pub bare_read : Context → (signal : ℕ) → Made Formula
 bare_read d s = make_source (source_of d s None)
 
--- the literal of one register, behind what was found
+-- the literal of one register, after what was found
 abbrev pub register_literal : Context → (found : Formula) → (signal : ℕ) → (digit : Bool) → Made Formula
 register_literal d found s b = bare_read d s >>= λ f. make_literal found b f
 

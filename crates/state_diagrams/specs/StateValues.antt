@@ -32,7 +32,7 @@ state_value_refused d p n listed f v =
 abbrev pub state_refused : Context → (n : ℕ) → (listed : List ℕ) → StateTree → List SectionFault
 state_refused d n listed s = state_value_refused d s.place n listed (expression_found d.names s.value) s.value
 
--- states listed before, and this one where it isn't refused
+-- states listed before, and this one if it isn't refused
 abbrev pub listed_with : (refusals : List SectionFault) → (listed : List ℕ) → ℕ → List ℕ
 listed_with [] listed m = listed ++ m ∷ []
 listed_with (r ∷ rs) listed m = listed
@@ -40,16 +40,16 @@ listed_with (r ∷ rs) listed m = listed
 abbrev pub listed_after : Context → (n : ℕ) → (listed : List ℕ) → StateTree → List ℕ
 listed_after d n listed s = listed_with (state_refused d n listed s) listed (state_number d s.value)
 
--- the refusal of a state's value among n registers, behind those that are listed, and where it isn't refused its number
+-- the refusal of a state's value among n registers, after those that are listed, and if it isn't refused its number
 pub record IsState (d : Context) (n : ℕ) (listed : List ℕ) (s : StateTree) (f : StateFound) : Type 0 where
   pub fault : f.fault ≡ first_refusal section_order (state_refused d n listed s)
   pub number : f.fault ≡ None → f.number ≡ state_number d s.value
 
--- a state is listed where it isn't refused
+-- a state is listed if it isn't refused
 abbrev pub listed_if : Option SectionFault → (listed : List ℕ) → ℕ → List ℕ
 listed_if None listed m = listed ++ m ∷ []
 listed_if (Some f) listed m = listed
 
--- the levels where all signals are 0, which a value that reads none may be taken at
+-- the levels at which all signals are 0, which a value that reads none may be taken at
 abbrev pub all_zero : Levels
 all_zero = levels_of (record { pins = 0; q = 0; nodes = 0 })

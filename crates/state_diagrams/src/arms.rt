@@ -1,4 +1,4 @@
-//! The walk over transitions: each unit is checked, and made where nothing is refused so far.
+//! The walk over transitions: each unit is checked, and made if nothing is refused so far.
 
 ghost use Rattle.std.specs.Prelude.{◌<◌, length, OnOk};
 ghost use Rattle.state_diagrams.specs.Prelude.{arena, entries_of, ACase, view_arm, AreNamed};
@@ -15,7 +15,7 @@ use section_targets::Walked;
 use set_expr::Guard;
 use std::alloc::Global;
 
-/// A goal with the statements behind it.
+/// A goal with the statements after it.
 fn walk_goal<D: Device>(
     alloc: Global,
     machine: &Machine<'_, D>,
@@ -95,7 +95,7 @@ fn walk_case<D: Device>(
     Ok(())
 }
 
-/// A transition under a guard, behind what was walked before. Calls go as deep as the nestings of transitions and
+/// A transition under a guard, after what was walked before. Calls go as deep as the nestings of transitions and
 /// statements.
 #[cycle(walks)]
 fn walk_arm<D: Device>(

@@ -29,7 +29,7 @@ fn check_conditions<D: Device>(
     Ok(fault)
 }
 
-/// The guards of the arms of CASE, where no condition is refused, as nodes of its unit.
+/// The guards of the arms of CASE, if no condition is refused, as nodes of its unit.
 fn make_guards<D: Device>(
     alloc: Global,
     scope: &SectionScope<'_, D>,
@@ -82,7 +82,7 @@ pub(crate) fn walk_conditions<D: Device>(
     }
 }
 
-/// The guard of an arm by its bit; where there is none any guard serves.
+/// The guard of an arm by its bit; if there isn't one any guard serves.
 pub(crate) fn under_arm(guard: Guard, guards: &[ExprId], index: usize) -> Guard
     ensures when { result.when ≡ get_or guards.now index guard.when }
     ensures dontcare { result.dontcare ≡ guard.dontcare }

@@ -93,7 +93,7 @@ fn give_goal<D: Device>(
     Ok(())
 }
 
-/// A goal without the statements behind it.
+/// A goal without the statements after it.
 pub(crate) fn walk_value<D: Device>(
     alloc: Global,
     machine: &Machine<'_, D>,

@@ -26,10 +26,10 @@ fn bare_bit<D: Device>(
     }
 }
 
-/// The bit that is 1 where the bare name of each register reads its digit of a number, from the left, as a part of the unit
-/// at a place. Calls go as deep as there are registers.
+/// The bit that is 1 if the bare name of each register reads its digit of a number, from the left, as a part of the unit at
+/// a place. Calls go as deep as there are registers.
 ///
-/// The digits left of the number are 0, and those that no register holds don't count. `NodeLimit` stands at the unit's place.
+/// The digits left of the number are 0, and those that no register holds don't count. `NodeLimit` is at the unit's place.
 /// ABEL-HDL Reference Manual, state diagrams.
 pub(crate) fn state_guard<D: Device>(
     scope: &SectionScope<'_, D>,

@@ -30,7 +30,7 @@ fn is_first(seen: &[u32], given: Contribution) -> bool
     Extension::is_data(given.target.extension) && !is_seen(seen, given.target.signal)
 }
 
-/// Matches beside a contribution, one where each of these bits is 1.
+/// Matches beside a contribution, one if each of these bits is 1.
 fn matches_at(
     alloc: Global,
     states: &[ExprId],
@@ -69,9 +69,9 @@ fn push_if_first(
     Ok(())
 }
 
-/// For each signal but the registers that some contribution behind `start` gives data to, a match where each of these bits
-/// is 1, from the first contribution to the signal, which says on the clock or not, complement and place. Registers count
-/// as seen from the start.
+/// For each signal but the registers that some contribution after `start` gives data to, a match if each of these bits is
+/// 1, from the first contribution to the signal, which says on the clock or not, complement and place. Registers count as
+/// seen from the start.
 pub(crate) fn matches_beside(
     alloc: Global,
     registers: &[Aim],

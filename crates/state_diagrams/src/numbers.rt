@@ -13,7 +13,7 @@ use section_targets::SectionScope;
 use set_expr::Shape;
 use std::alloc::Global;
 
-/// The number of positions, the rightmost first, where all signals are 0; X counts as 0. Calls go as deep as there are
+/// The number of positions, the rightmost first, if all signals are 0; X counts as 0. Calls go as deep as there are
 /// positions.
 fn places_number(exprs: &Exprs, places: &[Option<ExprId>]) -> u32
     requires inside { AreIn (length (arena exprs.now)) places.now }
@@ -38,7 +38,7 @@ fn places_number(exprs: &Exprs, places: &[Option<ExprId>]) -> u32
 }
 
 /// The number of an expression that reads no signal and of which nothing is refused. Its bits are built in an arena of
-/// their own, which want of memory alone can end, since no node is made.
+/// their own, which only lack of memory can end, since no node is made.
 pub(crate) fn state_number<D: Device>(
     alloc: Global,
     scope: &SectionScope<'_, D>,

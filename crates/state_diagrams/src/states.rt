@@ -48,7 +48,7 @@ fn walk_unit<D: Device>(
     }
 }
 
-/// The states one after another, each as its unit and what stands in it, under its bit: their bits.
+/// The states one after another, each as its unit and what is in it, under its bit: their bits.
 pub(crate) fn walk_states<D: Device>(
     alloc: Global,
     machine: &Machine<'_, D>,

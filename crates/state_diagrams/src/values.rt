@@ -34,7 +34,7 @@ fn is_listed(listed: &[u32], number: u32) -> bool
     listed.iter().any(|other| *other == number)
 }
 
-/// The value of a state behind those that are listed: its refusal, or its number, which then is listed.
+/// The value of a state after those that are listed: its refusal, or its number, which then is listed.
 pub(crate) fn check_value<D: Device>(
     alloc: Global,
     machine: &Machine<'_, D>,

@@ -73,7 +73,7 @@ fn walk_others<D: Device>(
     Ok(())
 }
 
-/// A state diagram behind what was walked before: its registers, which are the one unit where they are refused, and its
+/// A state diagram after what was walked before: its registers, which are the one unit if they are refused, and its
 /// states. Of the guard count its block and whether that is don't-care. Calls go as deep as the nestings of transitions,
 /// statements, sets and parentheses.
 ///

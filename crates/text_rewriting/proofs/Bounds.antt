@@ -1,4 +1,4 @@
--- The arguments by the parameters that they stand for, the last pair kept first.
+-- The arguments by the parameters that they represent, the last pair kept first.
 use Rattle.std.proofs.Common.{◌≡◌, ◌+◌, ◌<◌, ◌≤◌, ℕ, zero, suc, Bool, true, false, inl, inr, ◌⊎◌, List, [], ◌∷◌, Option, Some, None, length, drop, get_or, refl, sym, ap, ◌∙◌, arith, add-one, if◌then◌else◌, option_map, min, nat_lt}
 use Rattle.text_rewriting.proofs.Common.{le-min, ltb-true, ltb-false, Vec, bytes_eq, drop_all, joined, bool_cases, standing_for, names, texts, under, by_bytes, with_name, bound}
 use Rattle.std.specs.Map.{lookup}
@@ -24,7 +24,7 @@ no_text : (ns : List (List ℕ)) (name : List ℕ) → standing_for ns [] name �
 no_text [] name = refl
 no_text (n ∷ ns) name = refl
 
--- where no pair is left nothing stands for a name
+-- if no pair is left nothing represents a name
 none_left : (ps : List (Vec ℕ)) (ws : List (Vec (List ℕ))) (n : ℕ) (w : List ℕ) → (length ps ≤ n) ⊎ (length ws ≤ n) → None ≡ standing_for (names (drop n ps)) (texts (drop n ws)) w
 none_left ps ws n w (inl l) = sym (ap (λ (qs : List (Vec ℕ)). standing_for (names qs) (texts (drop n ws)) w) (drop_all n ps l))
 none_left ps ws n w (inr l) = sym (ap (λ (vs : List (Vec (List ℕ))). standing_for (names (drop n ps)) (texts vs) w) (drop_all n ws l) ∙ no_text (names (drop n ps)) w)

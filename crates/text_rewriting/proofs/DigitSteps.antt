@@ -1,4 +1,4 @@
--- The digits of a value, the last of them behind the others.
+-- The digits of a value, the last of them after the others.
 use Rattle.std.proofs.Common.{◌≡◌, ◌-◌, ◌<◌, ◌≤◌, ℕ, zero, suc, Bool, true, false, List, [], ◌∷◌, ◌++◌, length, take, drop, refl, sym, ap, ◌∙◌, arith, append-nil, append_assoc, length-append, codes, ◌/◌, ◌%◌, slice_index, nat_lt}
 use Rattle.text_rewriting.proofs.Common.{lt-ltb, le-ltb, digits_in, Gathering}
 

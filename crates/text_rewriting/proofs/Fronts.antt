@@ -25,7 +25,7 @@ rewritten_front t text w most room end (front.Said c bytes e) r l k h = absurd h
 rewritten_front t text w most room end front.BadDirective r l k h = absurd h
 rewritten_front t text w most room end front.Unsupported r l k h = absurd h
 
--- the same bytes, by where they end
+-- the same bytes, by their places
 pub part_end : (v text : List ℕ) (end : ℕ) (f : List ℕ → List ℕ) → v ≡ f (take end text) → end ≤ length text → v ≡ f (before text (drop end text))
 part_end v text end f e h = e ∙ ap f (sym (before_drop text end h))
 

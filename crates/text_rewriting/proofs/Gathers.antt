@@ -116,7 +116,7 @@ rest_added g k n w h e = e ∙ ap (λ (v : List ℕ). record g { text = v }) (wh
 pub less_room : (text w : List ℕ) (most before room : ℕ) → length text + before ≡ most → length (text ++ w) + room ≡ most → room ≤ before
 less_room text w most before room b r = omega (arith, b, r, length-append text w)
 
--- ---- two texts, one behind the other
+-- ---- two texts, one after the other
 
 pub two_added : (g k : Gathering) (v w : List ℕ) → k ≡ record g { text = (g.text ++ v) ++ w } → k ≡ record g { text = g.text ++ (v ++ w) }
 two_added g k v w e = e ∙ ap (λ (x : List ℕ). record g { text = x }) (append_assoc g.text v w)

@@ -41,7 +41,7 @@ at_last (b ∷ bs) (suc p) n e =
     let s : length (b ∷ bs) - n ≡ suc (length bs - n) = omega (arith, f, length-drop p bs) in
     at_last bs p n f ∙ ap (λ (k : ℕ). drop k (b ∷ bs)) (sym s)
 
--- the word MACRO behind a gap, by where the gap ends
+-- the word MACRO after a gap, by the end of the gap
 abbrev with_name : List ℕ → List ℕ → Option (List ℕ × List ℕ)
 with_name g behind = Some (before g behind, behind)
 
@@ -54,10 +54,10 @@ by_gap g = (word g >>= with_name g) >>= of_name
 pub same_word : (v w : List ℕ) → gap v ≡ gap w → macro_word v ≡ macro_word w
 same_word v w e = ap by_gap e
 
--- none stands where a look stopped
+-- none is if a look stopped
 pub none_stopped : (w start : List ℕ) (p n : ℕ) → gap (drop p w) ≡ gap start → length (drop p w) ≡ n → macro_word (last n w) ≡ None → macro_word start ≡ None
 none_stopped w start p n g e none = sym (same_word (drop p w) start g) ∙ ap macro_word (at_last w p n e) ∙ none
 
--- none stands behind what was passed
+-- none follows what was passed
 pub none_passed : (v start : List ℕ) → gap v ≡ gap start → macro_word v ≡ None → macro_word start ≡ None
 none_passed v start g none = sym (same_word v start g) ∙ none

@@ -1,4 +1,4 @@
--- The move of a text, by what stands at its front.
+-- The move of a text, by what is at its front.
 use Rattle.std.proofs.Common.{◌≡◌, ◌+◌, ◌<◌, ◌≤◌, ℕ, suc, Bool, true, false, inl, inr, List, [], ◌∷◌, ◌++◌, Option, Some, None, length, take, drop, refl, sym, ap, ◌∙◌, arith, if◌then◌else◌, codes, ◌==◌, nat_lt}
 use Rattle.text_rewriting.proofs.Common.{prefix_len, Vec, eqb-true, eq-eqb, ltb-true, bool_cases, quote, is_name_later, quoted_len, ◌>>=◌, given, before, starts_byte, rest_of, comment, string_len, word, arguments, replaced, standing_for, IsResult, names, texts, Tables, Macro, Move, Done, Rewritten, Refused, BadDirective, or_bad, macro_word, definition, called, named, directed, directive_of, behind_directive, token_len, move, before_drop, digits_in, plain_move, digits}
 
@@ -57,11 +57,11 @@ module _ (m : Macro) (behind end : List ℕ) (ps : List (Vec ℕ)) (found : List
       not_true (length (texts found) == length (names ps)) (λ e. n (sym (texts_length found) ∙ eqb-true (length (texts found)) (length (names ps)) e ∙ names_length ps)) in
       by_count ∙ ap (λ (b : Bool). given b (replaced (standing_for (names ps) (texts found)) 0 m.block, end)) other
 
--- a macro that stands for a name, as a call of it keeps it
+-- a macro that represents a name, as a call of it keeps it
 pub called_macro : (t : Tables) (name : List ℕ) (m : Macro) (ps : List (List ℕ)) (w : List ℕ) → t.macros name ≡ Some m → m.parameters ≡ Some ps → w ≡ m.block → t.macros name ≡ Some (record { parameters = Some ps; block = w })
 called_macro t name m ps w e p b = e ∙ ap (λ (o : Option (List (List ℕ))). Some (record { parameters = o; block = m.block })) p ∙ ap (λ (x : List ℕ). Some (record { parameters = Some ps; block = x })) (sym b)
 
--- the result of a call by what its name stands for
+-- the result of a call by what its name represents
 pub result_of_call : (t : Tables) (name : List ℕ) (ps found : List (List ℕ)) (w result : List ℕ) → t.macros name ≡ Some (record { parameters = Some ps; block = w }) → result ≡ replaced (standing_for ps found) 0 w → IsResult t.macros name found result
 result_of_call t name ps found w result e r =
     record {

@@ -1,4 +1,4 @@
--- A block in which arguments stand for parameters, part by part.
+-- A block in which arguments represent parameters, part by part.
 use Rattle.std.proofs.Common.{◌≡◌, ◌+◌, ◌<◌, ◌≤◌, ℕ, zero, suc, Bool, true, false, List, [], ◌∷◌, ◌++◌, Option, Some, None, inl, inr, length, take, drop, refl, sym, ap, ◌∙◌, arith, append-nil, append_assoc, add-one, length-append, length-drop, if◌then◌else◌, ◌==◌, Result, Ok, Err, IfErr, IfSome, IfNone}
 use Rattle.text_rewriting.proofs.Common.{count_by, drop-drop, take-add, bool_cases, Vec, starts_byte, rest_of, is_name_later, shaped_len, asked, replaced, standing_for, texts, each_replaced}
 use Rattle.std.proofs.lemmas.List.Sums.{sum_by-cons}
@@ -16,7 +16,7 @@ pub some_step : (r : Option ℕ) (w v : List ℕ) {n : ℕ} → IfSome r (λ b. 
 some_step (Some b) w v s z h l = (b, s)
 some_step None w v s z h l = absurd (omega (arith, h, l, ap length z))
 
--- ---- a `?` and the name behind it
+-- ---- a `?` and the name after it
 
 pub drop_next : (w : List ℕ) (p x : ℕ) (xs : List ℕ) → drop p w ≡ x ∷ xs → drop (suc p) w ≡ xs
 drop_next [] zero x xs e = absurd cc
@@ -30,7 +30,7 @@ take_next [] (suc p) x xs e = absurd cc
 take_next (y ∷ w) zero x xs e = ap (λ (z : List ℕ). take 1 z) e
 take_next (y ∷ w) (suc p) x xs e = ap (λ (z : List ℕ). y ∷ z) (take_next w p x xs e)
 
--- a byte that is nowhere isn't the first, and stands nowhere behind it
+-- a byte that is nowhere isn't the first, and is nowhere after it
 no_first : (b : ℕ) (w : List ℕ) → count_by (λ c. c == 63) (b ∷ w) ≡ 0 → ((b == 63) ≡ false) × (count_by (λ c. c == 63) w ≡ 0)
 no_first b w e =
     let split = sum_by-cons (λ c. if c == 63 then 1 else 0) b w in
@@ -66,7 +66,7 @@ module _ (f : List ℕ → Option (List ℕ)) where
   mark [] s e = absurd cc
   mark (b ∷ bs) s e = ap (replaced_at b bs) s ∙ ap (replaced_by b bs) e
 
-  -- a byte stays that is no `?`, or has no parameter behind it
+  -- a byte stays that is no `?`, or has no parameter after it
   pub unmarked_stays : (w : List ℕ) → starts_byte 63 w ≡ false → replaced f 0 w ≡ take 1 w ++ replaced f 0 (drop 1 w)
   unmarked_stays [] s = refl
   unmarked_stays (b ∷ bs) s = ap (replaced_at b bs) s
@@ -83,7 +83,7 @@ module _ (f : List ℕ → Option (List ℕ)) where
       ap (λ (k : ℕ). take k w ++ replaced f 0 (drop k w)) (add-one n) ∙ ap (λ (v : List ℕ). v ++ replaced f 0 (drop (suc n) w)) (take_next w n b next at) ∙ ap (λ (v : List ℕ). (take n w ++ b ∷ []) ++ replaced f 0 v) (drop_next w n b next at)
       ∙ append_assoc (take n w) (b ∷ []) (replaced f 0 next) ∙ ap (λ (v : List ℕ). take n w ++ v) (sym one ∙ ap (replaced f 0) (sym at)) ∙ t
 
-  -- bytes among which no `?` stands
+  -- bytes among which no `?` is
   run : (n : ℕ) (w : List ℕ) → count_by (λ b. b == 63) (take n w) ≡ 0 → take n w ++ replaced f 0 (drop n w) ≡ replaced f 0 w
   run zero w e = refl
   run (suc n) [] e = refl
@@ -134,7 +134,7 @@ module _ (f : List ℕ → Option (List ℕ)) where
 pub block_long : (text rest total : List ℕ) (f : List ℕ → Option (List ℕ)) (most : ℕ) → most < length (text ++ replaced f 0 rest) → text ++ replaced f 0 rest ≡ total → most < length total
 block_long text rest total f most l e = omega (arith, l, ap length e)
 
--- the same too much, where a part was added before
+-- the same too much, if a part was added before
 pub both_long : (text new w v : List ℕ) (f : List ℕ → Option (List ℕ)) (most less : ℕ) → new ++ replaced f 0 v ≡ text ++ replaced f 0 w → less ≡ most → less < length (new ++ replaced f 0 v) → most < length (text ++ replaced f 0 w)
 both_long text new w v f most less e m l = omega (arith, l, m, ap length e)
 
@@ -148,7 +148,7 @@ marked (b ∷ bs) s = omega arith
 pub shorter : (w v : List ℕ) (n : ℕ) → v ≡ drop n w → 0 < n → 0 < length w → length v < length w
 shorter w v n e h k = omega (arith, ap length e, length-drop n w)
 
--- the name behind a mark, in one piece or read
+-- the name after a mark, in one piece or read
 pub asked_front : (w look front name : List ℕ) (b n : ℕ) → w ≡ b ∷ look → n ≡ shaped_len word_head is_name_later look → take (length front) look ≡ front → n ≤ length front → name ≡ take n front → name ≡ asked (rest_of w)
 asked_front w look front name b n e c f h t =
     t ∙ ap (take n) (sym f) ∙ take_within n (length front) look h ∙ ap (λ (k : ℕ). take k look) c ∙ ap asked (sym (ap rest_of e))

@@ -1,4 +1,4 @@
--- What the front of the rest asks for, as the code tells it.
+-- What the front of the rest asks for, as the code gives it.
 use Rattle.std.specs.Prelude.{◌≡◌, ℕ, ◌+◌, ◌<◌, ◌≤◌, List, length, take, drop, Option, IfSome}
 use Rattle.text_rewriting.specs.Prelude.{Tables, Move, Done, Rewritten, Refused, BadDirective, Unsupported, with_name, IsResult, texts}
 use Rattle.abel_macros.specs.declared.call.Call.{Call}
@@ -7,7 +7,7 @@ use Rattle.text_rewriting.specs.declared.front.Change.TheVariants as change
 use Rattle.text_rewriting.specs.declared.front.Front.{Front}
 use Rattle.text_rewriting.specs.declared.front.Front.TheVariants as front
 
--- the tables behind a change
+-- the tables after a change
 abbrev pub changed : Change → Tables → Tables
 changed change.Nothing t = t
 changed (change.Define n m) t = record t { macros = with_name n.items m t.macros }
@@ -25,7 +25,7 @@ IsChange (change.Radix r) = (2 ≤ r) × (r ≤ 16)
 abbrev pub IsMade : Tables → List ℕ → Option Call → Type 0
 IsMade t w o = IfSome o (λ c. IsResult t.macros c.name.items (texts c.arguments.items) w)
 
--- a move of a text is what the code tells, where the rest may have so many bytes
+-- a move of a text is what the code reports, if the rest may have so many bytes
 abbrev pub IsFront : Tables → List ℕ → ℕ → Move → Front → Type 0
 IsFront t text most m (front.Copy n) = (m ≡ Done t (take n text) (drop n text)) × (0 < n) × (n ≤ length text)
 IsFront t text most m (front.Said c bytes end) = (m ≡ Done (changed c t) bytes.items (drop end text)) × (0 < end) × (end ≤ length text) × (length bytes.items ≤ end) × IsChange c

@@ -1,4 +1,4 @@
--- What is known of the end of a text: that no word MACRO stands behind its first blanks and comments.
+-- What is known of the end of a text: that no word MACRO follows its first blanks and comments.
 use Rattle.std.specs.Prelude.{◌≡◌, ℕ, ◌-◌, List, length, drop, Some, None}
 use Rattle.text_rewriting.specs.Prelude.{word, macro_word}
 
@@ -6,6 +6,6 @@ use Rattle.text_rewriting.specs.Prelude.{word, macro_word}
 abbrev pub last : ℕ → List ℕ → List ℕ
 last n w = drop (length w - n) w
 
--- the word MACRO stands behind no name at the front
+-- the word MACRO follows no name at the front
 abbrev pub DefinesNone : List ℕ → Type 0
 DefinesNone w = (behind : List ℕ) → word w ≡ Some behind → macro_word behind ≡ None

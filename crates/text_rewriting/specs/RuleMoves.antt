@@ -1,4 +1,4 @@
--- The moves that the rules ask for, as the code tells them.
+-- The moves that the rules ask for, as the code gives them.
 use Rattle.std.specs.Prelude.{◌≡◌, ℕ, ◌<◌, ◌≤◌, ◌^◌, List, [], ◌++◌, length, take, drop, replicate, codes, Some, None}
 use Rattle.text_rewriting.specs.Prelude.{concat, Look, ahead, joined, Kept, tables_of, before, word, replaced, standing_for, names, texts, digits_in, Tables, Move, Done, Rewritten, Refused, BadDirective, Unsupported, with_name, line_feeds, shown_in, each_replaced, named, token_len, directed}
 use Rattle.abel_macros.specs.declared.directive.Directive.{Directive}
@@ -42,7 +42,7 @@ IsCallOf t (rewriting.Valued w v r) = Unit {0}
 IsCallOf t (rewriting.Plain w) = Unit {0}
 IsCallOf t (rewriting.Called c) = t.macros c.name.items ≡ Some (record { parameters = Some (names c.parameters.now); block = joined c.block.now })
 
--- the move of a text by a rule, which leaves what stands behind
+-- the move of a text by a rule, which leaves what follows
 abbrev pub rule_move : Tables → List ℕ → List ℕ → Rule → Move
 rule_move t text behind rule.Comment = Done t (codes " ") behind
 rule_move t text behind rule.Copy = Done t (before text behind) behind

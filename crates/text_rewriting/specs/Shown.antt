@@ -4,7 +4,7 @@ use Rattle.abel_lexer.specs.Bytes.{line_feed}
 use Rattle.text_pieces.specs.declared.mode.Mode.{Mode}
 use Rattle.text_pieces.specs.declared.mode.Mode.TheVariants as mode
 
--- a byte that stands in a mode, and the mode behind it: a comment's first byte is a space, and of the
+-- a byte that is in a mode, and the mode after it: a comment's first byte is a space, and of the
 -- others only a line feed is done
 abbrev pub shown_of : Mode → Mode → ℕ → List ℕ
 shown_of mode.Plain mode.Note b = codes " "

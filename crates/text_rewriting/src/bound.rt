@@ -1,4 +1,4 @@
-//! The arguments of a call, by the parameters that they stand for.
+//! The arguments of a call, by the parameters that they represent.
 
 ghost use Rattle.std.specs.Prelude.{◌≡◌, Some, None, IfOk, IfSome, IfNone};
 ghost use Rattle.text_rewriting.specs.Prelude.{joined, standing_for, names, texts};
@@ -9,7 +9,7 @@ use pld_base::OutOfMemory;
 use std::alloc::Global;
 use text_pieces::Piece;
 
-/// What stands for each parameter: the argument in the place of the first parameter of its name.
+/// What represents each parameter: the argument in the place of the first parameter of its name.
 #[derive(Drop)]
 pub struct Arguments<'m, 'a> {
     by_name: IndexMap<Vec<u8>, &'m [Piece<'a>]>,
@@ -36,7 +36,7 @@ impl<'m, 'a> Arguments<'m, 'a> {
         Ok(Arguments { by_name })
     }
 
-    /// The argument that stands for a name.
+    /// The argument that represents a name.
     #[tactic(auto, using(crate::proofs::Bounds::bound_some, crate::proofs::Bounds::bound_none))]
     pub fn of(&self, name: &[u8]) -> Option<&'m [Piece<'a>]>
         ensures some { IfSome result (λ a. bound self.now.by_name.entries name.now ≡ Some (joined a.now)) }

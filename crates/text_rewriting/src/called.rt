@@ -27,7 +27,7 @@ fn rewriting_of<'t, 'a>(tables: &'t Tables<'a>, called: Called<'t, 'a>) -> Rewri
     }
 }
 
-/// Reads what stands behind a macro's name.
+/// Reads what follows a macro's name.
 #[tactic(auto, using(crate::proofs::Moves::plain_called, crate::proofs::Moves::called_same, crate::proofs::Moves::called_other, crate::proofs::Moves::called_broken))]
 fn read_call<'t, 'a>(
     alloc: Global,
@@ -64,7 +64,7 @@ fn read_call<'t, 'a>(
     }
 }
 
-/// Reads what stands behind a name and the word MACRO.
+/// Reads what follows a name and the word MACRO.
 fn definition_rule<'t, 'a>(
     alloc: Global,
     at: &mut Ahead<'_, 'a>,
@@ -82,7 +82,7 @@ fn definition_rule<'t, 'a>(
     }
 }
 
-/// Reads what stands behind a name that begins no definition: a call, or nothing that belongs to it.
+/// Reads what follows a name that begins no definition: a call, or nothing that belongs to it.
 #[tactic(auto, using(crate::proofs::Moves::named_call, crate::proofs::Moves::named_broken, crate::proofs::Moves::named_word))]
 fn called_rule<'t, 'a>(
     alloc: Global,
@@ -106,8 +106,8 @@ fn called_rule<'t, 'a>(
     }
 }
 
-/// Reads what stands behind a name: a definition, if there may be one, a call, or nothing that belongs
-/// to it.
+/// Reads what follows a name: a definition, if there may be one, a call, or nothing that belongs to
+/// it.
 #[tactic(auto, using(crate::proofs::Moves::named_definition))]
 pub fn named_rule<'t, 'a>(
     alloc: Global,

@@ -1,4 +1,4 @@
-//! The rules of directives, behind their words.
+//! The rules of directives, after their words.
 
 ghost use Rattle.std.specs.Prelude.{◌≡◌, ◌≤◌, IfOk};
 ghost use Rattle.abel_macros.specs.declared.directive.Directive.TheVariants as directive;
@@ -12,7 +12,7 @@ use abel_macros::{
 use std::alloc::{AllocError, Global};
 use text_pieces::Ahead;
 
-/// Reads what stands behind `@CONST`.
+/// Reads what follows `@CONST`.
 fn const_rule<'t, 'a>(
     alloc: Global,
     at: &mut Ahead<'_, 'a>,
@@ -29,7 +29,7 @@ fn const_rule<'t, 'a>(
     }
 }
 
-/// Reads what stands behind `@IF`.
+/// Reads what follows `@IF`.
 #[tactic(auto, using(crate::proofs::Moves::zero_takes_none, crate::proofs::Moves::other_takes_all))]
 fn if_rule<'t, 'a>(
     alloc: Global,
@@ -53,7 +53,7 @@ fn if_rule<'t, 'a>(
     }
 }
 
-/// Reads what stands behind `@IFDEF`.
+/// Reads what follows `@IFDEF`.
 fn defined_rule<'t, 'a>(
     alloc: Global,
     at: &mut Ahead<'_, 'a>,
@@ -76,7 +76,7 @@ fn defined_rule<'t, 'a>(
     }
 }
 
-/// Reads what stands behind `@IFNDEF`.
+/// Reads what follows `@IFNDEF`.
 fn undefined_rule<'t, 'a>(
     alloc: Global,
     at: &mut Ahead<'_, 'a>,
@@ -99,7 +99,7 @@ fn undefined_rule<'t, 'a>(
     }
 }
 
-/// Reads what stands behind `@IRP`.
+/// Reads what follows `@IRP`.
 fn each_rule<'t, 'a>(
     alloc: Global,
     at: &mut Ahead<'_, 'a>,
@@ -116,7 +116,7 @@ fn each_rule<'t, 'a>(
     }
 }
 
-/// Reads what stands behind `@REPEAT`.
+/// Reads what follows `@REPEAT`.
 fn repeat_rule<'t, 'a>(
     alloc: Global,
     at: &mut Ahead<'_, 'a>,
@@ -133,7 +133,7 @@ fn repeat_rule<'t, 'a>(
     }
 }
 
-/// Reads what stands behind `@EXPR`.
+/// Reads what follows `@EXPR`.
 #[tactic(auto, using(crate::proofs::Moves::value_moves))]
 fn value_rule<'t, 'a>(
     alloc: Global,
@@ -151,7 +151,7 @@ fn value_rule<'t, 'a>(
     }
 }
 
-/// Reads what stands behind `@RADIX`.
+/// Reads what follows `@RADIX`.
 fn radix_rule<'t, 'a>(
     alloc: Global,
     at: &mut Ahead<'_, 'a>,
@@ -168,7 +168,7 @@ fn radix_rule<'t, 'a>(
     }
 }
 
-/// Reads what stands behind a directive's word.
+/// Reads what follows a directive's word.
 pub fn directed_rule<'t, 'a>(
     alloc: Global,
     at: &mut Ahead<'_, 'a>,

@@ -46,7 +46,7 @@ impl<'a> Gathered<'a> {
         }))
     }
 
-    /// Adds the result of a rewriting; the call that makes it stands beside it.
+    /// Adds the result of a rewriting; the call that makes it is beside it.
     #[tactic(auto, using(crate::proofs::Gathers::added_none))]
     fn add_rewriting(
         &mut self,

@@ -86,14 +86,14 @@ impl<'a> Gathered<'a> {
         self.pieces = pieces;
     }
 
-    /// It has no more bytes than it may have: this does nothing, and tells it.
+    /// It has no more bytes than it may have: this does nothing, and states it.
     pub fn is_within(&self)
         ensures { length self.now.text ≤ self.now.most }
     {
         let _room = self.room;
     }
 
-    /// Adds a piece behind.
+    /// Adds a piece at the end.
     #[tactic(auto, using(crate::proofs::Gathers::added, crate::proofs::Gathers::added_nothing, crate::proofs::Gathers::over))]
     pub fn add(&mut self, piece: Piece<'a>) -> Result<(), Shortage>
         ensures ok { OnOk result (self.new ≡ record self.old { text = self.old.text ++ piece.entry }) }
@@ -111,7 +111,7 @@ impl<'a> Gathered<'a> {
         Ok(())
     }
 
-    /// Adds a text in pieces behind.
+    /// Adds a text in pieces at the end.
     #[tactic(auto, using(crate::proofs::Gathers::all_next, crate::proofs::Gathers::all_long, crate::proofs::Gathers::all_added))]
     pub fn add_all(&mut self, pieces: &[Piece<'a>]) -> Result<(), Shortage>
         ensures ok { OnOk result (self.new ≡ record self.old { text = self.old.text ++ joined pieces.now }) }
@@ -130,7 +130,7 @@ impl<'a> Gathered<'a> {
         self.room
     }
 
-    /// Adds a text in pieces behind, so many times.
+    /// Adds a text in pieces at the end, so many times.
     #[tactic(auto, using(crate::proofs::Gathers::times_next, crate::proofs::Gathers::times_long, crate::proofs::Gathers::times_added))]
     fn add_times(&mut self, pieces: &[Piece<'a>], count: u32) -> Result<(), Shortage>
         ensures ok { OnOk result (self.new ≡ record self.old { text = self.old.text ++ concat (replicate count (joined pieces.now)) }) }
@@ -144,7 +144,8 @@ impl<'a> Gathered<'a> {
         Ok(())
     }
 
-    /// Adds a text in pieces behind, once and so many times more; if that would be too long, only once.
+    /// Adds a text in pieces at the end, once and so many times more; if that would be too long, only
+    /// once.
     #[tactic(auto, using(crate::proofs::Gathers::once_long, crate::proofs::Gathers::times_over, crate::proofs::Gathers::rest_added, crate::proofs::Gathers::rest_long, crate::proofs::Gathers::less_room))]
     fn add_some(&mut self, pieces: &[Piece<'a>], count: u32) -> Result<(), Shortage>
         requires { 0 < count }
@@ -160,7 +161,7 @@ impl<'a> Gathered<'a> {
         self.add_times(pieces, count - 1)
     }
 
-    /// Adds a text in pieces behind, so many times.
+    /// Adds a text in pieces at the end, so many times.
     #[tactic(auto, using(crate::proofs::Gathers::no_times, crate::proofs::Gathers::zero_times))]
     pub fn repeat(&mut self, pieces: &[Piece<'a>], count: u32) -> Result<(), Shortage>
         ensures ok { OnOk result (self.new ≡ record self.old { text = self.old.text ++ concat (replicate count (joined pieces.now)) }) }

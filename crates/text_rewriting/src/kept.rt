@@ -50,7 +50,7 @@ fn keep_call<'a>(
 }
 
 impl<'a> Gathered<'a> {
-    /// Makes one piece of many small ones, if there is room to keep it, and tells whether it did.
+    /// Makes one piece of many small ones, if there is room to keep it, and says whether it did.
     fn settle(&mut self, alloc: Global, tables: &mut Tables<'a>) -> Result<bool, AllocError>
         ensures text { self.new ≡ self.old }
         ensures tables { tables.new ≡ tables.old }

@@ -1,4 +1,4 @@
-//! What stands at the front of a text in pieces, and what is put in its place.
+//! What is at the front of a text in pieces, and what is put in its place.
 #![tactic(auto)]
 
 mod bound;

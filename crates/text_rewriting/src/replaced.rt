@@ -1,4 +1,4 @@
-//! Blocks in which arguments stand for parameters.
+//! Blocks in which arguments represent parameters.
 
 ghost use Rattle.std.specs.Prelude.{◌≡◌, ◌==◌, ◌+◌, ◌++◌, ◌<◌, ◌≤◌, ◌^◌, length, take, drop, true, false, Some, None, IfSome, IfNone, IfOk, OnOk, IfErr};
 ghost use Rattle.text_rewriting.specs.Prelude.{count_by, ahead, joined, asked, replaced, standing_for, starts_byte, rest_of, names, texts, each_replaced};
@@ -11,7 +11,7 @@ use abel_macros::{STRETCH, is_next, read, skip_without, word_len};
 use std::alloc::{AllocError, Global};
 use text_pieces::{Ahead, Piece, Rest};
 
-/// How long the name behind the `?` ahead is; 0 if there is none.
+/// How long the name after the `?` ahead is; 0 if there isn't one.
 fn asked_len(at: &Ahead) -> usize
     requires { starts_byte 63 (ahead at.now) ≡ true }
     ensures value { result ≡ length (asked (rest_of (ahead at.now))) }
@@ -22,8 +22,7 @@ fn asked_len(at: &Ahead) -> usize
     word_len(&look)
 }
 
-/// The argument that stands for the `?` ahead and the name behind it. Only a name that doesn't stand in
-/// one piece is copied.
+/// The argument that represents the `?` ahead and the name after it. Only a name that isn't in one piece is copied.
 #[tactic(auto, using(crate::proofs::Replaces::asked_front, crate::proofs::Replaces::asked_read))]
 fn asked_argument<'m, 'a>(
     alloc: Global,
@@ -46,7 +45,7 @@ fn asked_argument<'m, 'a>(
     Ok(arguments.of(&name))
 }
 
-/// Whether a `?` is ahead, and a parameter behind it. If not, the next byte stays.
+/// Whether a `?` is ahead, and a parameter after it. If not, the next byte stays.
 #[tactic(auto, using(crate::proofs::Replaces::unmarked_stays, crate::proofs::Replaces::unasked_stays))]
 fn is_replaced(alloc: Global, at: &Ahead, arguments: &Arguments) -> Result<bool, AllocError>
     ensures yes { IfOk result (λ o. o ≡ true → starts_byte 63 (ahead at.now) ≡ true) }
@@ -61,8 +60,8 @@ fn is_replaced(alloc: Global, at: &Ahead, arguments: &Arguments) -> Result<bool,
     }
 }
 
-/// Passes bytes among which no `?` stands, and tells how many: those of which that is known, or stretches unless more bytes are to
-/// be passed singly before.
+/// Passes bytes among which no `?` is, and says how many: those of which that is known, or stretches unless more bytes are
+/// to be passed singly before.
 fn skip_unmarked(at: &mut Ahead, singly: usize) -> usize
     ensures none { count_by (λ b. b == 63) (take result (ahead at.old)) ≡ 0 }
     ensures ahead { ahead at.new ≡ drop result (ahead at.old) }
@@ -80,8 +79,8 @@ fn skip_unmarked(at: &mut Ahead, singly: usize) -> usize
     skip_without(at, b'?')
 }
 
-/// How many of the next bytes stay: those before the next `?` with a parameter behind it. So many bytes
-/// are passed singly before stretches without a `?` are.
+/// How many of the next bytes stay: those before the next `?` with a parameter after it. So many bytes are passed singly
+/// before stretches without a `?` are.
 fn kept_len(alloc: Global, at: &Ahead, arguments: &Arguments) -> Result<usize, AllocError>
     ensures value { IfOk result (λ n. take n (ahead at.now) ++ replaced (bound arguments.now.by_name.entries) 0 (drop n (ahead at.now)) ≡ replaced (bound arguments.now.by_name.entries) 0 (ahead at.now)) }
     ensures within { IfOk result (λ n. n ≤ length (ahead at.now)) }
@@ -104,7 +103,7 @@ fn kept_len(alloc: Global, at: &Ahead, arguments: &Arguments) -> Result<usize, A
 }
 
 impl<'a> Gathered<'a> {
-    /// Takes the first bytes of a text, and adds them behind.
+    /// Takes the first bytes of a text, and adds them at the end.
     fn add_cut(&mut self, alloc: Global, rest: &mut Rest<'a>, count: usize) -> Result<(), Shortage>
         requires { count ≤ length rest.old }
         ensures ok { OnOk result (self.new ≡ record self.old { text = self.old.text ++ take count rest.old }) }
@@ -115,7 +114,7 @@ impl<'a> Gathered<'a> {
         self.add_all(&pieces)
     }
 
-    /// Takes a `?` and the name behind it, and adds what stands for them.
+    /// Takes a `?` and the name after it, and adds what represents them.
     #[tactic(auto, using(crate::proofs::Replaces::asked_some, crate::proofs::Replaces::asked_none, crate::proofs::Replaces::asked_long, crate::proofs::Replaces::none_long, crate::proofs::Replaces::shorter, crate::proofs::Replaces::marked))]
     fn add_asked(
         &mut self,
@@ -140,7 +139,7 @@ impl<'a> Gathered<'a> {
         }
     }
 
-    /// Takes the bytes that stay, and adds them behind; a `?` stands in front then, or nothing is left.
+    /// Takes the bytes that stay, and adds them at the end; a `?` is in front then, or nothing is left.
     #[tactic(auto, using(crate::proofs::Replaces::kept_run, crate::proofs::Replaces::kept_long, crate::proofs::Replaces::left_some))]
     fn add_kept(
         &mut self,
@@ -158,8 +157,7 @@ impl<'a> Gathered<'a> {
         self.add_cut(alloc, rest, count)
     }
 
-    /// Takes the bytes that stay, and adds them behind; then a `?` and the name behind it, and adds what
-    /// stands for them.
+    /// Takes the bytes that stay, and adds them at the end; then a `?` and the name after it, and adds what represents them.
     #[tactic(auto, using(crate::proofs::Replaces::both_long))]
     fn add_part(
         &mut self,
@@ -180,7 +178,7 @@ impl<'a> Gathered<'a> {
         self.add_asked(alloc, rest, arguments)
     }
 
-    /// Adds a block in which each parameter behind a `?` is replaced by its argument.
+    /// Adds a block in which each parameter after a `?` is replaced by its argument.
     #[tactic(auto, using(crate::proofs::Replaces::block_added, crate::proofs::Replaces::block_long))]
     fn add_bound(
         &mut self,
@@ -201,7 +199,7 @@ impl<'a> Gathered<'a> {
         Ok(())
     }
 
-    /// Adds a block in which each of these parameters behind a `?` is replaced by its argument.
+    /// Adds a block in which each of these parameters after a `?` is replaced by its argument.
     pub fn add_replaced(
         &mut self,
         alloc: Global,
@@ -218,7 +216,7 @@ impl<'a> Gathered<'a> {
         self.add_bound(alloc, block, &bound)
     }
 
-    /// Adds a block once for each argument, which stands for the parameter.
+    /// Adds a block once for each argument, which represents the parameter.
     #[tactic(auto, using(crate::proofs::Replaces::each_next, crate::proofs::Replaces::each_long, crate::proofs::Replaces::each_added))]
     pub fn add_each(
         &mut self,

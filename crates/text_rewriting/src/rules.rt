@@ -80,7 +80,7 @@ fn read_directive_word(alloc: Global, at: &mut Ahead) -> Result<Vec<u8>, AllocEr
     read(alloc, at, 1 + count)
 }
 
-/// Reads a directive at the front, and what belongs to it; how many bytes that are stands beside it.
+/// Reads a directive at the front, and what belongs to it; how many bytes that are is beside it.
 fn directive_rule<'t, 'a>(
     alloc: Global,
     rest: &Rest<'a>,

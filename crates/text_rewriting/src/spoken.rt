@@ -40,7 +40,7 @@ pub fn line_feeds(alloc: Global, rest: &Rest, count: usize) -> Result<Vec<u8>, A
     Ok(bytes)
 }
 
-/// Puts a byte behind others, or what is done for it in a comment.
+/// Puts a byte after others, or what is done for it in a comment.
 fn show_byte(bytes: &mut Vec<u8>, from: Mode, to: Mode, byte: u8) -> Result<(), AllocError>
     ensures bytes { OnOk result (bytes.new.items ≡ bytes.old.items ++ shown_of from to byte) }
     ensures few { OnOk result (length bytes.new.items ≤ length bytes.old.items + 1) }

@@ -9,8 +9,8 @@ use std::alloc::{AllocError, Global};
 use std::marker::Model;
 use text_pieces::{Ahead, Piece, Rest};
 
-/// What is still to be read. Where the last `left` bytes begin, blanks and comments stand that lead to
-/// no word MACRO; they have `gap` bytes, or there are none.
+/// What is still to be read. At the beginning of the last `left` bytes are blanks and comments that
+/// lead to no word MACRO; they have `gap` bytes, or there aren't any.
 #[derive(Drop)]
 pub struct Unread<'a> {
     rest: Rest<'a>,
@@ -30,8 +30,8 @@ impl<'a> Model for Unread<'a> {
     ghost invariant = { λ u. (u.left ≤ length u.rest) × (macro_word (last u.left u.rest) ≡ None) };
 }
 
-/// Whether the word MACRO stands behind blanks and comments; it stands behind none that begin where so
-/// many bytes are left.
+/// Whether the word MACRO follows blanks and comments; it follows none that begin where so many bytes
+/// are left.
 #[tactic(auto, using(crate::proofs::Marks::none_stopped, crate::proofs::Marks::none_passed))]
 fn has_macro_word(alloc: Global, at: &mut Ahead, left: usize) -> Result<bool, AllocError>
     requires { macro_word (last left at.old.whole) ≡ None }
@@ -128,7 +128,7 @@ impl<'a> Unread<'a> {
         }
     }
 
-    /// Whether a definition begins in front: a name, and the word MACRO behind it.
+    /// Whether a definition begins in front: a name, and the word MACRO after it.
     #[tactic(auto, using(crate::proofs::Marks::at_last))]
     pub fn may_define(&mut self, alloc: Global) -> Result<bool, AllocError>
         ensures no { IfOk result (λ o. o ≡ false → DefinesNone self.old) }

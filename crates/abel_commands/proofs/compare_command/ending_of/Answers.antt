@@ -1,4 +1,4 @@
--- The library's answer is told.
+-- The library's answer is reported.
 use Rattle.std.proofs.Common.{◌≢◌, Ok, ap, sym, inl, inr}
 use Rattle.abel_commands.proofs.Common.{true≢false, OutOfMemory, contents}
 use Rattle.abel_commands.proofs.ComparedFiles.{told_different, told_refused, told_same}

@@ -1,4 +1,4 @@
--- The run's mismatches are none, or some, as the list says.
+-- There are no mismatches in the run, or some, as the list says.
 use Rattle.std.proofs.Common.{List, ◌∙◌, ap, subst, arith, inl, inr}
 use Rattle.abel_commands.proofs.Common.{length-map, Mismatch, fuse_sum_of, chars_of, contents, IsFileRun}
 use Rattle.abel_commands.proofs.DemoRuns.{file_run}

@@ -1,4 +1,4 @@
--- A compiled source is run, and refusals are told.
+-- A compiled source is run, and refusals are reported.
 use Rattle.std.proofs.Common.{ℕ, List, ◌∙◌, subst, inl, inr}
 use Rattle.abel_commands.proofs.Common.{IfOk-weaker, table_of, FileEnds, cells_of, ending_seen}
 use Rattle.abel_commands.proofs.DemoCells.{few_cells}

@@ -1,4 +1,4 @@
--- The digits behind a known front.
+-- The digits after a known front.
 use Rattle.std.proofs.Common.{ℕ, ◌+◌, List, length, ◌∙◌, ap}
 use Rattle.abel_commands.proofs.Common.{device_text}
 use Rattle.abel_commands.proofs.DemoCells.{cells_behind}

@@ -1,4 +1,4 @@
--- Three pieces were appended, one behind the other.
+-- Three pieces were appended, one after the other.
 use Rattle.std.proofs.Common.{◌≡◌, ℕ, List, ◌++◌, ◌∙◌, ap, append_assoc, codes}
 use Rattle.abel_commands.proofs.Common.{four_hex}
 use Rattle.abel_commands.proofs.fault_line.put_sums.Goals as goal

@@ -1,4 +1,4 @@
--- A piece and a number were appended, and behind them another piece and number.
+-- A piece and a number were appended, and after them another piece and number.
 use Rattle.std.proofs.Common.{◌≡◌, ℕ, List, ◌++◌, ◌∙◌, ap, sym, append_assoc, codes}
 use Rattle.abel_commands.proofs.Common.{decimal}
 use Rattle.abel_commands.proofs.sim_fault_line.put_condition.Goals as goal

@@ -1,4 +1,4 @@
--- The run's mismatches are none, or some, as the list says.
+-- There are no mismatches in the run, or some, as the list says.
 use Rattle.std.proofs.Common.{List, subst, arith, inl, inr}
 use Rattle.abel_commands.proofs.Common.{length-map, Mismatch, chars_of, contents, IsReportedRun}
 use Rattle.abel_commands.proofs.FewVectors.{few_vectors}

@@ -1,4 +1,4 @@
--- What is compiled goes under OUT, and refusals are told.
+-- What is compiled goes under OUT, and refusals are reported.
 use Rattle.std.proofs.Common.{refl, inl, inr}
 use Rattle.abel_commands.proofs.Common.{IfOk-weaker}
 use Rattle.abel_commands.proofs.source_commands.compile_ending.Goals as goal

@@ -1,4 +1,4 @@
--- What is compiled is listed, and refusals are told.
+-- What is compiled is listed, and refusals are reported.
 use Rattle.std.proofs.Common.{inl, inr}
 use Rattle.abel_commands.proofs.Common.{IfOk-weaker}
 use Rattle.abel_commands.proofs.source_commands.list_ending.Goals as goal

@@ -1,4 +1,4 @@
--- What does not fit is told so.
+-- What does not fit is reported so.
 use Rattle.std.proofs.Common.{inr}
 use Rattle.abel_commands.proofs.source_commands.refused_ending.Goals as goal
 

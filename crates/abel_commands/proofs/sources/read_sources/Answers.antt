@@ -1,4 +1,4 @@
--- One source is read after the other, and the first fault is told.
+-- One source is read after the other, and the first fault is reported.
 use Rattle.std.proofs.Common.{◌∙◌, ℕ, ◌<◌, List, length, Err, ap, sym, subst, arith, string_bytes}
 use Rattle.abel_commands.proofs.Common.{Vec, length-map, ReadFault, bytes_at, limit}
 use Rattle.abel_commands.proofs.Settled.{settled, too_long_settled}

@@ -1,4 +1,4 @@
--- The first fuse with another level is told.
+-- The first fuse with another level is reported.
 use Rattle.std.proofs.Common.{sym, ◌∙◌}
 use Rattle.abel_commands.proofs.Common.{contents, WrongMode}
 use Rattle.abel_commands.proofs.taken.in_mode.Goals as goal

@@ -1,4 +1,4 @@
--- The refusal that reading has first is told; want of memory is answered as such.
+-- The refusal that reading has first is reported; lack of memory is answered as such.
 use Rattle.std.proofs.Common.{◌≡◌, ◌≢◌, Err, refl, sym}
 use Rattle.abel_commands.proofs.Common.{true≢false, JedecFault, FuseFile, Read, Refuses, Unread}
 use Rattle.jedec_file.specs.declared.jedec_fault.JedecFault.TheVariants as fault

@@ -1,4 +1,4 @@
--- A refusal of reading is told.
+-- A refusal of reading is reported.
 use Rattle.compile_phases.proofs.phases.module_of.Goals as goal
 
 pub returns-in-Err-clause-err : goal.returns-in-Err-clause-err

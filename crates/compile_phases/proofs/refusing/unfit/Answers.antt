@@ -1,4 +1,4 @@
--- The fault is told with its line.
+-- The fault is reported with its line.
 use Rattle.compile_phases.proofs.Common.{entries_of}
 use Rattle.compile_phases.proofs.Refusals.{told_fit}
 use Rattle.compile_phases.proofs.refusing.unfit.Goals as goal

@@ -1,4 +1,4 @@
--- The line is told at the first signal.
+-- The line is reported at the first signal.
 use Rattle.std.proofs.Common.{ℕ, List, IsSome, sym, subst}
 use Rattle.compile_phases.proofs.Common.{entries_of, first_place}
 use Rattle.placer.specs.Faults.{IsUnplaced}

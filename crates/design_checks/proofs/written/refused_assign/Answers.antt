@@ -1,4 +1,4 @@
--- Where nothing is compared, nothing is refused; a target that is too wide is refused before; any other has its signals.
+-- If nothing is compared, nothing is refused; a target that is too wide is refused before; any other has its signals.
 use Rattle.std.proofs.Common.{◌<◌, ◌≤◌, length, sym, ap, subst, ◌∙◌, arith}
 use Rattle.design_checks.proofs.Common.{Names, entries_of, first_refusal, view, term_of, context_for, side_all, side_length, may_be_compared, use_order, aims_refused, narrow, written_if}
 use Rattle.abel_tree.specs.Assigned.{target_extension}

@@ -1,4 +1,4 @@
--- Each cell in turn is told.
+-- Each cell in turn is reported.
 use Rattle.design_page.proofs.ToldCosts.{tells_more}
 use Rattle.design_page.proofs.costs.costly_polarities.Goals as goal
 

@@ -1,4 +1,4 @@
--- The cells so far are told.
+-- The cells so far are reported.
 use Rattle.std.specs.List.{All}
 use Rattle.design_page.specs.Costly.{IsCostly, TellsBelow}
 use Rattle.design_page.proofs.costs.costly_polarities.Given as goal

@@ -1,4 +1,4 @@
--- The pairs so far stand there.
+-- The pairs so far are there.
 use Rattle.std.proofs.Common.{◌≡◌, ◌<◌, ℕ, get_or, length}
 use Rattle.gathering.proofs.Common.{no_pair, pair_of_pin}
 use Rattle.gathering.proofs.pairs.pairs_of_pins.Given as goal

@@ -1,4 +1,4 @@
--- What the names so far stand for.
+-- What the names so far represent.
 use Rattle.std.proofs.Common.{map, take}
 use Rattle.placer.proofs.Common.{named_of, view_declared, AreMarks, read_names_of}
 use Rattle.placer.proofs.read_names.naming_of.Given as goal

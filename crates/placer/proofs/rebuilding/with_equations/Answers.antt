@@ -1,4 +1,4 @@
--- Where there are equations, one section more.
+-- If there are equations, one section more.
 use Rattle.std.proofs.Common.{◌==◌, [], ◌∷◌, ◌++◌, List, length, map, sym, ap, ◌∙◌}
 use Rattle.placer.proofs.Common.{append-nil, map-append, Stmt, view_section, view_stmt}
 use Rattle.abel_tree.specs.declared.sections.Section.TheVariants as section

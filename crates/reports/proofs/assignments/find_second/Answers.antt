@@ -1,4 +1,4 @@
--- A name that was seen is told, and another one is seen from then on.
+-- A name that was seen is reported, and another one is seen from then on.
 use Rattle.std.proofs.Common.{◌≡◌, ◌++◌, ◌∷◌, [], Bor, List, ℕ, sym, ap, ◌∙◌}
 use Rattle.std.proofs.lemmas.List.{map_push}
 use Rattle.reports.specs.Warnings.{seconds, warned}

@@ -1,4 +1,4 @@
--- A statement that assigns a name is told or seen, and another one is passed.
+-- A statement that assigns a name is reported or seen, and another one is passed.
 use Rattle.std.proofs.Common.{◌+◌, ◌++◌, List, option_map, sym, ap, ap₂, ◌∙◌}
 use Rattle.abel_tree.specs.declared.words.Word.{Word}
 use Rattle.reports.specs.Warnings.{seconds}

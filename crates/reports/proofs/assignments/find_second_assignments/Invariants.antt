@@ -1,4 +1,4 @@
--- What is told and what is left are the whole.
+-- What is reported and what is left are the whole.
 use Rattle.std.proofs.Common.{◌≡◌, [], ◌++◌}
 use Rattle.reports.specs.Warnings.{seconds}
 use Rattle.reports.proofs.WarnedNames.{names_at, names_from}

@@ -1,4 +1,4 @@
--- Each turn passes a word; the words that are told and those that are left are the string's.
+-- Each turn passes a word; the words that are reported and those that are left are the string's.
 use Rattle.std.proofs.Common.{◌≡◌, ◌++◌, filter_map, length}
 use Rattle.reports.specs.Warnings.{idle_in_string, idle_word, words_in}
 use Rattle.reports.proofs.idle_words.find_in_string.Given as goal

@@ -1,4 +1,4 @@
--- The idle words of the strings so far stand behind what was there.
+-- The idle words of the strings so far follow what was there.
 use Rattle.std.proofs.Common.{◌≡◌, ◌++◌, take}
 use Rattle.std.specs.List.{flat_map}
 use Rattle.reports.specs.Warnings.{idle_in_string}

@@ -1,4 +1,4 @@
--- The first word, and those behind it.
+-- The first word, and those after it.
 use Rattle.std.proofs.Common.{◌≡◌, ◌+◌, ◌∷◌, List, ℕ, drop, take, sym, ap, ◌∙◌, subst}
 use Rattle.std.proofs.lemmas.List.{drop-drop}
 use Rattle.reports.specs.Warnings.{words_in}

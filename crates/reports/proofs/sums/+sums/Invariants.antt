@@ -1,4 +1,5 @@
--- Each turn goes one operator down; what is told and what is left of the expression are the whole.
+-- Each turn goes one operator down; what is reported and what is left of the expression are the
+-- whole.
 use Rattle.std.proofs.Common.{◌≡◌, ◌≤◌, ◌++◌}
 use Rattle.abel_tree.specs.Entries.{entries_of}
 use Rattle.abel_tree.specs.View.{view}

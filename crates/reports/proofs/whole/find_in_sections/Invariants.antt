@@ -1,4 +1,4 @@
--- The warnings of the sections so far stand behind what was there.
+-- The warnings of the sections so far follow what was there.
 use Rattle.std.proofs.Common.{◌≡◌, ◌++◌, map, take}
 use Rattle.std.specs.List.{flat_map}
 use Rattle.abel_tree.specs.Entries.{entries_of}

@@ -1,4 +1,4 @@
--- It begins where the whole does.
+-- It begins if the whole does.
 use Rattle.std.proofs.Common.{◌≡◌, List}
 use Rattle.section_targets.proofs.Common.{Entry, view, first_place, first_name}
 use Rattle.section_targets.proofs.siding.refuse_operator.Given as goal

@@ -1,4 +1,4 @@
--- Behind the arms of CASE that are left it is what it is behind all.
+-- After the arms of CASE that are left it is what it is after all.
 use Rattle.std.proofs.Common.{◌≡◌, drop}
 use Rattle.source_sections.proofs.Common.{after_choices, view_choices}
 use Rattle.source_sections.proofs.directives.+arms.Given as goal

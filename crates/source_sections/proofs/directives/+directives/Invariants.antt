@@ -1,4 +1,4 @@
--- Behind the statements that are left it is what it is behind all.
+-- After the statements that are left it is what it is after all.
 use Rattle.std.proofs.Common.{◌≡◌, drop}
 use Rattle.source_sections.proofs.Common.{after_statements, view_list}
 use Rattle.source_sections.proofs.directives.+directives.Given as goal

@@ -1,4 +1,4 @@
--- Behind the transitions that are left it is what it is behind all.
+-- After the transitions that are left it is what it is after all.
 use Rattle.std.proofs.Common.{◌≡◌, drop}
 use Rattle.source_sections.proofs.Common.{after_branches, view_arms}
 use Rattle.source_sections.proofs.directives.after_arms.Given as goal

@@ -1,4 +1,4 @@
--- Behind the declarations that are left it is what it is behind all.
+-- After the declarations that are left it is what it is after all.
 use Rattle.std.proofs.Common.{◌≡◌, drop, map}
 use Rattle.source_sections.proofs.Common.{view_decl, after_declarations}
 use Rattle.source_sections.proofs.directives.after_declarations.Given as goal

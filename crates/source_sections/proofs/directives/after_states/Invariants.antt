@@ -1,4 +1,4 @@
--- Behind the states that are left it is what it is behind all.
+-- After the states that are left it is what it is after all.
 use Rattle.std.proofs.Common.{◌≡◌, drop, map}
 use Rattle.source_sections.proofs.Common.{view_state, after_states}
 use Rattle.source_sections.proofs.directives.after_states.Given as goal

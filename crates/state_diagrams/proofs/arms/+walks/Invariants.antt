@@ -1,4 +1,4 @@
--- What the other arms leave, and what stands after them, is so of the whole CASE; and the guards of the arms are there.
+-- What the other arms leave, and what is after them, is so of the whole CASE; and the guards of the arms are there.
 use Rattle.std.proofs.Common.{◌≡◌, ◌<◌, None, drop, length}
 use Rattle.state_diagrams.proofs.Common.{arena, formula_at, ACase, context_for, Walked, AreBits, AreIn, arm_guards, case_choices, case_place, view_choices, StandsBranch, StandsChoices, WalksBranch, WalksChoices}
 use Rattle.state_diagrams.proofs.arms.+walks.Given as goal

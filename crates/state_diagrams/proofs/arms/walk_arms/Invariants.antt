@@ -1,4 +1,4 @@
--- What the other transitions leave, and what stands after them, is so of all.
+-- What the other transitions leave, and what is after them, is so of all.
 use Rattle.std.proofs.Common.{◌<◌, drop, length}
 use Rattle.state_diagrams.proofs.Common.{arena, Walked, view_arms, StandsBranches, WalksBranches}
 use Rattle.state_diagrams.proofs.arms.walk_arms.Given as goal

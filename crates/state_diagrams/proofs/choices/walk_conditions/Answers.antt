@@ -1,4 +1,4 @@
--- Conditions that are refused or stand behind what is, and those whose guards are made.
+-- Conditions that are refused or follow what is, and those whose guards are made.
 use Rattle.std.proofs.Common.{[], ◌∷◌, Ok, Err, refl, sym, ap, ◌∙◌, subst}
 use Rattle.state_diagrams.proofs.Common.{arena, formula_at, context_for, Walked, AreBits, Builds, standing, part, choices_nodes, none_so_far, stands_made, stands_same, limit_kept, unit_clear, unit_refused, arm_guards, case_unit, case_arms, case_choices, case_place, choices_refused}
 use Rattle.state_diagrams.proofs.GuardLaws.{conditions_made}

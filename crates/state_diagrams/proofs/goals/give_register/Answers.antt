@@ -1,4 +1,4 @@
--- A register's bit, and a match behind it.
+-- A register's bit, and a match after it.
 use Rattle.state_diagrams.proofs.Common.{err_from_is_err_and, arena, formula_at, view_guard, kept_formula, kept_inside, keeps_on, at, guard_kept}
 use Rattle.state_diagrams.proofs.GoalWorks.{register_given, register_stops}
 use Rattle.state_diagrams.proofs.goals.give_register.Goals as goal

@@ -1,4 +1,4 @@
--- A value that is refused or stands behind what is, and one that is made.
+-- A value that is refused or follows what is, and one that is made.
 use Rattle.std.proofs.Common.{[], ◌++◌, length, refl, sym, ap, ◌∙◌, subst}
 use Rattle.state_diagrams.proofs.Common.{on_ok_weaker, arena, Names, entries_of, view, value_nodes, expression_found, view_guard, Walked, Builds, context_for, value_refused, value_width, standing, none_so_far, stands_made, stands_same, left_empty, value_accepted, whole, unit_clear, unit_made, unit_refused, goal_unit}
 use Rattle.set_expr.specs.KnownNames.{SumsUp}

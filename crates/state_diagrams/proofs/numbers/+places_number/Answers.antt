@@ -1,4 +1,4 @@
--- There are at most 31 positions behind the first.
+-- There are at most 31 positions after the first.
 use Rattle.std.proofs.Common.{length, ap, arith}
 use Rattle.state_diagrams.proofs.Common.{arena}
 use Rattle.state_diagrams.proofs.NumberLaws.{rest_small}

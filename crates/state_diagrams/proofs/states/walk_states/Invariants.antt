@@ -1,4 +1,4 @@
--- What the other states leave behind those that are listed, and what stands after them, is so of all; and the bits so far.
+-- What the other states leave after those that are listed, and what is after them, is so of all; and the bits so far.
 use Rattle.std.proofs.Common.{◌≡◌, None, [], drop, map, take}
 use Rattle.state_diagrams.proofs.Common.{arena, view_state, context_for, Walked, AreBits, StandsStates, WalksStates, state_bits}
 use Rattle.state_diagrams.proofs.states.walk_states.Given as goal

@@ -1,4 +1,4 @@
--- A state that is refused or stands behind what is, and one whose bit is made.
+-- A state that is refused or follows what is, and one whose bit is made.
 use Rattle.std.proofs.Common.{◌≡◌, ℕ, false, List, [], ◌∷◌, Result, Ok, Err, length, refl, sym, ap, ◌∙◌, subst, subst₂}
 use Rattle.state_diagrams.proofs.Common.{is_some, arena, Node, earlier, StateTree, view_state, Context, term_of, SectionFault, section_order, Manner, Walked, BuildsNodes, IsBit, AreFirsts, context_for, part, AfterMaking, Builds, standing, none_so_far, stands_made, stands_same, Walks, high_bit, limit_kept, unit_clear, unit_refused, signals_of, state_guard, state_unit, number_guard, IsState, state_refused, Made, Formula}
 use Rattle.state_diagrams.specs.declared.values.StateFound.{StateFound}
@@ -18,7 +18,7 @@ its_number : (d : Context) (ss : List ℕ) (s : StateTree) (listed : List ℕ) (
 its_number d ss s listed f old now value kept off =
     ap (number_guard d ss) (value.number (unit_clear (state_refused d (length ss) listed s) f.fault old now value.fault kept off).1.0)
 
--- its unit, where nothing is refused
+-- its unit, if nothing is refused
 unit_walk : (d : Context) (ss : List ℕ) (s : StateTree) (listed : List ℕ) (f : StateFound) (old now new : Walked) (ns : List Node) (r : Result Unit SectionFault) → IsState d (length ss) listed s f → now ≡ record old { fault = earlier section_order old.fault f.fault } → is_some now.fault ≡ false
     → BuildsNodes (part s.place (number_guard d ss f.number).nodes ∷ []) now.exprs ns r → AfterMaking r (record now { exprs = ns }) new
     → (all : List Manner) → AreFirsts old.before all → Walks all (state_unit d ss listed s ∷ []) [] [] [] old new

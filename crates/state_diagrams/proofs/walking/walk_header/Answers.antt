@@ -1,4 +1,4 @@
--- Behind what is refused, and where nothing is.
+-- After what is refused, and if nothing is.
 use Rattle.std.proofs.Common.{[], length, refl, sym, ap, ◌∙◌, subst, append-nil}
 use Rattle.state_diagrams.proofs.Common.{on_ok_weaker, arena, Names, entries_of, view_guard, Walked, context_for, AreNamed, AreFirsts, standing, stands_made, stands_same, walks_made, walks_none, no_fault, header_work}
 use Rattle.truth_tables.specs.TableUnits.{some_aims}

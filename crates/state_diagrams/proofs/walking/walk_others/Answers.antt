@@ -1,4 +1,4 @@
--- The states, and the matches behind them where nothing is refused.
+-- The states, and the matches after them if nothing is refused.
 use Rattle.std.proofs.Common.{◌≡◌, [], ◌++◌, length, drop, map, refl, sym, ap, ap₂, ◌∙◌, arith, length-append}
 use Rattle.state_diagrams.proofs.Common.{arena, view_state, view_guard, context_for, Walked, no_fault, signals_of, states_manners, others_work, states_work, at, stands_whole, pushed_for}
 use Rattle.state_diagrams.proofs.WalkedDiagrams.{others_walk, walks_refusing}

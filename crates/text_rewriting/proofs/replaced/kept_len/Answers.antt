@@ -1,4 +1,4 @@
--- One byte more stays, and bytes behind it without a `?`.
+-- One byte more stays, and bytes after it without a `?`.
 use Rattle.std.proofs.Common.{◌≡◌, ◌+◌, ◌∷◌, ◌++◌, ◌∙◌, ap, sym, arith, ℕ, List, length, take, drop, add-one, length-drop}
 use Rattle.text_rewriting.proofs.Common.{ahead, replaced, bound}
 use Rattle.text_rewriting.proofs.Replaces.{some_step, stays_next, run_stays, drop_next, gone}

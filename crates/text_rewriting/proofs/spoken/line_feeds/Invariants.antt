@@ -1,4 +1,4 @@
--- The line feeds so far stand before those of what is ahead.
+-- The line feeds so far precede those of what is ahead.
 use Rattle.std.proofs.Common.{◌≡◌, ◌≤◌, ◌+◌, ◌++◌, length, take}
 use Rattle.text_rewriting.proofs.Common.{ahead, line_feeds}
 use Rattle.text_rewriting.proofs.spoken.line_feeds.Given as goal

@@ -1,4 +1,4 @@
--- The bytes so far stand before those of what is ahead.
+-- The bytes so far precede those of what is ahead.
 use Rattle.std.proofs.Common.{◌≡◌, ◌≤◌, ◌+◌, ◌++◌, length, take}
 use Rattle.text_rewriting.proofs.Common.{ahead, shown_in}
 use Rattle.text_pieces.specs.declared.mode.Mode.TheVariants as mode

@@ -1,4 +1,4 @@
--- What isn't one of the names stands for no signal.
+-- What isn't one of the names represents no signal.
 use Rattle.std.proofs.Common.{◌≡◌, subst, ◌∙◌}
 use Rattle.design_checks.proofs.Common.{entries_of, term_named, uses_of}
 use Rattle.design_checks.proofs.PlacedNames.{value_in, value_named}

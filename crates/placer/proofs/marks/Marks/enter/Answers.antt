@@ -1,4 +1,4 @@
--- A new name stands behind the others.
+-- A new name follows the others.
 use Rattle.std.proofs.Common.{◌≡◌, true, None, ◌∷◌, [], ◌++◌, sym, ap, subst, ◌∙◌, is_some, bytes_eq}
 use Rattle.placer.proofs.Common.{number_in, none_found, HasSameMark, numbers_named}
 use Rattle.std.specs.Map.{lookup}

@@ -1,4 +1,4 @@
--- Where there are numbers, they stand.
+-- If there are numbers, they stay.
 use Rattle.std.proofs.Common.{◌==◌, List, length, map, sym, ap, ◌∙◌}
 use Rattle.placer.proofs.Common.{IfOk-weaker, Span, view_declared, pin_given}
 use Rattle.placer.proofs.Items.{given_stand, none_given}

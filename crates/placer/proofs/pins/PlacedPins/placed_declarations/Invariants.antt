@@ -1,4 +1,4 @@
--- What stands for the declarations so far.
+-- What represents the declarations so far.
 use Rattle.std.proofs.Common.{◌≡◌, map}
 use Rattle.placer.proofs.Common.{view_declared, view_decl, AreKnown, declarations_given}
 use Rattle.placer.proofs.pins.PlacedPins.placed_declarations.Given as goal

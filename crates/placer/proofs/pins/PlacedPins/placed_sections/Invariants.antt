@@ -1,4 +1,4 @@
--- What stands for the sections so far.
+-- What represents the sections so far.
 use Rattle.std.proofs.Common.{◌≡◌, map}
 use Rattle.placer.proofs.Common.{view_declared, view_section, AreKnown, section_given}
 use Rattle.placer.proofs.pins.PlacedPins.placed_sections.Given as goal

@@ -1,4 +1,4 @@
--- What it names, where it is a target that is an enable.
+-- What it names, if it is a target that is an enable.
 use Rattle.std.proofs.Common.{[], if◌then◌else◌, sym, ap, ◌∙◌}
 use Rattle.placer.proofs.Common.{signals_of, without_extension, view_part, enabled_in}
 use Rattle.placer.proofs.Joins.{no_numbers, numbers_answer, numbers_same}

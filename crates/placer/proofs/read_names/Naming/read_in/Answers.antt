@@ -1,4 +1,4 @@
--- The names that it uses, where it is read.
+-- The names that it uses, if it is read.
 use Rattle.std.proofs.Common.{[], map, if◌then◌else◌, sym, ap, ◌∙◌}
 use Rattle.placer.proofs.Common.{flat_map, view_part, view_use, read_in, signals_at}
 use Rattle.placer.proofs.Joins.{no_numbers, numbers_answer, numbers_same}

@@ -1,4 +1,4 @@
--- What a name stands for where it is read.
+-- What a name represents if it is read.
 use Rattle.std.proofs.Common.{List, ◌==◌, sym, subst}
 use Rattle.placer.proofs.Common.{IfOk-weaker, Named, view_meaning, view, AreMarks, HasMark, IsMarkOf, signals_in, stands_for}
 use Rattle.placer.proofs.Joins.{none_marked}

@@ -1,4 +1,4 @@
--- What a name stands for where it is named by a target.
+-- What a name represents if it is named by a target.
 use Rattle.std.proofs.Common.{List, ◌==◌, sym, subst}
 use Rattle.placer.proofs.Common.{IfOk-weaker, Named, view_meaning, view, AreMarks, HasMark, IsMarkOf, meant, signals_of}
 use Rattle.placer.proofs.Joins.{none_marked}

@@ -1,4 +1,4 @@
--- The pairs that were kept stand for their parameters.
+-- The pairs that were kept represent their parameters.
 use Rattle.std.proofs.Common.{◌≡◌, ◌≤◌, length, drop}
 use Rattle.text_rewriting.proofs.Common.{standing_for, names, texts, bound}
 use Rattle.text_rewriting.proofs.bound.Arguments.new.Given as goal

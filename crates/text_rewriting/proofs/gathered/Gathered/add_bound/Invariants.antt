@@ -1,4 +1,4 @@
--- What was gathered and what stands for the rest are the whole.
+-- What was gathered and what represents the rest are the whole.
 use Rattle.std.proofs.Common.{◌≡◌, ◌++◌, length}
 use Rattle.text_rewriting.proofs.Common.{joined, replaced, bound}
 use Rattle.text_rewriting.proofs.gathered.Gathered.add_bound.Given as goal

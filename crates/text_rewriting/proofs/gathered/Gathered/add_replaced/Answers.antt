@@ -1,4 +1,4 @@
--- The arguments by their names stand for the parameters.
+-- The arguments by their names represent the parameters.
 use Rattle.std.proofs.Common.{◌≡◌, ◌++◌, ◌<◌, OnOk, IfErr, List, ℕ, Option, subst, length}
 use Rattle.text_rewriting.proofs.Common.{joined, replaced, Shortage}
 use Rattle.text_rewriting.specs.declared.gathered.Shortage.TheVariants as shortage

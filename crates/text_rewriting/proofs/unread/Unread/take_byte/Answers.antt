@@ -1,4 +1,4 @@
--- What is known of the end stays, where a byte is taken that stands before it.
+-- What is known of the end stays, if a byte is taken that precedes it.
 use Rattle.std.proofs.Common.{arith}
 use Rattle.text_rewriting.proofs.Marks.{none_next}
 use Rattle.text_rewriting.proofs.unread.Unread.take_byte.Goals as goal
