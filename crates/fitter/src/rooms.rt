@@ -98,11 +98,12 @@ pub fn cells_over_room<D: Device>(
     ensures told { AreOverfull D.table net.now result }
 {
     let mut space = Workspace::new(alloc)?;
+    let turned = turn_mask::<D>(net);
     let fit = SoundFit::<D> {
         over: Covering {
             net,
             flip: D::FLIP,
-            turned: turn_mask::<D>(net),
+            turned,
             vars: pair_count::<D>(),
         },
         device: PhantomData,

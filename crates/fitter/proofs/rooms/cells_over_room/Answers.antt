@@ -8,7 +8,7 @@ pub loop-cell-preserved : goal.loop-cell-preserved
 loop-cell-preserved g c =
     let t = g.D.Device.table in
     let net = c.args.net.now in
-    let mask = c.turn_mask.result in
+    let mask = c.turn_mask-turned.result in
     let cell = c.loop-cell.cell in
     let low : cell < length t.cells = omega (arith, c.loop-cell-test.true, c.CELLS-cell-end.ensures, g.met.D.Device.cells_is) in
     let has : HasCoversAs t mask net (cell_wanted net cell) c.taken-covers.result =

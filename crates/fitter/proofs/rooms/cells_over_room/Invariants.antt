@@ -9,5 +9,5 @@ invariant-loop-cell g l = record {
   long : length l.left.items ≡ length g.D.Device.table.cells;
   left : (d : ℕ) → l.cell ≤ d → get_or l.left.items d None ≡ get_or l.initial.left.items d None;
   over : All IsOver l.list.items;
-  told : TellsBelow g.D.Device.table l.fit.over.turned l.fit.over.net.now l.cell l.list.items;
+  told : TellsBelow g.D.Device.table l.turned l.net l.cell l.list.items;
 }
