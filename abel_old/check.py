@@ -6,7 +6,7 @@ import re
 import subprocess
 import tempfile
 
-from .report import Report
+from .text import Report
 
 ABEL = os.path.join(os.path.dirname(os.path.dirname(os.path.abspath(__file__))), 'abel')
 

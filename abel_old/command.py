@@ -1,58 +1,41 @@
 """The command line."""
 from __future__ import annotations
 
+import argparse
 import os
 import re
 import sys
-from dataclasses import dataclass, field
 
-from .head import defaults, modules
+from .head import defaults, devices, modules
 from .names import Names
-from .report import Report
 from .source import Source
+from .text import Report
 from .tokens import Stop, Token
 
-USAGE = """usage: abel-old [-d DEVICE] [-m MODULE] [-a NAME=TEXT].. [-diff | -check] IN
-       abel-old [-a NAME=TEXT].. -o FOLDER IN
-"""
+USAGE = """abel-old [-d DEVICE] [-m MODULE] [-a NAME=TEXT].. [-diff | -check] IN
+       abel-old [-a NAME=TEXT].. -o FOLDER IN"""
 START = Token('', '', '', 1)
 
 
-@dataclass
-class Options:
-    device: str | None = None
-    module: str | None = None
-    folder: str | None = None
-    arguments: list[tuple[str, str]] = field(default_factory=list)
-    mode: str = ''
-    path: str = ''
+def argument(text: str) -> tuple[str, str]:
+    name, sign, value = text.partition('=')
+    if not sign:
+        raise argparse.ArgumentTypeError('NAME=TEXT is needed')
+    return name, value
 
 
-def options(words: list[str]) -> Options | None:
-    """What the words ask for; nothing if they are no command."""
-    found, rest = Options(), list(words)
-    while rest and rest[0].startswith('-'):
-        word = rest.pop(0)
-        if word in ('-diff', '-check') and not found.mode:
-            found.mode = word
-            continue
-        if not rest:
-            return None
-        value = rest.pop(0)
-        if word == '-d':
-            found.device = value
-        elif word == '-m':
-            found.module = value
-        elif word == '-o':
-            found.folder = value
-        elif word == '-a' and '=' in value:
-            name, _, text = value.partition('=')
-            found.arguments.append((name, text))
-        else:
-            return None
-    if len(rest) != 1 or found.folder and (found.mode or found.device or found.module):
-        return None
-    found.path = rest[0]
+def options(words: list[str]) -> argparse.Namespace:
+    parser = argparse.ArgumentParser('abel-old', USAGE, add_help=False, allow_abbrev=False)
+    for letter, name in (('-d', 'device'), ('-m', 'module'), ('-o', 'folder')):
+        parser.add_argument(letter, dest=name)
+    parser.add_argument('-a', dest='arguments', action='append', default=[], type=argument)
+    modes = parser.add_mutually_exclusive_group()
+    modes.add_argument('-diff', action='store_true')
+    modes.add_argument('-check', action='store_true')
+    parser.add_argument('path', metavar='IN')
+    found = parser.parse_args(words)
+    if found.folder and (found.diff or found.check or found.device or found.module):
+        parser.error('with -o each device of each module is written')
     return found
 
 
@@ -76,32 +59,31 @@ def with_arguments(text: str, given: list[tuple[str, str]], say: Report) -> str:
     for name, value in given + rest:
         text, count = re.subn(r'\?%s(?![\w~])' % re.escape(name), lambda _: value, text)
         if (name, value) in rest:
-            say.note(START, "?%s isn't given: the source has a default, which -a %s=TEXT changes"
-                     % (name, name))
+            say.note(START, f"?{name} isn't given: the source has a default, which -a {name}=TEXT "
+                            'changes')
         elif count:
-            say.change(START, '?' + name, '%s, %d times' % (value, count))
+            say.change(START, '?' + name, f'{value}, {count} times')
     return text
 
 
-def everything(asked: Options, text: str, say: Report) -> int:
+def everything(folder: str, path: str, text: str, say: Report) -> int:
     """Writes each device of each module to a file of its own, which may not be there yet."""
     found: dict[str, tuple[str, Report]] = {}
-    whole = Names(text, asked.path, Report())
+    whole = Names(text, path, Report())
     for first, _ in modules(whole):
         name = whole.next(first).text
-        names: list[str | None] = [*Source(text, asked.path, Report(), name, True).devices]
+        names: list[str | None] = [*devices(Source(text, path, Report(), name, True))]
         for device in names or [None]:
             told = Report()
-            out = Source(text, asked.path, told, name, True).rewrite(device)
-            file = '%s_%s.abl' % (name, device) if len(names) > 1 else name + '.abl'
-            path = os.path.join(asked.folder or '', file)
-            if path in found:
-                raise Stop('%s would be written twice' % path)
-            found[path] = out, told
-    for path, (out, told) in found.items():
-        with open(path, 'xb') as opened:
+            out = Source(text, path, told, name, True).rewrite(device)
+            file = os.path.join(folder, (f'{name}_{device}' if names[1:] else name) + '.abl')
+            if file in found:
+                raise Stop(f'{file} would be written twice')
+            found[file] = out, told
+    for file, (out, told) in found.items():
+        with open(file, 'xb') as opened:
             opened.write(out.encode('latin-1'))
-        sys.stderr.write(path + '\n')
+        sys.stderr.write(file + '\n')
         told.show(sys.stderr)
     return max([say.level] + [told.level for _, told in found.values()])
 
@@ -113,36 +95,32 @@ def difference(path: str, old: str, new: str) -> str:
                    for x in lines)
 
 
-def run(asked: Options, say: Report) -> int:
+def run(asked: argparse.Namespace, say: Report) -> int:
     with open(asked.path, 'rb') as opened:
         old = decoded(opened.read(), say)
     text = with_arguments(old, asked.arguments, say)
     if asked.folder is not None:
-        return everything(asked, text, say)
+        return everything(asked.folder, asked.path, text, say)
     new = Source(text, asked.path, say, asked.module).rewrite(asked.device)
-    if asked.mode == '-check':
+    if asked.check:
         from .check import check    # needs what takes time to import, as -diff does
         check(asked.path, new, say)
     else:
-        shown = difference(asked.path, old, new) if asked.mode else new
+        shown = difference(asked.path, old, new) if asked.diff else new
         sys.stdout.buffer.write(shown.encode('latin-1'))
     return say.level
 
 
 def main(words: list[str]) -> int:
-    asked = options(words)
-    if asked is None:
-        sys.stderr.write(USAGE)
-        return 2
-    say = Report()
+    asked, say = options(words), Report()
+    fault = ''
     try:
         level = run(asked, say)
-    except (OSError, Stop) as fault:
-        say.show(sys.stderr)
-        sys.stderr.write('abel-old: %s\n' % fault)
-        return 2
+    except (OSError, Stop) as stopped:
+        level, fault = 2, f'abel-old: {stopped}\n'
     except RecursionError:
         sys.stderr.write('abel-old: too much in this source is nested\n')
         return 2
     say.show(sys.stderr)
+    sys.stderr.write(fault)
     return level

@@ -1,14 +1,11 @@
-"""Names of devices, and the pins of packages."""
+"""The device's name, and the pins of its package."""
 from __future__ import annotations
 
 import re
 
 from .names import Names
-from .tables import COUNTERPARTS, DEVICES, PLCC, UNCONNECTED
+from .tables import COUNTERPARTS, DEVICES, PLCC, REGISTERED, UNCONNECTED
 from .tokens import Token, numeral, squeeze
-
-REGISTERED = [('GAL16V8R4', range(14, 18)), ('GAL16V8R6', range(13, 19)),
-              ('GAL16V8R8', range(12, 20))]
 
 
 def fix_device(s: Names) -> None:
@@ -16,40 +13,35 @@ def fix_device(s: Names) -> None:
                   if x.kind == 'str'), None)
     if token is None:
         return
-    old = re.sub(r'[\s_/]', '', token.text.strip("'").upper())
-    name = old
-    if token.text.strip("'").upper() not in DEVICES:
-        name = counterpart(s, token, old)
-        if not name:
-            return
-    s.device = 'GAL22V10' if name == 'P22V10' else name
-    if s.device == 'GAL22V10':
+    given = token.text.strip("'").upper()
+    old = re.sub(r'[\s_/]', '', given)
+    s.device = old if given in DEVICES else counterpart(s, token, old)
+    if s.device in ('P22V10', 'GAL22V10'):
+        s.device = 'GAL22V10'
         package(s, token, old)
 
 
 def counterpart(s: Names, token: Token, old: str) -> str:
     """Writes the device's name here; nothing if there is none."""
-    found = re.match(r'([A-Z]*?)(\d\d[A-Z]{1,2}\d{1,2})(.*)$', old)
-    maker, core, tail = (found[1], found[2], found[3]) if found else ('', '', '')
-    name = note = ''
-    if core == '22V10':
-        name = 'P22V10' if maker == 'P' else 'GAL22V10'
-    elif core == '16V8':
+    part = re.match(r'([A-Z]*?)(\d\d[A-Z]{1,2}\d{1,2})(.*)$', old)
+    maker, core, tail = part.groups() if part else ('', '', '')
+    name = said = ''
+    if core == '16V8':
         name = mode(s, token, tail if maker == 'P' else '')
         if not name:
             return ''
-    for pattern, new, said in COUNTERPARTS:
-        part = re.fullmatch(pattern, core)
-        if part:
-            name, note = part.expand(new), said.replace('%s', token.text.strip("'"))
-            if name == 'GAL22V10':
-                pal24(s, token, core)
+    for pattern, new, why in COUNTERPARTS:
+        found = re.fullmatch(pattern, f'{maker} {core}')
+        if found and not name:
+            name, said = found.expand(new), why.replace('%s', token.text.strip("'"))
     if not name:
-        s.say.cant(token, 'device %s: no counterpart here (MANUAL.md, Old sources; DEVICES.md)'
-                   % token.text)
+        s.say.cant(token, f'device {token.text}: no counterpart here (MANUAL.md, Old sources; '
+                          'DEVICES.md)')
         return ''
-    token.out = "'%s'" % name
-    s.say.change(token, token.text, token.out + (': ' + note if note else ''))
+    if said and name == 'GAL22V10':
+        pal24(s, token, core)
+    token.out = f"'{name}'"
+    s.say.change(token, token.text, token.out + (': ' + said if said else ''))
     return name
 
 
@@ -57,46 +49,43 @@ def mode(s: Names, token: Token, tail: str) -> str:
     """The mode of a 16V8: by its letter, otherwise by the registers."""
     letter = re.match(r'[A-DZ]?([CRS])$', tail)
     pins = {s.signals[n].pin for n in s.registers if n in s.signals and not s.signals[n].node}
-    if pins and letter and letter[1] in 'CS':
-        s.say.cant(token, '%s has no registers, and the source has some' % token.text)
-        return ''
     if not pins:
         if letter and letter[1] == 'S':
             s.say.note(token, 'complex mode has seven product terms an output, simple mode eight')
         return 'GAL16V8C'
-    for name, room in REGISTERED:
-        if not pins <= {None, *room}:
-            continue
-        for n, signal in s.signals.items():
-            if signal.pin in room and n not in s.registers:
-                s.say.cant(signal.token, '%s: pin %d of a %s is always a register: move it '
-                           '(MANUAL.md, Old sources)' % (n, signal.pin or 0, name))
-        if not s.on(11):
-            s.say.note(token, 'pin 11 enables the registers while it is low')
-        return name
-    s.say.cant(token, 'registers on other pins than 12 to 19')
-    return ''
+    if letter and letter[1] in 'CS':
+        s.say.cant(token, f'{token.text} has no registers, and the source has some')
+        return ''
+    name = next((name for name, room in REGISTERED.items() if pins <= {None, *room}), '')
+    if not name:
+        s.say.cant(token, 'registers on other pins than 12 to 19')
+        return ''
+    for n, signal in s.signals.items():
+        if signal.pin in REGISTERED[name] and n not in s.registers:
+            s.say.cant(signal.token, f'{n}: pin {signal.pin or 0} of a {name} is always a '
+                                     'register: move it (MANUAL.md, Old sources)')
+    if not s.on(11):
+        s.say.note(token, 'pin 11 enables the registers while it is low')
+    return name
 
 
 def pal24(s: Names, token: Token, core: str) -> None:
     """A PAL20 on a GAL22V10: its registers invert, and pin 13 enables them."""
     registers = [n for n in s.signals if n in s.registers]
-    if not registers:
-        return
     bare = [n for n in registers if not s.signals[n].words & {'invert', 'buffer'}]
     if bare:
-        last = s.module.declarations[-1].end
-        last.after += " %s istype 'invert';" % ','.join(bare)
-        s.say.change(last, 'registers of a %s, whose pins are high after power-up' % core,
+        last = s.module.declarations[-1].last
+        last.after += f" {','.join(bare)} istype 'invert';"
+        s.say.change(last, f'registers of a {core}, whose pins are high after power-up',
                      "istype 'invert'")
-    names = ','.join(n for n in registers if n not in s.enabled)
-    enable = s.on(13)
+    free = [n for n in registers if n not in s.enabled]
+    names, enable = ','.join(free), s.on(13)
     if names and enable:
-        level = ('' if s.signals[enable].low else '!') + enable
-        s.equation('%s.OE = %s;' % ('[%s]' % names if ',' in names else names, level),
-                   s.signals[enable].declaration.end)
-        s.say.change(s.signals[enable].token, 'pin 13 enables the registers of a ' + core,
-                     '%s.OE = %s;' % (names, level))
+        value = f"{'' if s.signals[enable].low else '!'}{enable};"
+        s.equation(f'[{names}].OE = {value}' if free[1:] else f'{names}.OE = {value}',
+                   s.signals[enable].declaration.last)
+        s.say.change(s.signals[enable].token, f'pin 13 enables the registers of a {core}',
+                     f'{names}.OE = {value}')
     elif names:
         s.say.note(token, 'pin 13 enabled the registers while it was low; here they always drive')
 
@@ -105,19 +94,21 @@ def package(s: Names, token: Token, old: str) -> None:
     """Numbers of the 28-pin package become those of the 24-pin one."""
     pins = {signal.pin: n for n, signal in s.signals.items() if signal.pin and not signal.node}
     small = [p for p in pins if p in UNCONNECTED and not re.match(r'(?i)nc', pins[p])]
-    if any(24 < (p or 0) <= 28 for p in pins) and not small:
-        for d in s.module.declarations:
-            if d.kind != 'PIN' or not d.numbers:
-                continue
+    if small or not pins:
+        return
+    if not any(24 < (p or 0) <= 28 for p in pins):
+        if re.match(r'P22V10[A-Z]?[CIJ]$', old):
+            s.say.note(token, f'{token.text} may mean the 28-pin package: are pins '
+                       f"{', '.join(str(p) for p in sorted(filter(None, pins)))} those of the "
+                       '24-pin one?')
+        return
+    for d in s.module.declarations:
+        if d.kind == 'PIN' and d.numbers:
             was = squeeze(d.digits)
-            now = ','.join(numeral(PLCC.get(v or 0, 0), x) for v, x in d.numbers)
             s.blank(d.digits)
-            d.digits[0].out = now
-            s.say.change(d.digits[0], 'pin %s of the 28-pin package' % was, now)
+            d.digits[0].out = ','.join(numeral(PLCC.get(v or 0, 0), x) for v, x in d.numbers)
+            s.say.change(d.digits[0], f'pin {was} of the 28-pin package', d.digits[0].out)
             for (name, _), (pin, _) in zip(d.names, d.numbers):
                 s.signals[name].pin, s.signals[name].plcc = PLCC.get(pin or 0), pin
-        if s.module.vectors:
-            s.say.note(token, 'fuse files number the pins of the 24-pin package')
-    elif re.match(r'P22V10[A-Z]?[CIJ]$', old) and not small and pins:
-        s.say.note(token, '%s may mean the 28-pin package: are pins %s those of the 24-pin one?'
-                   % (token.text, ', '.join(str(p) for p in sorted(p for p in pins if p))))
+    if s.module.of('TEST_VECTORS'):
+        s.say.note(token, 'fuse files number the pins of the 24-pin package')

@@ -5,17 +5,17 @@ import re
 from functools import cached_property
 from typing import TYPE_CHECKING, Iterable
 
-from .edits import Text
-from .records import Assignment, Declaration, Inward, Macro, Signal
-from .report import Report
+from .records import Declaration, Macro, Signal, Statement
 from .tables import CONTROLS, INPUTS
+from .text import Report, Text
 from .tokens import Token, number, split, squeeze
 
 if TYPE_CHECKING:
-    from .sections import Module
+    from .module import Module
 
 DEEP = 20                     # constants through which a name is followed
 WIDE = 1000                   # names or numbers of a range
+RANGE = re.compile(r'(.*?)(\d{1,4})$')
 
 
 def span(first: int, last: int) -> list[int]:
@@ -26,6 +26,26 @@ def span(first: int, last: int) -> list[int]:
 
 def attributes(tokens: Iterable[Token]) -> set[str]:
     return {w for x in tokens if x.kind == 'str' for w in re.findall(r'\w+', x.text.lower())}
+
+
+def expand(tokens: list[Token]) -> list[tuple[str, Token]] | None:
+    """The names of a declaration or a set; None if there is something else."""
+    found: list[tuple[str, Token]] = []
+    i = 0
+    while i < len(tokens):
+        x = tokens[i]
+        if x.kind == 'id' and len(tokens) > i + 2 and tokens[i + 1].text == '..':
+            first, last = RANGE.match(x.text), RANGE.match(tokens[i + 2].text)
+            if not first or not last:
+                return None
+            found += [(first[1] + str(n), x) for n in span(int(first[2]), int(last[2]))]
+            i += 2
+        elif x.kind == 'id':
+            found.append((x.text, x))
+        elif x.text not in (',', '!'):
+            return None
+        i += 1
+    return found
 
 
 class Names(Text):
@@ -41,34 +61,14 @@ class Names(Text):
         self.renamed: set[str] = set()
         self.held: set[str] = set()          # as their complements
         self.device = ''
-        self.assignments: list[Assignment] = []
-
-    def expand(self, tokens: list[Token]) -> list[tuple[str, Token]] | None:
-        """The names of a declaration or a set; None if there is something else."""
-        found: list[tuple[str, Token]] = []
-        i = 0
-        while i < len(tokens):
-            x = tokens[i]
-            if x.kind == 'id' and len(tokens) > i + 2 and tokens[i + 1].text == '..':
-                first = re.match(r'(.*?)(\d{1,4})$', x.text)
-                last = re.match(r'(.*?)(\d{1,4})$', tokens[i + 2].text)
-                if not first or not last:
-                    return None
-                found += [(first[1] + str(n), x) for n in span(int(first[2]), int(last[2]))]
-                i += 2
-            elif x.kind == 'id':
-                found.append((x.text, x))
-            elif x.text not in (',', '!'):
-                return None
-            i += 1
-        return found
+        self.assignments: list[Statement] = []
 
     def members(self, tokens: list[Token], deep: int = 0) -> list[str] | None:
         """The signals of a target, in their order; None if it isn't just names."""
         tokens = [x for x in tokens if x.text not in ('!', '(', ')')]
         if tokens and tokens[0].text == '[' and tokens[-1].text == ']':
             tokens = [x for x in tokens if x.text not in ('[', ']')]
-        names = self.expand(tokens)
+        names = expand(tokens)
         if names is None or deep > DEEP:
             return None
         found: list[str] = []
@@ -82,7 +82,7 @@ class Names(Text):
                 found.append(name)
         return found
 
-    def targets(self, assignment: Assignment) -> list[str]:
+    def targets(self, assignment: Statement) -> list[str]:
         return self.members(assignment.named) or []
 
     def reads(self, tokens: list[Token], seen: frozenset[str] = frozenset()) -> set[str]:
@@ -92,7 +92,7 @@ class Names(Text):
             if x.kind != 'id':
                 continue
             wide = i + 2 < len(tokens) and tokens[i + 1].text == '..'
-            for name, _ in (self.expand(tokens[i:i + 3]) or []) if wide else [(x.text, x)]:
+            for name, _ in (expand(tokens[i:i + 3]) or []) if wide else [(x.text, x)]:
                 if name in self.signals:
                     found.add(name)
                 elif name in self.constants and name not in seen and len(seen) < DEEP:
@@ -102,23 +102,17 @@ class Names(Text):
     def value(self, tokens: list[Token], deep: int = 0) -> int | None:
         """The value of a number, a constant or a set of these."""
         tokens = [x for x in tokens if x.text not in ('(', ')')]
-        if len(tokens) == 1 and tokens[0].kind == 'num':
-            return number(tokens[0])
         if len(tokens) == 1 and tokens[0].text in self.constants and deep < DEEP:
             return self.value(self.constants[tokens[0].text], deep + 1)
-        if not tokens or tokens[0].text != '[':
+        if len(tokens) == 1:
+            return number(tokens[0]) if tokens[0].kind == 'num' else None
+        bits = [self.value([x], deep + 1) for x in tokens[1:-1] if x.text != ',']
+        if not tokens or tokens[0].text != '[' or None in bits:
             return None
-        total = 0
-        for x in tokens[1:-1]:
-            bit = 0 if x.text == ',' else self.value([x], deep + 1)
-            if bit is None:
-                return None
-            total = total if x.text == ',' else 2 * total + bit
-        return total
+        return sum((bit or 0) << k for k, bit in enumerate(reversed(bits)))
 
     def declare(self, d: Declaration) -> None:
-        d.names = self.expand(d.tokens[:d.at]) or []
-        d.tail = d.tokens[d.at:]
+        d.names, d.tail = expand(d.tokens[:d.at]) or [], d.tokens[d.at:]
         if d.kind in ('PIN', 'NODE'):
             self.declare_signals(d)
         elif d.kind == 'ISTYPE':
@@ -126,7 +120,7 @@ class Names(Text):
                 if name in self.signals:
                     self.signals[name].words |= attributes(d.tail)
         elif d.kind == '=':
-            d.values = split(d.tail[1:])
+            d.values = [value for value in split(d.tail[1:]) if value]
             for (name, _), value in zip(d.names, d.values):
                 self.constants[name] = value
                 if len(value) == 1 and value[0].kind == 'spec':
@@ -140,8 +134,7 @@ class Names(Text):
     def declare_signals(self, d: Declaration) -> None:
         rest = d.tail[1:]
         if len(rest) > 1 and rest[0].word == 'IN' and 'IN' not in self.renamed:
-            d.inward = Inward(rest[0], rest[1])
-            rest = rest[2:]
+            d.owner, rest = rest[:2], rest[2:]
         end = next((k for k, x in enumerate(rest) if x.kind not in ('num', 'dir')
                     and x.text not in (',', '..')), len(rest))
         d.digits, d.tail, i = rest[:end], rest[end:], 0
@@ -154,69 +147,64 @@ class Names(Text):
             elif x.text != ',':
                 d.numbers.append((first, x))
             i += 1
-        words = attributes(d.tail)
-        for i, (name, x) in enumerate(d.names):
-            pin = d.numbers[i][0] if i < len(d.numbers) else None
+        pins = [n for n, _ in d.numbers] + [None] * len(d.names)
+        for pin, (name, x) in zip(pins, d.names):
             low = x.at > 0 and self.t[x.at - 1].text == '!'
             self.signals.setdefault(name, Signal(pin, d.kind == 'NODE', set(), d, x, low))
-            self.signals[name].words |= words
+            self.signals[name].words |= attributes(d.tail)
 
-    def used(self, name: str) -> list[Token]:
+    def before(self, extension: Token) -> list[Token]:
+        """What an extension stands behind: a name or a set."""
+        first = last = max(0, extension.at - 1)
+        while self.t[last].text == ']' and first and self.t[first].text != '[':
+            first -= 1
+        return self.t[first:extension.at]
+
+    def on(self, pin: int) -> str | None:
+        return next((n for n, s in self.signals.items() if s.pin == pin and not s.node), None)
+
+    def inverts(self, names: Iterable[str]) -> set[bool]:
+        return {'invert' in self.signals[n].words for n in names if n in self.signals}
+
+    def extended(self, *extensions: str) -> list[Statement]:
+        return [a for a in self.assignments if a.extension in extensions]
+
+    @cached_property
+    def enabled(self) -> set[str]:
+        return {n for a in self.assignments if a.enables or a.extension == '.OE'
+                for n in self.targets(a)}
+
+    @cached_property
+    def data(self) -> list[Statement]:
+        return [a for a in self.assignments if not a.enables and a.extension not in CONTROLS]
+
+    @cached_property
+    def registers(self) -> set[str]:
+        found = {n for n, s in self.signals.items()
+                 if any(w.startswith('reg') or w == 'latch' for w in s.words)}
+        for a in self.data:
+            if a.sign.text in (':=', '?:=') or a.extension in INPUTS | {'.D'}:
+                found |= set(self.targets(a))
+            found |= {x.text for x, y in zip(a.left, a.left[1:]) if y.word in INPUTS}
+        for table in self.module.of('TRUTH_TABLE'):
+            found |= set(self.members(table.right) or [] if table.sign == ':>' else [])
+        for diagram in self.module.of('STATE_DIAGRAM'):
+            found |= set(self.members(diagram.left) or [])
+        return {n for n in found if n not in self.signals or 'com' not in self.signals[n].words}
+
+    @cached_property
+    def combinational(self) -> set[str]:
+        """The names that are assigned, and no registers."""
+        found = {n for a in self.data for n in self.targets(a)}
+        found |= {n for t in self.module.of('TRUTH_TABLE') for n in self.members(t.right) or []}
+        return found - self.registers
+
+    def uses(self, name: str) -> list[Token]:
         """Tokens that name it outside of declarations of pins, nodes and attributes."""
         declared = {x.at for d in self.module.declarations if d.kind in ('PIN', 'NODE', 'ISTYPE')
                     for x in d.tokens}
         return [x for x in self.t if x.text == name and x.kind == 'id' and x.out
                 and x.at not in declared]
-
-    def before(self, extension: Token) -> list[Token]:
-        """What an extension stands behind: a name or a set."""
-        last = self.t[max(0, extension.at - 1)]
-        return self.t[self.open_before(last) if last.text == ']' else last.at:extension.at]
-
-    def on(self, pin: int) -> str | None:
-        return next((n for n, s in self.signals.items() if s.pin == pin and not s.node), None)
-
-    def inverts(self, names: Iterable[str]) -> list[bool]:
-        return ['invert' in self.signals[n].words for n in names if n in self.signals]
-
-    def extended(self, *extensions: str) -> list[Assignment]:
-        return [a for a in self.assignments if a.extension in extensions]
-
-    @cached_property
-    def enabled(self) -> set[str]:
-        return {n for a in self.assignments if a.enable or a.extension == '.OE'
-                for n in self.targets(a)}
-
-    @cached_property
-    def assigned(self) -> tuple[set[str], set[str]]:
-        """The names that are assigned, and those of them that are registers."""
-        some: set[str] = set()
-        registers: set[str] = set()
-        for a in self.assignments:
-            if a.enable or a.extension in CONTROLS:
-                continue
-            names = set(self.targets(a))
-            some |= names
-            if a.sign.text in (':=', '?:=') or a.extension in INPUTS | {'.D'}:
-                registers |= names
-            for x, after in zip(a.target, a.target[1:]):
-                if after.word in INPUTS:
-                    registers.add(x.text)
-        for table in self.module.tables:
-            some |= set(self.members(table.right) or [])
-            registers |= set(self.members(table.right) or []) if table.clocked else set()
-        for diagram in self.module.diagrams:
-            registers |= set(self.members(diagram.registers) or [])
-        for name, signal in self.signals.items():
-            if any(w.startswith('reg') or w == 'latch' for w in signal.words):
-                registers.add(name)
-        some |= registers
-        return some, {n for n in registers
-                      if n not in self.signals or 'com' not in self.signals[n].words}
-
-    @property
-    def registers(self) -> set[str]:
-        return self.assigned[1]
 
     def equation(self, text: str, after: Token) -> None:
         """Adds an equation to the first section of equations behind this token."""
@@ -226,10 +214,10 @@ class Names(Text):
                 x.after += ' ' + text
                 return
         x = (sections + [self.module.end])[0]
-        x.before = 'equations ' + text + ' ' + x.before
+        x.before = f'equations {text} {x.before}'
 
-    def label(self, a: Assignment) -> str:
-        return squeeze(a.target + [a.sign] + a.value)
+    def label(self, a: Statement) -> str:
+        return squeeze([*a.left, a.sign, *a.right])
 
-    def statement(self, a: Assignment) -> list[Token]:
-        return self.between(a.first, a.end)
+    def statement(self, a: Statement) -> list[Token]:
+        return self.between(a.first, a.last)

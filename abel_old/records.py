@@ -1,4 +1,4 @@
-"""What is found in a source: declarations, assignments, tables, diagrams.
+"""What is found in a source: statements, declarations, and parts with statements in them.
 
 Each is equal to itself alone, so that lists of thousands are searched at once.
 """
@@ -10,25 +10,70 @@ from .tokens import Token
 
 
 @dataclass(eq=False)
-class Inward:
-    """`IN device`, by which a part belongs to one of several devices."""
-    word: Token
-    device: Token
+class Statement:
+    """`left sign right`: an assignment, a row of a table, or a reset of a diagram.
+
+    It is `under` a condition or not; `where` is equations, state or with.
+    """
+    first: Token
+    left: list[Token]
+    sign: Token
+    right: list[Token]
+    last: Token
+    under: bool = False
+    where: str = ''
+
+    @property
+    def enables(self) -> bool:
+        return self.first is not self.left[0]
+
+    @property
+    def extension(self) -> str:
+        return self.left[-1].word if self.left[-1].kind == 'ext' else ''
+
+    @property
+    def named(self) -> list[Token]:
+        """The target without its extension."""
+        return self.left[:-1] if self.extension else self.left
 
 
 @dataclass(eq=False)
-class Declaration:
-    """The keyword, of this kind, is `tokens[at]`; `names` stand before it."""
-    tokens: list[Token]
-    end: Token
-    kind: str = ''
+class State:
+    """`colon` is the last token of its header; `transitions` are their first tokens."""
+    value: list[Token]
+    colon: Token
+    transitions: list[Token] = field(default_factory=list)
+
+
+@dataclass(eq=False)
+class Part:
+    """A section or a declaration; `owner` is `IN device`, if it is that of one of several.
+
+    `left sign right` is the header of a table, which is `double` if it has :> and -> both; `left`
+    are the registers of a diagram, and its `rows` are resets.
+    """
+    kind: str
+    first: Token
+    last: Token
+    owner: list[Token] = field(default_factory=list)
+    left: list[Token] = field(default_factory=list)
+    right: list[Token] = field(default_factory=list)
+    sign: str = ''
+    double: bool = False
+    rows: list[Statement] = field(default_factory=list)
+    states: list[State] = field(default_factory=list)
+
+
+@dataclass(eq=False)
+class Declaration(Part):
+    """The keyword, of its kind, is `tokens[at]`; `names` stand before it."""
+    tokens: list[Token] = field(default_factory=list)
     at: int = 0
     names: list[tuple[str, Token]] = field(default_factory=list)
     digits: list[Token] = field(default_factory=list)
     numbers: list[tuple[int | None, Token]] = field(default_factory=list)
     tail: list[Token] = field(default_factory=list)
     values: list[list[Token]] = field(default_factory=list)
-    inward: Inward | None = None
 
 
 @dataclass(eq=False)
@@ -44,88 +89,10 @@ class Signal:
 
 
 @dataclass(eq=False)
-class Assignment:
-    """`under` a condition or not; `where` is equations, state or with."""
-    target: list[Token]
-    sign: Token
-    value: list[Token]
-    end: Token
-    under: bool
-    where: str
-    enable: Token | None = None
-
-    @property
-    def first(self) -> Token:
-        return self.enable or self.target[0]
-
-    @property
-    def extension(self) -> str:
-        return self.target[-1].word if self.target[-1].kind == 'ext' else ''
-
-    @property
-    def named(self) -> list[Token]:
-        """The target without its extension."""
-        return self.target[:-1] if self.extension else self.target
-
-
-@dataclass(eq=False)
-class Part:
-    """A section, or another part that belongs to one device."""
-    kind: str
-    first: Token
-    last: Token
-    inward: Inward | None = None
-
-
-@dataclass(eq=False)
-class Row:
-    left: list[Token]
-    arrow: Token
-    right: list[Token]
-    first: Token
-    last: Token
-
-
-@dataclass(eq=False)
-class Table(Part):
-    """A truth table, or test vectors; `double` if it has :> and -> both."""
-    left: list[Token] = field(default_factory=list)
-    right: list[Token] = field(default_factory=list)
-    clocked: bool = False
-    double: bool = False
-    rows: list[Row] = field(default_factory=list)
-
-
-@dataclass(eq=False)
-class State:
-    """`colon` is the last token of its header; `transitions` are their first tokens."""
-    value: list[Token]
-    colon: Token
-    transitions: list[Token] = field(default_factory=list)
-
-
-@dataclass(eq=False)
-class Reset:
-    kind: str
-    state: list[Token]
-    value: list[Token]
-    first: Token
-    last: Token
-
-
-@dataclass(eq=False)
-class Diagram(Part):
-    registers: list[Token] = field(default_factory=list)
-    states: list[State] = field(default_factory=list)
-    resets: list[Reset] = field(default_factory=list)
-
-
-@dataclass(eq=False)
 class Macro:
     """Its body is the flat list of what is between its braces."""
-    name: str
+    name: Token
     parameters: list[str]
-    body: list[Token]
-    token: Token
     last: Token
+    body: list[Token] = field(default_factory=list)
     calls: list[Token] = field(default_factory=list)

@@ -1,13 +1,11 @@
 """T, JK and SR registers: their equations in place where that is exact, by nodes where not."""
 from __future__ import annotations
 
-from .controls import single
+from .equations import single
 from .names import Names
-from .records import Assignment
-from .tables import INPUTS
+from .records import Statement
+from .tables import INPUTS, JOINED, PARTNERS
 from .tokens import Token, squeeze
-
-PARTNERS = {'.J': '.K', '.S': '.R'}
 
 
 class Registers:
@@ -15,148 +13,131 @@ class Registers:
 
     def __init__(self, s: Names) -> None:
         self.s = s
-        self.inputs = [(a, self.names(a)) for a in s.extended(*INPUTS)]
-        self.uses: dict[str, list[Assignment]] = {}
+        self.inputs = [(a, s.members(a.named) or [squeeze(self.bare(a))])
+                       for a in s.extended(*INPUTS)]
+        self.uses: dict[str, list[Statement]] = {}
         for a, names in self.inputs:
             for name in names:
                 self.uses.setdefault(name, []).append(a)
-        self.nodes: dict[tuple[str, str], str] = {}
-        self.members: list[tuple[Token, list[str], list[Token]]] = []
-        self.noded: set[str] = set()
+        self.nodes: dict[str, dict[str, str]] = {}
+        self.noded = {name for name, uses in self.uses.items() if self.needs_nodes(uses)}
 
-    def names(self, a: Assignment) -> list[str]:
-        return self.s.members(a.named) or [squeeze(self.bare(a))]
-
-    def bare(self, a: Assignment) -> list[Token]:
+    def bare(self, a: Statement) -> list[Token]:
         return [x for x in a.named if x.text != '!']
 
     def run(self) -> None:
-        self.find_members()
-        self.noded |= {name for name, uses in self.uses.items() if self.needs_nodes(uses)}
-        more = True
-        while more:
-            more = False
+        members = self.find_members()
+        size = -1
+        while size < len(self.noded):
+            size = len(self.noded)
             for _, names in self.inputs:
-                if self.noded & set(names) and not self.noded.issuperset(names):
+                if self.noded & set(names):
                     self.noded.update(names)
-                    more = True
         for a, names in self.inputs:
             if self.noded & set(names):
                 self.by_node(a, names)
             else:
                 self.in_place(a, names)
-        for x, names, before in self.members:
-            if not x.untouched:
-                continue
-            was = squeeze(before + [x])
-            self.write_nodes(before, names, x)
-            self.s.say.change(x, was, before[0].out)
-        for name in dict.fromkeys(name for name, _ in self.nodes):
+        for x, names, before in members:
+            if x.untouched:
+                was = squeeze(before + [x])
+                self.write_nodes(before, names, x)
+                self.s.say.change(x, was, before[0].out)
+        for name in self.nodes:
             self.declare(name)
 
-    def find_members(self) -> None:
+    def find_members(self) -> list[tuple[Token, list[str], list[Token]]]:
         """Inputs that aren't targets, as in [q.J,q.K] or in a constant."""
-        targets = {a.target[-1].at for a, _ in self.inputs}
+        targets = {a.left[-1].at for a, _ in self.inputs}
+        found: list[tuple[Token, list[str], list[Token]]] = []
         for x in self.s.t:
             if x.kind == 'ext' and x.word in INPUTS and x.at not in targets and x.untouched:
                 before = self.s.before(x)
                 names = self.s.members(before)
-                if not names:
-                    self.s.say.cant(x, '%s%s: which register?' % (squeeze(before[-1:]), x.text))
-                    continue
-                self.members.append((x, names, before))
-                self.noded |= set(names)
+                if names:
+                    found.append((x, names, before))
+                    self.noded |= set(names)
+                else:
+                    self.s.say.cant(x, f'{squeeze(before[-1:])}{x.text}: which register?')
+        return found
 
-    def needs_nodes(self, uses: list[Assignment]) -> bool:
+    def needs_nodes(self, uses: list[Statement]) -> bool:
         """K, R and T may be given once and under no condition, J and S so without a partner.
 
         An equation of the complement may be given once, and under no condition.
         """
         extensions = [a.extension for a in uses]
-        negative = [a.extension for a in uses if a.target[0].text == '!']
+        negative = [a.extension for a in uses if a.left[0].text == '!']
         for a in uses:
-            within = a.under or a.where != 'equations'
-            alone = a.extension in PARTNERS and PARTNERS[a.extension] not in extensions
-            if a.extension in ('.T', '.K', '.R') and (within or extensions.count(a.extension) > 1):
-                return True
-            if alone and within or '?' in a.sign.text or negative.count(a.extension) > 1:
-                return True
-            if within and a.target[0].text == '!':
+            once, within = a.extension not in ('.J', '.S'), a.under or a.where != 'equations'
+            alone = not once and PARTNERS[a.extension] not in extensions
+            if once and (within or extensions.count(a.extension) > 1) or alone and within \
+                    or '?' in a.sign.text or negative.count(a.extension) > 1 \
+                    or within and a.left[0].text == '!':
                 return True
         return False
 
-    def node(self, name: str, extension: str) -> str:
-        key = (name, extension)
-        if key not in self.nodes:
-            self.nodes[key] = self.s.free(name, '_' + extension[1:])
-        return self.nodes[key]
-
     def write_nodes(self, tokens: list[Token], names: list[str], extension: Token) -> None:
         self.s.blank(tokens)
-        new = ','.join(self.node(n, extension.word) for n in names)
-        tokens[0].out = new if len(names) == 1 else '[' + new + ']'
+        new = []
+        for name in names:
+            mine = self.nodes.setdefault(name, {})
+            if extension.word not in mine:
+                mine[extension.word] = self.s.free(name, '_' + extension.word[1:])
+            new.append(mine[extension.word])
+        tokens[0].out = f"[{','.join(new)}]" if new[1:] else new[0]
         extension.out = ''
 
-    def by_node(self, a: Assignment, names: list[str]) -> None:
+    def by_node(self, a: Statement, names: list[str]) -> None:
         was = squeeze(self.s.statement(a))
         if any('?' in n for n in names):
-            return self.s.say.cant(a.first, was + ': write the equation of the register '
-                                                  '(MANUAL.md, Old sources)')
-        if self.bare(a):
-            self.write_nodes(self.bare(a), names, a.target[-1])
+            self.s.say.cant(a.first, was + ': write the equation of the register (MANUAL.md, Old '
+                                           'sources)')
+        elif self.bare(a):
+            self.write_nodes(self.bare(a), names, a.left[-1])
             a.sign.out = a.sign.text.replace(':', '')
             self.s.told(self.s.statement(a), was)
 
-    def in_place(self, a: Assignment, names: list[str]) -> None:
-        was, extension = squeeze(self.s.statement(a)), a.extension
+    def in_place(self, a: Statement, names: list[str]) -> None:
+        was, extension, one = squeeze(self.s.statement(a)), a.extension, single(self.s, a)
         partner = PARTNERS.get(extension)
         has = {any(b.extension == partner for b in self.uses[n]) for n in names}
         if partner and len(has) > 1:
-            return self.s.say.cant(a.first, was + ': some of these registers have %s and some not'
-                                   % partner)
-        held = squeeze(self.bare(a))
-        a.target[-1].out = ''
-        if extension != '.T' and any(self.s.inverts(names)):
-            held += '.Q'
-            a.target[-1].out = '.D'
+            return self.s.say.cant(a.first, f'{was}: some of these registers have {partner} and '
+                                            'some not')
+        of_q = extension != '.T' and any(self.s.inverts(names))
+        held = squeeze(self.bare(a)) + ('.Q' if of_q else '')
+        a.left[-1].out = '.D' if of_q else ''
         a.sign.out = '?:=' if '?' in a.sign.text else ':='
-        negative = a.target[0].text == '!'
-        if negative:
-            a.target[0].out = ''
-        no = '!' if negative != (extension in ('.K', '.R')) else ''
-        joined = {'.T': ' $ ', '.K': ' & ', '.R': ' & '}.get(extension, ' # ')
-        if True not in has or not partner:
-            self.wrap(a, no, joined + held)
-        elif extension == '.J':
-            self.wrap(a, no, ' & !' + held)
-        elif no:
-            self.wrap(a, no, '')
+        no = '!' if (a.left[0].text == '!') != (extension in ('.K', '.R')) else ''
+        if a.left[0].text == '!':
+            a.left[0].out = ''
+        right = JOINED.get(extension, ' # ') + held
+        if partner and True in has:
+            right = ' & !' + held if extension == '.J' else ''
+        if no or right:
+            a.right[0].before = no + ('' if one else '(') + a.right[0].before
+            a.right[-1].after += ('' if one else ')') + right
         self.s.told(self.s.statement(a), was)
-
-    def wrap(self, a: Assignment, left: str, right: str) -> None:
-        one = single(self.s, a)
-        a.value[0].before = left + ('' if one else '(') + a.value[0].before
-        a.value[-1].after += ('' if one else ')') + right
 
     def declare(self, name: str) -> None:
         """Declares the nodes of a register, and writes its equation."""
         s = self.s
         if name not in s.signals:
-            return s.say.cant(s.t[0], '%s: not declared' % name)
+            return s.say.cant(s.t[0], f'{name}: not declared')
         signal = s.signals[name]
-        mine = {e: self.nodes[name, e] for e in ('.T', '.J', '.K', '.S', '.R')
-                if (name, e) in self.nodes}
-        signal.declaration.end.after += ' %s node;' % ','.join(mine.values())
+        mine = {e: self.nodes[name][e] for e in ('.T', '.J', '.K', '.S', '.R')
+                if e in self.nodes[name]}
+        signal.declaration.last.after += f" {','.join(mine.values())} node;"
         inverts = 'invert' in signal.words and '.T' not in mine
         q, d = (name + '.Q', name + '.D') if inverts else (name, name)
         on, off = mine.get('.J') or mine.get('.S'), mine.get('.K') or mine.get('.R')
-        kept = '!%s & %s' % (off, q) if off else q
-        value = '%s # %s' % (on, kept) if on else kept
+        kept = f'!{off} & {q}' if off else q
+        value = f'{on} # {kept}' if on else kept
         if '.T' in mine:
-            value = '%s $ %s' % (mine['.T'], q)
+            value = f"{mine['.T']} $ {q}"
         elif on and off and '.J' in mine:
-            value = '%s & !%s # %s' % (on, q, kept)
-        equation = '%s := %s;' % (d, value)
-        s.equation(equation, signal.declaration.end)
-        s.say.change(signal.token, '%s, a register with %s' % (name, ' '.join(mine)),
-                     equation + ' with nodes')
+            value = f'{on} & !{q} # {kept}'
+        s.equation(f'{d} := {value};', signal.declaration.last)
+        s.say.change(signal.token, f"{name}, a register with {' '.join(mine)}",
+                     f'{d} := {value}; with nodes')

@@ -1,25 +1,20 @@
 """A source, and the order of its rewritings."""
 from __future__ import annotations
 
-from .calls import fix_asking
-from .cursor import statements
+from .declarations import fix_attributes, fix_parts, fix_pins
 from .devices import fix_device
+from .directives import Walk
 from .equations import fix_enables, fix_extensions
-from .head import fix_head, fix_reserved_names, one_module
-from .look import look
+from .head import fix_devices, fix_head, fix_reserved_names, one_module
+from .macros import fix_asking, fix_operators
+from .module import Module
 from .names import Names
-from .operators import fix_operators
-from .parts import devices, fix_devices
-from .pins import fix_parts, fix_pins
-from .records import Assignment
+from .refusals import look
 from .registers import Registers
-from .report import Report
-from .sections import Module
 from .states import States
+from .text import Report
 from .tokens import SIGNS, Token
 from .vectors import fix_vectors
-from .walk import Walk
-from .words import fix_attributes
 
 
 class Source(Names):
@@ -36,24 +31,18 @@ class Source(Names):
         self.macros = self.walk.macros
         flat: list[Token] = []
         self.walk.run(first.at, behind, flat)
-        self.module = Module(self, flat, self.end_at(behind))
-        self.assignments = self.module.assignments + self.in_macros()
-        self.devices = devices(self)
-
-    def end_at(self, behind: Token) -> Token:
         end = Token('eof', '', '', behind.line, behind.file)
         end.at = behind.at
-        return end
-
-    def in_macros(self) -> list[Assignment]:
-        found: list[Assignment] = []
+        self.module = Module(self, flat, end)
+        self.module.read()
+        self.assignments = [*self.module.assignments]
         for macro in self.walk.all:
             if any(x.text == ';' or x.text in SIGNS for x in macro.body):
+                inside = Module(self, macro.body, self.t[-1])
                 conditions = any(x.word == 'WHEN' for x in macro.body)
-                for a in statements(self, macro.body, self.t[-1]):
-                    a.under = a.under and conditions
-                    found.append(a)
-        return found
+                for _ in inside.turns(''):
+                    inside.statement(conditions)
+                self.assignments += inside.assignments
 
     def rewrite(self, device: str | None = None) -> str:
         fix_head(self)

@@ -1,9 +1,8 @@
 """Symbolic states, and the resets of diagrams."""
 from __future__ import annotations
 
-from .edits import LONGEST
 from .names import Names
-from .records import Declaration, Diagram, Reset
+from .records import Declaration, Part, Statement
 from .tokens import numeral, squeeze, written
 
 
@@ -14,7 +13,6 @@ class States:
         self.s = s
         self.codes: dict[str, int] = {}
         self.bits: dict[str, int] = {}
-        self.lowest: dict[str, str] = {}
 
     def run(self) -> None:
         declarations = self.s.module.declarations
@@ -22,72 +20,59 @@ class States:
         states = [d for d in declarations if d.kind == 'STATE']
         names = [name for d in states for name, _ in d.names]
         for d in registers:
-            if len(d.names) != 1:
-                self.s.say.cant(d.tokens[0], '%s: declare one STATE_REGISTER at a time'
-                                % squeeze(d.tokens[:d.at]))
-            else:
+            if len(d.names) == 1:
                 self.register(d, names, len(registers) == 1)
+            else:
+                self.s.say.cant(d.first, f'{squeeze(d.tokens[:d.at])}: declare one STATE_REGISTER '
+                                         'at a time')
         for d in states:
-            self.state_names(d)
-        for diagram in self.s.module.diagrams:
+            self.constants(d)
+        for diagram in self.s.module.of('STATE_DIAGRAM'):
             self.resets(diagram)
 
     def register(self, d: Declaration, names: list[str], alone: bool) -> None:
         """The registers of a symbolic one, and the codes of its states, 0 for the first."""
         s, (name, token) = self.s, d.names[0]
-        diagrams = [x for x in s.module.diagrams if [y.text for y in x.registers[:1]] == [name]]
+        diagrams = [x for x in s.module.of('STATE_DIAGRAM')
+                    if [y.text for y in x.left[:1]] == [name]]
         listed = {y.value[0].text for x in diagrams for y in x.states if y.value}
         mine = [n for n in names if alone or n in listed]
-        starts = [r.state[0].text for x in diagrams for r in x.resets
-                  if r.kind == 'ASYNC_RESET' and r.state] + mine[:1]
-        order = sorted(mine, key=lambda n: n != starts[0])
+        starts = [r.left[0].text for x in diagrams for r in x.rows
+                  if r.first.word == 'ASYNC_RESET' and r.left] + mine[:1]
         bits = self.bits[name] = max(1, (len(mine) - 1).bit_length())
         down = 'invert' in s.signals[name].words or s.device not in ('', 'GAL22V10')
-        for k, n in enumerate(order):
+        for k, n in enumerate(sorted(mine, key=lambda n: n != starts[0])):
             self.codes[n] = 2 ** bits - 1 - k if down else k
-        stem = self.stem(name, bits)
-        self.lowest[name] = stem + '0'
-        token.out = stem + '0' if bits == 1 else '%s%d..%s0' % (stem, bits - 1, stem)
+        stem = s.free(name[:28], '_', [str(k) for k in range(bits)])
+        token.out = f'{stem}0' if bits == 1 else f'{stem}{bits - 1}..{stem}0'
         key = d.tokens[d.at]
         key.out = 'pin'
         if not any(x.word == 'ISTYPE' for x in d.tokens):
-            key.after += " istype '%s'" % ('reg,buffer' if s.device == 'GAL22V10' else 'reg')
-        d.end.after += ' %s = [%s];' % (name, token.out)
-        s.say.change(token, squeeze(d.tokens), '%d registers, on pins that are free (see list)'
-                     % bits)
+            key.after += " istype 'reg,buffer'" if s.device == 'GAL22V10' else " istype 'reg'"
+        d.last.after += f' {name} = [{token.out}];'
+        s.say.change(token, squeeze(d.tokens), f'{bits} registers, on pins that are free (see list)')
 
-    def stem(self, name: str, bits: int) -> str:
-        """What the new names begin with, of which each ends in a number."""
-        used = self.s.used_names()
-        stem = name[:LONGEST - 3] + '_'
-        while any('%s%d' % (stem, k) in used for k in range(bits)):
-            stem = stem[:LONGEST - 3].rstrip('_') + '_' * (len(stem) - len(stem.rstrip('_')) + 1)
-        used |= {'%s%d' % (stem, k) for k in range(bits)}
-        return stem
-
-    def state_names(self, d: Declaration) -> None:
+    def constants(self, d: Declaration) -> None:
+        """The names of states, as constants."""
         s, key = self.s, d.tokens[d.at]
-        names = [name for name, _ in d.names]
-        missing = [name for name in names if name not in self.codes]
+        codes = {name: self.codes.get(name) for name, _ in d.names}
+        missing = ', '.join(name for name, _ in d.names if codes[name] is None)
         if len(d.tail) > 1:
-            s.say.cant(d.tokens[0], '%s: write constants' % squeeze(d.tokens))
+            s.say.cant(d.first, f'{squeeze(d.tokens)}: write constants')
         elif missing:
-            s.say.cant(d.tokens[0], 'state %s: of which register?' % ', '.join(missing))
+            s.say.cant(d.first, f'state {missing}: of which register?')
         else:
-            key.out = '= ' + ','.join(numeral(self.codes[n], key) for n in names)
-            s.say.change(d.tokens[0], squeeze(d.tokens), 'constants: ' + ', '.join(
-                '%s = %d' % (n, self.codes[n]) for n in names))
+            key.out = '= ' + ','.join(numeral(self.codes[name], key) for name, _ in d.names)
+            s.say.change(d.first, squeeze(d.tokens), 'constants: ' + ', '.join(
+                f'{name} = {codes[name]}' for name, _ in d.names))
 
-    def resets(self, diagram: Diagram) -> None:
-        at_once = [r for r in diagram.resets if r.kind == 'ASYNC_RESET']
+    def resets(self, diagram: Part) -> None:
+        at_once = [r for r in diagram.rows if r.first.word == 'ASYNC_RESET']
         for reset in at_once:
             self.at_once(diagram, reset, len(at_once) == 1)
-        at_clock = [r for r in diagram.resets if r.kind == 'SYNC_RESET']
-        if not at_clock:
-            return
-        before = ''.join('IF (%s) THEN %s ELSE ' % (written(r.value), written(r.state))
-                         for r in at_clock)
-        for state in diagram.states:
+        at_clock = [r for r in diagram.rows if r.first.word == 'SYNC_RESET']
+        before = ''.join(f'IF ({written(r.right)}) THEN {written(r.left)} ELSE ' for r in at_clock)
+        for state in diagram.states if before else []:
             for first in state.transitions:
                 first.before = before + first.before
             if not state.transitions:
@@ -95,17 +80,17 @@ class States:
         for reset in at_clock:
             self.s.drop(reset.first, reset.last, before.strip() + ' before each transition')
 
-    def at_once(self, diagram: Diagram, reset: Reset, alone: bool) -> None:
+    def at_once(self, diagram: Part, reset: Statement, alone: bool) -> None:
         """A reset of all registers at once, if the state has the code that it leaves."""
-        s, name = self.s, squeeze(diagram.registers)
-        members = s.members(diagram.registers) or []
-        code = self.codes.get(squeeze(reset.state), s.value(reset.state))
+        s, name = self.s, squeeze(diagram.left)
+        members = s.members(diagram.left) or []
+        code = self.codes.get(squeeze(reset.left), s.value(reset.left))
         inverts = s.inverts(members)
-        wanted = 2 ** self.bits.get(name, len(members)) - 1 if inverts and all(inverts) else 0
-        if s.device != 'GAL22V10' or not alone or code != wanted or len(set(inverts)) > 1:
-            return s.say.cant(reset.first, '%s: a reset at once makes every register of a 22V10 0 '
-                              '(DEVICES.md)' % squeeze(s.between(reset.first, reset.last)))
-        value = written(reset.value)
+        wanted = 2 ** self.bits.get(name, len(members)) - 1 if inverts == {True} else 0
+        if s.device != 'GAL22V10' or not alone or code != wanted or len(inverts) > 1:
+            return s.say.cant(reset.first, f'{squeeze(s.between(reset.first, reset.last))}: a '
+                              'reset at once makes every register of a 22V10 0 (DEVICES.md)')
         register = members[-1] if members and name not in self.bits else name
-        diagram.first.before = 'equations %s.AR = %s; ' % (register, value) + diagram.first.before
-        s.drop(reset.first, reset.last, '%s.AR = %s;' % (register, value))
+        equation = f'{register}.AR = {written(reset.right)};'
+        diagram.first.before = f'equations {equation} {diagram.first.before}'
+        s.drop(reset.first, reset.last, equation)

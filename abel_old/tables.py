@@ -3,12 +3,16 @@
 GONE = 'no effect'
 STANDARD = 'operators are written in the standard set'
 
-# A directive without effect: what goes with the word, and why it may go.
+# A directive without effect: how many tokens go with the word (-1: all up to ;), and why.
 DIRECTIVES = {
-    '@ALTERNATE': ('a ;', STANDARD), '@STANDARD': ('a ;', STANDARD), '@PAGE': ('a ;', GONE),
-    '@DCSTATE': ('a ;', GONE), '@CARRY': ('all to ;', GONE), '@SETSIZE': ('all to ;', GONE),
-    '@MESSAGE': ('a string', 'a message'),
+    '@ALTERNATE': (0, STANDARD), '@STANDARD': (0, STANDARD), '@PAGE': (0, GONE),
+    '@DCSTATE': (0, GONE), '@CARRY': (-1, GONE), '@SETSIZE': (-1, GONE),
+    '@MESSAGE': (1, 'a message'),
 }
+# Directives that compare texts, those with a block that abel has too, and those that stay.
+COMPARISONS = {'@IFB', '@IFNB', '@IFIDEN', '@IFNIDEN'}
+BLOCKS = {'@IF', '@IFDEF', '@IFNDEF', '@IRP', '@REPEAT'}
+STAY = {'@DCSET', '@ONSET'}
 
 # An operator of the alternate set, and that of the standard set.
 OPERATORS = {'/': '!', '*': '&', '+': '#', ':+:': '$', ':*:': '!$'}
@@ -18,7 +22,17 @@ RESERVED = {'ASYNC_RESET', 'EXTERNAL', 'FUNCTIONAL_BLOCK', 'FUSES', 'IN', 'INTER
             'PROPERTY', 'STATE_REGISTER', 'SYNC_RESET', 'TRACE', 'XOR_FACTORS'}
 HEADERS = {'EQUATIONS', 'TRUTH_TABLE', 'STATE_DIAGRAM', 'TEST_VECTORS', 'DECLARATIONS', 'END',
            'MODULE'}
-SECTIONS = HEADERS | {'FUSES', 'XOR_FACTORS', 'TRACE'}
+HINTS = {'XOR_FACTORS', 'TRACE'}
+SECTIONS = HEADERS | HINTS | {'FUSES'}
+# Words of which one says what a declaration is; these may be its first; these end a WITH.
+FIRST = {'LIBRARY', 'FLAG', 'OPTIONS', 'PROPERTY', 'EXTERNAL'}
+KINDS = FIRST | {'DEVICE', 'PIN', 'NODE', 'ISTYPE', 'STATE_REGISTER', 'STATE', '=', 'INTERFACE',
+                 'FUNCTIONAL_BLOCK', 'MACRO'}
+NO_STATEMENT = {'ELSE', 'STATE', 'ENDCASE', 'IF', 'GOTO', 'CASE', 'WITH'} | HEADERS
+
+# Declarations with attributes, and those of a module that is a part of another.
+DECLARING = {'PIN', 'NODE', 'ISTYPE', 'STATE_REGISTER'}
+PARTIAL = {'INTERFACE', 'FUNCTIONAL_BLOCK', 'EXTERNAL'}
 
 # A part of a source that goes: why, and whether that is a loss.
 PARTS = {
@@ -31,15 +45,19 @@ PARTS = {
 # The devices that stay as they are.
 DEVICES = {'P16L8', 'P16R4', 'P16R6', 'P16R8', 'P22V10', 'GAL22V10', 'GAL16V8C', 'GAL16V8R4',
            'GAL16V8R6', 'GAL16V8R8'}
-# What is left of a part's number without maker, grade and package; what is written, what is said.
+# A part's maker and number without grade and package; what is written, and what is said.
 COUNTERPARTS = [
-    (r'16L8|16R[468]', r'P\g<0>', ''),
-    (r'16RP([468])', r'GAL16V8R\1', 'a GAL16V8 takes its place'),
-    (r'10L8|12L6|14L4|16L2', 'P16L8', 'the PAL16L8 has its pins'),
-    (r'10H8|12H6|14H4|16H2|16H8|16P8|18P8', 'GAL16V8C', 'a GAL16V8 takes its place'),
-    (r'12L10|14L8|16L6|18L4|20L2|20L8|20L10|20R[468]|20V8|20P8|20RP[468]', 'GAL22V10',
+    (r'P 22V10', 'P22V10', ''),
+    (r'\w* 22V10', 'GAL22V10', ''),
+    (r'\w* (16L8|16R[468])', r'P\1', ''),
+    (r'\w* 16RP([468])', r'GAL16V8R\1', 'a GAL16V8 takes its place'),
+    (r'\w* (10L8|12L6|14L4|16L2)', 'P16L8', 'the PAL16L8 has its pins'),
+    (r'\w* (10H8|12H6|14H4|16H2|16H8|16P8|18P8)', 'GAL16V8C', 'a GAL16V8 takes its place'),
+    (r'\w* (12L10|14L8|16L6|18L4|20L2|20L8|20L10|20R[468]|20V8|20P8|20RP[468])', 'GAL22V10',
      'it has the pins of a %s: program a 22V10'),
 ]
+# The modes of a 16V8 that have registers, and the pins of these.
+REGISTERED = {'GAL16V8R4': range(14, 18), 'GAL16V8R6': range(13, 19), 'GAL16V8R8': range(12, 20)}
 # The pin of the 24-pin package for each connected pin of the 28-pin package.
 PLCC = dict(zip([2, 3, 4, 5, 6, 7, 9, 10, 11, 12, 13, 14, 16, 17, 18, 19, 20, 21, 23, 24, 25, 26,
                  27, 28], range(1, 25)))
@@ -64,6 +82,10 @@ NO_EXTENSIONS = {
     '.LD': 'no such input (NOT_HERE.md)', '.FC': 'no such input (NOT_HERE.md)',
 }
 INPUTS = {'.T', '.J', '.K', '.S', '.R'}           # of registers that aren't D registers
+PARTNERS = {'.J': '.K', '.S': '.R'}
+JOINED = {'.T': ' $ ', '.K': ' & ', '.R': ' & '}  # with the register; the others by #
+BY_COMPLEMENT = {'.D', '.Q', '.FB'} | INPUTS      # say something of the register itself
+RESETS, PRESETS = {'.AR', '.RE', '.ACLR'}, {'.AP', '.ASET'}      # at once
 CONTROLS = {'.OE', '.CLK', '.C', '.AR', '.SP', '.RE', '.PR', '.ACLR', '.ASET', '.AP', '.CE', '.SR',
             '.CLR', '.SET'}
 

@@ -4,7 +4,7 @@ from __future__ import annotations
 import re
 from typing import Iterable
 
-TOKEN = re.compile(r"""
+TOKEN = re.compile(r"""(?P<blanks>(?:[ \t\r\n\f\x1a]+|"[^"\n]*"?|//[^\n]*)*)(?:
   (?P<str>'(?:\\.|[^'\\])*'?)
 | (?P<dir>@[A-Za-z_]\w*)
 | (?P<spec>\.[Ss][Vv]\d\.|\.[A-Za-z]\.)
@@ -13,8 +13,8 @@ TOKEN = re.compile(r"""
 | (?P<num>\^[bodhBODH][\w?]+|\d(?:\w|\?[A-Za-z_])*)
 | (?P<id>(?:[A-Za-z_~]|\?[A-Za-z_~])(?:[\w~]|\?[A-Za-z_~])*)
 | (?P<one>.)
+| (?P<eof>\Z))
 """, re.X | re.S | re.A)
-BLANKS = re.compile(r'(?:[ \t\r\n\f\x1a]+|"[^"\n]*"?|//[^\n]*)*')
 COMMENT = re.compile(r'"[^"\n]*"?|//[^\n]*')
 APART = re.compile(r'["\n]|//')          # blanks with a line end or a comment in them
 SIGNS = {'=', ':=', '?=', '?:='}
@@ -46,21 +46,18 @@ class Token:
 
 
 def cut(text: str, file: str = '') -> list[Token]:
+    """The tokens, of which the last is the end."""
     tokens: list[Token] = []
-    place, line = 0, 1
-    while True:
-        found = BLANKS.match(text, place)
-        blanks = found.group() if found else ''
-        place += len(blanks)
-        line += blanks.count('\n')
-        token = TOKEN.match(text, place)
-        if not token:
-            tokens.append(Token('eof', '', blanks, line, file))
-            return tokens
-        kind = token.lastgroup or ''
-        tokens.append(Token('op' if kind == 'one' else kind, token.group(), blanks, line, file))
-        line += token.group().count('\n')
-        place = token.end()
+    line = 1
+    for found in TOKEN.finditer(text):
+        kind = found.lastgroup or ''
+        line += found['blanks'].count('\n')
+        tokens.append(Token('op' if kind == 'one' else kind, found[kind], found['blanks'], line,
+                            file))
+        line += found[kind].count('\n')
+        if kind == 'eof':
+            break
+    return tokens
 
 
 def raw(tokens: Iterable[Token]) -> str:
@@ -77,8 +74,7 @@ def written(tokens: Iterable[Token]) -> str:
 def squeeze(tokens: Iterable[Token]) -> str:
     """The old text as the report shows it: in one line, without comments, not too long."""
     text = raw(tokens)
-    text = text if "'" in text else COMMENT.sub(' ', text)
-    text = re.sub(r'\s+', ' ', text).strip()
+    text = re.sub(r'\s+', ' ', text if "'" in text else COMMENT.sub(' ', text)).strip()
     return text if len(text) <= 90 else text[:60] + ' .. ' + text[-24:]
 
 
@@ -94,11 +90,11 @@ def number(token: Token) -> int | None:
 
 def numeral(value: int, token: Token) -> str:
     """The value as a number that is read alike in the radix that holds at the token."""
-    return str(value) if value < 2 or token.radix == 10 else '^d%d' % value
+    return str(value) if value < 2 or token.radix == 10 else f'^d{value}'
 
 
 def split(tokens: Iterable[Token]) -> list[list[Token]]:
-    """The parts between the commas outside of brackets; empty parts are left out."""
+    """The parts between the commas outside of brackets, also empty ones."""
     parts: list[list[Token]] = [[]]
     depth = 0
     for x in tokens:
@@ -107,4 +103,4 @@ def split(tokens: Iterable[Token]) -> list[list[Token]]:
             parts.append([])
         else:
             parts[-1].append(x)
-    return [part for part in parts if part]
+    return parts

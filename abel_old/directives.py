@@ -1,11 +1,11 @@
-"""Goes through directives and macros, and makes the flat list of what is left."""
+"""Directives and macros, and the flat list of what is left."""
 from __future__ import annotations
 
 import re
 
-from .edits import Text
 from .records import Macro
-from .tables import DIRECTIVES
+from .tables import BLOCKS, COMPARISONS, DIRECTIVES, STAY
+from .text import Text
 from .tokens import Stop, Token, number, raw, squeeze, written
 
 STATES = ('@DCSTATE leaves transitions free that nothing says; here they go to state 0, as it '
@@ -13,7 +13,7 @@ STATES = ('@DCSTATE leaves transitions free that nothing says; here they go to s
 
 
 class Walk:
-    """`flat` gets what isn't a directive or a macro's definition."""
+    """Puts into `flat` what isn't a directive or a macro's definition."""
 
     def __init__(self, text: Text) -> None:
         self.text, self.say, self.t = text, text.say, text.t
@@ -45,13 +45,12 @@ class Walk:
             parameters = [x.text for x in self.t[at:end] if x.kind == 'id']
             at = end + 1
         if self.text.look(at).text != '{':
-            raise Stop('%d: macro %s has no block' % (name.line, name.text))
-        last = self.t[self.text.close(at)]
-        found = Macro(name.text, parameters, [], name, last)
+            raise Stop(f'{name.line}: macro {name.text} has no block')
+        found = Macro(name, parameters, self.t[self.text.close(at)])
         self.block(at, found.body)
         self.macros[name.text] = found
         self.all.append(found)
-        return last.at + (2 if self.text.next(last).text == ';' else 1)
+        return self.text.ending(found.last).at + 1
 
     def block(self, at: int, flat: list[Token]) -> int:
         """What is between the braces of which the first is here; the index of what is next."""
@@ -72,48 +71,39 @@ class Walk:
         if word in DIRECTIVES:
             return self.without_effect(first)
         if word in ('@INCLUDE', '@LIBRARY'):
-            return self.text.include(first.at)
-        if word in ('@IFB', '@IFNB', '@IFIDEN', '@IFNIDEN'):
+            return self.text.include(first)
+        if word in COMPARISONS:
             return self.compare(first, flat)
         if word == '@IRPC':
             return self.characters(first, flat)
-        if word in ('@IF', '@IFDEF', '@IFNDEF', '@IRP', '@REPEAT'):
+        if word in BLOCKS:
             return self.kept(first, flat)
         if word == '@EXPR':
             flat.append(first)
-            return self.expression(first) + 1
-        if word in ('@RADIX', '@CONST'):
-            end = self.to(first.at, ';')
-            if word == '@RADIX':
-                self.radix = self.value(after) or self.radix
-            else:
-                self.constants.add(after.text)
-                self.arithmetic(self.t[first.at:end])
-            return end + 1
-        if word in ('@DCSET', '@ONSET'):
-            return first.at + (2 if after.text == ';' else 1)
+            at = self.text.close(after.at) + 1 if after.text == '{' else after.at
+            return self.arithmetic(at, ';') + 1
+        if word == '@RADIX':
+            after.radix = self.radix
+            self.radix = number(after) or self.radix
+            return self.to(first.at, ';') + 1
+        if word == '@CONST':
+            self.constants.add(after.text)
+            return self.arithmetic(first.at, ';') + 1
+        if word in STAY:
+            return self.text.ending(first).at + 1
         if word == '@EXIT' and self.depth:
             self.say.note(first, '@EXIT stays: where ABEL would stop with an error, abel refuses '
                                  'the word')
         elif word == '@EXIT':
             self.say.cant(first, '@EXIT: ABEL stops here with an error; take it out')
         else:
-            self.say.cant(first, '%s is no directive that I know' % first.text)
+            self.say.cant(first, f'{first.text} is no directive that I know')
         return first.at + 1
 
-    def value(self, token: Token) -> int | None:
-        token.radix = self.radix
-        return number(token)
-
     def without_effect(self, first: Token) -> int:
-        extent, why = DIRECTIVES[first.word]
-        last = first
-        if extent == 'all to ;':
-            last = self.t[self.to(first.at, ';')]
-        elif extent == 'a string':
-            last = self.text.next(first)
-        if extent != 'all to ;' and self.text.next(last).text == ';':
-            last = self.text.next(last)
+        more, why = DIRECTIVES[first.word]
+        last = self.text.ending(self.text.look(first.at + more)) if more >= 0 else \
+            self.t[self.to(first.at, ';')]
         if first.word in ('@ALTERNATE', '@STANDARD'):
             self.alternate = first.word == '@ALTERNATE'
             self.switches.append(first)
@@ -122,54 +112,43 @@ class Walk:
         self.text.drop(first, last, why)
         return last.at + 1
 
-    def expression(self, first: Token) -> int:
-        """The index of the ; of an @EXPR."""
-        start = first.at + 1
-        if self.text.look(start).text == '{':
-            start = self.text.close(start) + 1
-        end = self.to(start, ';')
-        self.arithmetic(self.t[start:end])
+    def arithmetic(self, i: int, text: str) -> int:
+        """Passes an expression of a directive up to this text."""
+        end = self.to(i, text)
+        found = [x for x in self.t[i:end] if x.text in ('*', '/', '+')]
+        if self.alternate and found:
+            self.say.note(found[0], f'after @ALTERNATE, {found[0].text} in a directive is left as '
+                                    'arithmetic: check')
         return end
 
-    def arithmetic(self, tokens: list[Token]) -> None:
-        found = [x for x in tokens if x.text in ('*', '/', '+')]
-        if self.alternate and found:
-            self.say.note(found[0], 'after @ALTERNATE, %s in a directive is left as arithmetic: '
-                                    'check' % found[0].text)
-
     def kept(self, first: Token, flat: list[Token]) -> int:
-        """A directive with a block that abel has too."""
-        name, at = self.text.next(first), self.to(first.at, '{')
-        if first.word in ('@IF', '@REPEAT'):
-            self.arithmetic(self.t[first.at:at])
+        name = self.text.next(first)
+        opened = (self.arithmetic if first.word in ('@IF', '@REPEAT') else self.to)(first.at, '{')
         if first.word in ('@IFDEF', '@IFNDEF') and name.text not in self.constants \
                 and name.text not in self.macros and any(x.text == name.text for x in flat):
-            self.say.note(first, '%s %s: only macros and names of @CONST count here; the name is '
-                                 'declared' % (first.text, name.text))
-        return self.block(at, flat)
+            self.say.note(first, f'{first.text} {name.text}: only macros and names of @CONST count '
+                                 'here; the name is declared')
+        return self.block(opened, flat)
 
     def compare(self, first: Token, flat: list[Token]) -> int:
         """Compares texts: leaves the block, or nothing."""
-        at = first.at + 1
+        at, asks_blank = first.at + 1, first.word in ('@IFB', '@IFNB')
         if self.text.look(at).text != '(':
-            self.say.cant(first, '%s without ( )' % first.text)
+            self.say.cant(first, f'{first.text} without ( )')
             return at
         closed = self.text.close(at)
         text = raw(self.t[at + 1:closed])
-        last = self.t[self.text.close(closed + 1)]
-        known = re.sub(r'\?[A-Za-z_~][\w~]*', '', text).strip() if first.word.endswith('B') else ''
+        last, opened = self.t[self.text.close(closed + 1)], self.t[closed + 1]
+        known = asks_blank and re.sub(r'\?[A-Za-z_~][\w~]*', '', text).strip()
         if '?' in text and not known:
-            self.say.cant(first, '%s asks for an argument of a macro: write what it would give '
-                                 '(REFUSALS.md, Unsupported)' % first.text)
-            return self.block(closed + 1, flat)
+            self.say.cant(first, f'{first.text} asks for an argument of a macro: write what it '
+                                 'would give (REFUSALS.md, Unsupported)')
+            return self.block(opened.at, flat)
         parts = [x.strip() for x in text.split(',')]
-        yes = len(parts) == 2 and parts[0] == parts[1]
-        if first.word.endswith('B'):
-            yes = parts == ['']
+        yes = parts == [''] if asks_blank else len(parts) == 2 and parts[0] == parts[1]
         if yes == (first.word in ('@IFNB', '@IFNIDEN')):
             self.text.drop(first, last, 'never true')
             return last.at + 1
-        opened = self.t[closed + 1]
         self.say.change(first, squeeze(self.text.between(first, opened)) + ' .. }',
                         'its block: always true')
         self.text.comment(first, opened)

@@ -1,0 +1,122 @@
+"""Macros that ask about their arguments, and those under both sets of operators."""
+from __future__ import annotations
+
+import re
+
+from .directives import Walk
+from .records import Macro
+from .tables import COMPARISONS, OPERATORS
+from .text import Text
+from .tokens import Stop, Token, cut, raw, split, squeeze, written
+
+ROUNDS, TOO_MANY = 8, 100000
+
+
+def asks(macro: Macro) -> bool:
+    """Whether its body asks for a text of its arguments."""
+    for k, x in enumerate(macro.body):
+        if x.word in COMPARISONS or x.word == '@IRPC':
+            header = ''.join(y.text for y in macro.body[k + 1:k + 12]).partition(')')[0]
+            if set(re.findall(r'\?([\w~]+)', header)) & set(macro.parameters):
+                return True
+    return False
+
+
+def definitions(text: Text, behind: Token) -> list[Macro]:
+    """Those that have parameters."""
+    found = []
+    for x in text.t:
+        at = x.at + 2
+        if x.kind == 'id' and x.out and text.next(x).word == 'MACRO' and text.look(at).text == '(':
+            body = text.close(at) + 1
+            if text.look(body).text == '{' and text.close(body) < behind.at:
+                last = text.t[text.close(body)]
+                names = [y.text for y in text.t[at:body] if y.kind == 'id']
+                found.append(Macro(x, names, last, text.t[body + 1:last.at]))
+    return found
+
+
+def put_in(text: Text, macro: Macro, call: Token, behind: Token) -> bool:
+    """Puts the macro's text in place of a call, unless the call has other arguments."""
+    closed = text.close(call.at + 1)
+    was = text.t[call.at:closed + 1]
+    texts = dict(zip(macro.parameters, map(raw, split(was[2:-1]))))
+    if len(split(was[2:-1])) != len(macro.parameters) or closed >= behind.at:
+        return False
+    text.say.change(call, squeeze(was), 'the text of the macro, which asks about its arguments')
+    line = ''.join((' ' if x.blanks else '') + re.sub(r'\s*\n\s*', ' ', x.text)
+                   for x in macro.body)
+    tokens = cut(re.sub(r'\?([\w~]+)', lambda found: texts.get(found[1], found[0]), line))[:-1]
+    for k, x in enumerate(tokens):
+        x.line, x.file, x.blanks = call.line, call.file, x.blanks if k else call.blanks
+    after = text.look(closed + 1)
+    after.blanks = ''.join(x.blanks + x.text for x in was[1:]).count('\n') * '\n' + after.blanks
+    text.t[call.at:closed + 1] = tokens
+    text.number()
+    return True
+
+
+def fix_asking(text: Text, behind: Token) -> None:
+    """Puts their texts in place of calls; a definition without other calls becomes a comment."""
+    done: dict[str, bool] = {}
+    for _ in range(ROUNDS):
+        found = definitions(text, behind)
+        names = [m.name.text for m in found]
+        macros = {m.name.text: m for m in found if asks(m) and names.count(m.name.text) == 1}
+        calls = [x for x in text.t if x.text in macros and x.at > macros[x.text].last.at
+                 and x.kind == 'id' and x.out and text.next(x).text == '(']
+        for x in reversed(calls):
+            if len(text.t) > TOO_MANY:
+                raise Stop(f'{x.line}: macro {x.text} is called too often')
+            done[x.text] = put_in(text, macros[x.text], x, behind) and done.get(x.text, True)
+        if not any(done.get(x.text) for x in calls):
+            break
+    for macro in reversed(definitions(text, behind)):
+        if done.get(macro.name.text):
+            last = text.ending(macro.last)
+            text.comment(macro.name, last)
+            after = text.next(last)
+            after.blanks = macro.name.blanks + written(text.between(macro.name, last)) \
+                + after.blanks
+            del text.t[macro.name.at:last.at + 1]
+            text.number()
+
+
+def fix_operators(text: Text, walk: Walk) -> None:
+    """Writes operators of the alternate set in the standard set."""
+    both: list[Macro] = []
+    alternate = {x.at: x.alternate for x in text.t}
+    for macro in walk.all:
+        sets = {x.alternate for x in macro.calls} or {macro.name.alternate}
+        if len(sets) > 1 and any(x.text in OPERATORS for x in macro.body):
+            both.append(macro)
+        here = macro.name.alternate if len(sets) > 1 else True in sets
+        alternate.update((x.at, here) for x in macro.body)
+    lines: dict[tuple[str, int], list[Token]] = {}
+    for x in text.t:
+        if alternate[x.at] and x.kind == 'op' and x.text in OPERATORS and x.untouched:
+            x.out = OPERATORS[x.text]
+            lines.setdefault((x.file, x.line), []).append(x)
+    for macro in both:
+        define_anew(text, walk, macro)
+    for found in lines.values():
+        text.say.change(found[0], ' '.join(dict.fromkeys(x.text for x in found)),
+                        ' '.join(dict.fromkeys(x.out for x in found)))
+
+
+def define_anew(text: Text, walk: Walk, macro: Macro) -> None:
+    """A macro that is called under both sets is defined anew where the set changes."""
+    name = macro.name.text
+    if sum(m.name.text == name for m in walk.all) > 1:
+        return text.say.cant(macro.name, f'macro {name} is defined twice, and called under '
+                                         '@ALTERNATE and without it')
+    body = {x.at for x in macro.body if x.kind == 'op'}
+    for switch in walk.switches:
+        if switch.at >= macro.last.at:
+            table = OPERATORS if switch.word == '@ALTERNATE' else {}
+            new = ''.join((x.blanks if k else '')
+                          + (table.get(x.text, x.text) if x.at in body else x.text)
+                          for k, x in enumerate(text.between(macro.name, macro.last)))
+            switch.after += ' ' + re.sub(r'\s*\n\s*', ' ', new) + ';'
+            text.say.change(switch, f'macro {name}, called under both sets of operators',
+                            'defined anew here')
