@@ -8,8 +8,17 @@ from .tables import BLOCKS, COMPARISONS, DIRECTIVES, STAY
 from .text import Text
 from .tokens import Stop, Token, number, raw, squeeze, written
 
-STATES = ('@DCSTATE leaves transitions free that nothing says; here they go to state 0, as it '
-          'allows')
+
+def definition(text: Text, name: Token) -> Macro:
+    """The macro of this name, whose definition begins here; its body isn't filled."""
+    at, parameters = name.at + 2, []
+    if text.look(at).text == '(':
+        end = text.close(at)
+        parameters = [x.text for x in text.t[at:end] if x.kind == 'id']
+        at = end + 1
+    if text.look(at).text != '{':
+        raise Stop(f'{name.line}: macro {name.text} has no block')
+    return Macro(name, parameters, text.t[at], text.t[text.close(at)])
 
 
 class Walk:
@@ -39,15 +48,8 @@ class Walk:
                 i += 1
 
     def macro(self, name: Token) -> int:
-        at, parameters = name.at + 2, []
-        if self.text.look(at).text == '(':
-            end = self.text.close(at)
-            parameters = [x.text for x in self.t[at:end] if x.kind == 'id']
-            at = end + 1
-        if self.text.look(at).text != '{':
-            raise Stop(f'{name.line}: macro {name.text} has no block')
-        found = Macro(name, parameters, self.t[self.text.close(at)])
-        self.block(at, found.body)
+        found = definition(self.text, name)
+        self.block(found.opened.at, found.body)
         self.macros[name.text] = found
         self.all.append(found)
         return self.text.ending(found.last).at + 1
@@ -101,14 +103,14 @@ class Walk:
         return first.at + 1
 
     def without_effect(self, first: Token) -> int:
-        more, why = DIRECTIVES[first.word]
-        last = self.text.ending(self.text.look(first.at + more)) if more >= 0 else \
-            self.t[self.to(first.at, ';')]
+        more, why, note = DIRECTIVES[first.word]
+        last = self.t[self.to(first.at, ';')] if more is None else \
+            self.text.ending(self.text.look(first.at + more))
         if first.word in ('@ALTERNATE', '@STANDARD'):
             self.alternate = first.word == '@ALTERNATE'
             self.switches.append(first)
-        if first.word == '@DCSTATE':
-            self.say.note(first, STATES)
+        if note:
+            self.say.note(first, note)
         self.text.drop(first, last, why)
         return last.at + 1
 
@@ -132,20 +134,19 @@ class Walk:
 
     def compare(self, first: Token, flat: list[Token]) -> int:
         """Compares texts: leaves the block, or nothing."""
-        at, asks_blank = first.at + 1, first.word in ('@IFB', '@IFNB')
+        at, blank = first.at + 1, first.word in ('@IFB', '@IFNB')
         if self.text.look(at).text != '(':
             self.say.cant(first, f'{first.text} without ( )')
             return at
         closed = self.text.close(at)
+        opened, last = self.t[closed + 1], self.t[self.text.close(closed + 1)]
         text = raw(self.t[at + 1:closed])
-        last, opened = self.t[self.text.close(closed + 1)], self.t[closed + 1]
-        known = asks_blank and re.sub(r'\?[A-Za-z_~][\w~]*', '', text).strip()
-        if '?' in text and not known:
+        parts = [x.strip() for x in text.split(',')]
+        yes = parts == [''] if blank else len(parts) == 2 and parts[0] == parts[1]
+        if '?' in text and not (blank and re.sub(r'\?[A-Za-z_~][\w~]*', '', text).strip()):
             self.say.cant(first, f'{first.text} asks for an argument of a macro: write what it '
                                  'would give (REFUSALS.md, Unsupported)')
             return self.block(opened.at, flat)
-        parts = [x.strip() for x in text.split(',')]
-        yes = parts == [''] if asks_blank else len(parts) == 2 and parts[0] == parts[1]
         if yes == (first.word in ('@IFNB', '@IFNIDEN')):
             self.text.drop(first, last, 'never true')
             return last.at + 1

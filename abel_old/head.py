@@ -6,7 +6,7 @@ import re
 from .names import Names
 from .records import Declaration, Part
 from .tables import RESERVED
-from .tokens import Stop, Token, cut, squeeze
+from .tokens import Stop, Token, squeeze
 
 
 def modules(s: Names) -> list[tuple[Token, Token]]:
@@ -73,10 +73,8 @@ def fix_reserved_names(s: Names) -> None:
 
 def fix_head(s: Names) -> None:
     module = s.module
-    titles = [k for k, (kind, _) in enumerate(module.head) if kind == 'TITLE']
-    for kind, tokens in module.head[:titles[-1]] if titles else []:
-        if kind != 'TITLE':
-            s.drop(tokens[0], tokens[-1], 'before TITLE it is no syntax, and it has no effect')
+    for tokens in module.options:
+        s.drop(tokens[0], tokens[-1], 'before TITLE it is no syntax, and it has no effect')
     if module.arguments:
         s.say.change(module.arguments[0], squeeze(module.arguments),
                      'nothing: a module has no arguments')
@@ -90,17 +88,10 @@ def fix_head(s: Names) -> None:
 
 def defaults(text: str) -> list[str]:
     """Arguments of a module of which it asks by @IFB or @IFNB whether they are given."""
-    tokens = cut(text)
-    names: list[str] = []
-    for k, x in enumerate(tokens):
-        if x.word == 'MODULE' and [y.text for y in tokens[k + 2:k + 3]] == ['(']:
-            for y in tokens[k + 3:]:
-                if y.text == ')':
-                    break
-                names.append(y.text)
-    asked = ''.join(x.text for k, x in enumerate(tokens[:-2]) if tokens[k - 1].text == '('
-                    and k > 1 and tokens[k - 2].word in ('@IFB', '@IFNB'))
-    return [n for n in names if re.search(r'\?%s(?![\w~])' % re.escape(n), asked)]
+    lists = re.findall(r'\bmodule\s+[\w~]+\s*\(([^)]*)', text, re.I)
+    asked = ' '.join(re.findall(r'@ifn?b\s*\(\s*(\?[\w~]+)', text, re.I))
+    return [n for names in lists for n in re.findall(r'[\w~]+', names)
+            if re.search(r'\?%s(?![\w~])' % re.escape(n), asked)]
 
 
 def devices(s: Names) -> list[str]:

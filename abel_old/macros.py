@@ -3,7 +3,7 @@ from __future__ import annotations
 
 import re
 
-from .directives import Walk
+from .directives import Walk, definition
 from .records import Macro
 from .tables import COMPARISONS, OPERATORS
 from .text import Text
@@ -12,40 +12,37 @@ from .tokens import Stop, Token, cut, raw, split, squeeze, written
 ROUNDS, TOO_MANY = 8, 100000
 
 
-def asks(macro: Macro) -> bool:
-    """Whether its body asks for a text of its arguments."""
-    for k, x in enumerate(macro.body):
+def asking(text: Text, behind: Token) -> dict[str, Macro]:
+    """The macros that are defined once and ask for a text of their arguments."""
+    found: dict[str, list[Macro]] = {}
+    for x in text.t[:behind.at]:
+        if x.kind == 'id' and x.out and text.next(x).word == 'MACRO' \
+                and text.look(x.at + 2).text == '(':
+            found.setdefault(x.text, []).append(definition(text, x))
+    return {name: macros[0] for name, macros in found.items()
+            if not macros[1:] and macros[0].last.at < behind.at and asks(text, macros[0])}
+
+
+def asks(text: Text, macro: Macro) -> bool:
+    for x in text.between(macro.opened, macro.last):
         if x.word in COMPARISONS or x.word == '@IRPC':
-            header = ''.join(y.text for y in macro.body[k + 1:k + 12]).partition(')')[0]
+            header = ''.join(y.text for y in text.t[x.at + 1:x.at + 12]).partition(')')[0]
             if set(re.findall(r'\?([\w~]+)', header)) & set(macro.parameters):
                 return True
     return False
-
-
-def definitions(text: Text, behind: Token) -> list[Macro]:
-    """Those that have parameters."""
-    found = []
-    for x in text.t:
-        at = x.at + 2
-        if x.kind == 'id' and x.out and text.next(x).word == 'MACRO' and text.look(at).text == '(':
-            body = text.close(at) + 1
-            if text.look(body).text == '{' and text.close(body) < behind.at:
-                last = text.t[text.close(body)]
-                names = [y.text for y in text.t[at:body] if y.kind == 'id']
-                found.append(Macro(x, names, last, text.t[body + 1:last.at]))
-    return found
 
 
 def put_in(text: Text, macro: Macro, call: Token, behind: Token) -> bool:
     """Puts the macro's text in place of a call, unless the call has other arguments."""
     closed = text.close(call.at + 1)
     was = text.t[call.at:closed + 1]
-    texts = dict(zip(macro.parameters, map(raw, split(was[2:-1]))))
-    if len(split(was[2:-1])) != len(macro.parameters) or closed >= behind.at:
+    given = [raw(part) for part in split(was[2:-1])]
+    if len(given) != len(macro.parameters) or closed >= behind.at:
         return False
     text.say.change(call, squeeze(was), 'the text of the macro, which asks about its arguments')
+    texts = dict(zip(macro.parameters, given))
     line = ''.join((' ' if x.blanks else '') + re.sub(r'\s*\n\s*', ' ', x.text)
-                   for x in macro.body)
+                   for x in text.t[macro.opened.at + 1:macro.last.at])
     tokens = cut(re.sub(r'\?([\w~]+)', lambda found: texts.get(found[1], found[0]), line))[:-1]
     for k, x in enumerate(tokens):
         x.line, x.file, x.blanks = call.line, call.file, x.blanks if k else call.blanks
@@ -60,9 +57,7 @@ def fix_asking(text: Text, behind: Token) -> None:
     """Puts their texts in place of calls; a definition without other calls becomes a comment."""
     done: dict[str, bool] = {}
     for _ in range(ROUNDS):
-        found = definitions(text, behind)
-        names = [m.name.text for m in found]
-        macros = {m.name.text: m for m in found if asks(m) and names.count(m.name.text) == 1}
+        macros = asking(text, behind)
         calls = [x for x in text.t if x.text in macros and x.at > macros[x.text].last.at
                  and x.kind == 'id' and x.out and text.next(x).text == '(']
         for x in reversed(calls):
@@ -71,7 +66,7 @@ def fix_asking(text: Text, behind: Token) -> None:
             done[x.text] = put_in(text, macros[x.text], x, behind) and done.get(x.text, True)
         if not any(done.get(x.text) for x in calls):
             break
-    for macro in reversed(definitions(text, behind)):
+    for macro in reversed([*asking(text, behind).values()]):
         if done.get(macro.name.text):
             last = text.ending(macro.last)
             text.comment(macro.name, last)

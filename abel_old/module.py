@@ -4,7 +4,7 @@ from __future__ import annotations
 from typing import Iterator
 
 from .names import Names
-from .records import Declaration, Part, State, Statement
+from .records import Declaration, Part, Statement
 from .tables import FIRST, HEADERS, HINTS, KINDS, NO_STATEMENT, RESERVED, SECTIONS
 from .tokens import SIGNS, Stop, Token
 
@@ -18,8 +18,8 @@ class Module:
         self.declarations: list[Declaration] = []
         self.parts: list[Part] = []
         self.sections: list[Token] = []
-        self.head: list[tuple[str, list[Token]]] = []
         self.arguments: list[Token] = []
+        self.options: list[list[Token]] = []     # those before TITLE
 
     def of(self, kind: str) -> list[Part]:
         return [part for part in self.parts if part.kind == kind]
@@ -141,13 +141,16 @@ class Module:
             self.past(')')
             self.arguments = self.flat[start:self.p]
         self.eat(';')
+        head: list[list[Token]] = []
         while self.here.word in ('FLAG', 'OPTIONS', 'TITLE'):
             start = self.p
             self.p += 1
             while self.here.kind == 'str' or self.here.text == ',':
                 self.p += 1
             self.eat(';')
-            self.head.append((self.flat[start].word, self.flat[start:self.p]))
+            head.append(self.flat[start:self.p])
+        titles = [k for k, tokens in enumerate(head) if tokens[0].word == 'TITLE']
+        self.options = [head[k] for k in range(max(titles, default=0)) if k not in titles]
         self.declare()
         for _ in self.turns('END', 'MODULE'):
             if self.at_section:
@@ -155,6 +158,32 @@ class Module:
             else:
                 self.statement()
         self.end = self.here
+
+    def declare(self) -> None:
+        while self.here.kind != 'eof' and (not self.at_section or self.here.word in HINTS):
+            first = self.here
+            if first.text == ';':
+                self.loose('a declaration')
+            elif self.at_section:
+                self.past(';')
+                self.parts.append(Part(first.word, first, self.ahead(-1)))
+            elif not self.call():
+                tokens = self.until(';', *HEADERS)
+                if not tokens:
+                    return
+                last = self.eat(';')
+                if last:
+                    self.declaration(Declaration('', first, last, tokens=tokens))
+
+    def declaration(self, found: Declaration) -> None:
+        depth = 0
+        for i, x in enumerate(found.tokens):
+            depth += (x.text in ('(', '[')) - (x.text in (')', ']'))
+            if depth == 0 and x.kind in ('id', 'op') and x.word in (KINDS if i else FIRST):
+                found.kind, found.at = x.word, i
+                break
+        self.declarations.append(found)
+        self.source.declare(found)
 
     def section(self) -> None:
         first = self.here
@@ -165,8 +194,7 @@ class Module:
             self.loose('DECLARATIONS')
             return self.declare()
         if first.word in ('TRUTH_TABLE', 'TEST_VECTORS'):
-            if not self.table(part):
-                return
+            self.table(part)
         elif first.word == 'STATE_DIAGRAM':
             self.diagram(part)
         elif first.word == 'EQUATIONS':
@@ -178,77 +206,32 @@ class Module:
             self.until(';', *SECTIONS)
             self.eat(';')
         else:
-            self.lines(first.word == 'XOR_FACTORS')
+            for _ in self.turns():
+                self.p += 1
         part.last = self.ahead(-1)
         self.parts.append(part)
 
-    def lines(self, factors: bool) -> None:
-        """What is in FUSES; what is in XOR_FACTORS, as far as it is plain equations."""
-        if factors:
-            self.eat(';')
-        for _ in self.turns():
-            if factors:
-                self.until(';')
-            self.p += 1
-            if factors and (self.ahead(1).text != '='
-                            or self.here.text not in self.source.signals):
-                break
-
-    def declare(self) -> None:
-        while self.here.kind != 'eof' and (not self.at_section or self.here.word in HINTS):
-            first = self.here
-            if first.word in HINTS and self.at_section:
-                self.past(';')
-                self.parts.append(Part(first.word, first, self.ahead(-1)))
-                continue
-            if self.call():
-                continue
-            tokens = self.until(';', *HEADERS)
-            if not tokens and self.here.text != ';':
-                return
-            if not tokens:
-                self.loose('a declaration')
-            elif self.here.text == ';':
-                self.declaration(tokens)
-
-    def declaration(self, tokens: list[Token]) -> None:
-        found = Declaration('', tokens[0], self.here, tokens=tokens)
-        self.p += 1
-        depth = 0
-        for i, x in enumerate(tokens):
-            depth += (x.text in ('(', '[')) - (x.text in (')', ']'))
-            if depth == 0 and x.kind in ('id', 'op') and x.word in (KINDS if i else FIRST):
-                found.kind, found.at = x.word, i
-                break
-        self.declarations.append(found)
-        self.source.declare(found)
-
-    def table(self, found: Part) -> bool:
+    def table(self, found: Part) -> None:
         self.p += self.here.kind == 'str'
-        found.owner = self.owner()
+        owner = self.owner()
         self.p += self.here.kind == 'str'
         if not self.eat('('):
-            return False
+            return
+        found.owner = owner
         found.left, found.sign = self.past('->', ':>', ')'), self.ahead(-1).text
         found.right, found.double = self.until(')', '->'), self.here.text == '->'
         self.past(')')
         self.loose('the header')
         for _ in self.turns():
-            if self.here.text == ';':
+            first = self.here
+            if first.text == ';':
                 self.loose('a row')
             elif not self.call():
-                self.row(found)
-        return True
-
-    def row(self, found: Part) -> None:
-        first = self.here
-        left, sign = self.until('->', ':>', ';', *HEADERS), self.here
-        if self.eat('->', ':>'):
-            right = self.until(';', *HEADERS)
-            found.rows.append(Statement(first, left, sign, right,
-                                        self.eat(';') or self.ahead(-1)))
-        else:
-            self.eat(';')
+                left, sign = self.until('->', ':>', ';', *HEADERS), self.eat('->', ':>')
+                right = self.until(';', *HEADERS) if sign else []
+                last = self.eat(';') or self.ahead(-1)
+                if sign:
+                    found.rows.append(Statement(first, left, sign, right, last))
 
     def diagram(self, found: Part) -> None:
         found.owner = self.owner()
@@ -261,18 +244,16 @@ class Module:
         for _ in self.turns():
             first = self.here
             if self.eat('ASYNC_RESET', 'SYNC_RESET'):
-                state = self.until(':', ';')
-                sign = self.eat(':') or self.here
+                state, sign = self.until(':', ';'), self.eat(':') or self.here
                 value = self.past(';')
                 found.rows.append(Statement(first, state, sign, value, self.ahead(-1)))
             elif self.eat('STATE'):
-                state = self.until(':', ';')
-                self.eat(':')
-                found.states.append(State(state, self.ahead(-1)))
+                state, colon = self.until(':', ';'), self.eat(':') or self.ahead(-1)
+                found.states.append(Statement(first, state, colon, [], colon))
                 self.loose('STATE')
             elif first.word in ('IF', 'CASE', 'GOTO'):
                 if found.states:
-                    found.states[-1].transitions.append(first)
+                    found.states[-1].right.append(first)
                 self.arm(False)
                 self.eat(';')
             else:
@@ -303,18 +284,15 @@ class Module:
 
     def with_(self, in_case: bool) -> None:
         """What follows a WITH; where ENDWITH is missing it is written behind one statement."""
-        first = self.here
-        if first.text == '{':
+        first, ends = self.here, self.here.text == '{' or self.has_end()
+        for _ in self.turns('ENDWITH'):
             self.statement(True, 'with')
-        elif self.has_end():
-            for _ in self.turns('ENDWITH'):
-                self.statement(True, 'with')
-        else:
-            self.statement(True, 'with')
+            if first.text == '{' or not ends:
+                break
+        if not ends:
             end = 'ENDWITH;' if in_case and self.here.word != 'ELSE' else 'ENDWITH'
             self.ahead(-1).after += ' ' + end
             self.source.say.change(first, 'WITH without ENDWITH', end + ' after its statement')
-            return
         self.eat('ENDWITH')
 
     def has_end(self) -> bool:

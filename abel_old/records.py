@@ -11,9 +11,10 @@ from .tokens import Token
 
 @dataclass(eq=False)
 class Statement:
-    """`left sign right`: an assignment, a row of a table, or a reset of a diagram.
+    """`left sign right`: an assignment, a row of a table, a reset or a state of a diagram.
 
-    It is `under` a condition or not; `where` is equations, state or with.
+    It is `under` a condition or not; `where` is equations, state or with. Of a state, `right` are
+    the first tokens of its transitions.
     """
     first: Token
     left: list[Token]
@@ -38,14 +39,6 @@ class Statement:
 
 
 @dataclass(eq=False)
-class State:
-    """`colon` is the last token of its header; `transitions` are their first tokens."""
-    value: list[Token]
-    colon: Token
-    transitions: list[Token] = field(default_factory=list)
-
-
-@dataclass(eq=False)
 class Part:
     """A section or a declaration; `owner` is `IN device`, if it is that of one of several.
 
@@ -61,7 +54,7 @@ class Part:
     sign: str = ''
     double: bool = False
     rows: list[Statement] = field(default_factory=list)
-    states: list[State] = field(default_factory=list)
+    states: list[Statement] = field(default_factory=list)
 
 
 @dataclass(eq=False)
@@ -90,9 +83,10 @@ class Signal:
 
 @dataclass(eq=False)
 class Macro:
-    """Its body is the flat list of what is between its braces."""
+    """Its body is the flat list of what is between its braces, `opened` and `last`."""
     name: Token
     parameters: list[str]
+    opened: Token
     last: Token
     body: list[Token] = field(default_factory=list)
     calls: list[Token] = field(default_factory=list)

@@ -35,7 +35,7 @@ class States:
         s, (name, token) = self.s, d.names[0]
         diagrams = [x for x in s.module.of('STATE_DIAGRAM')
                     if [y.text for y in x.left[:1]] == [name]]
-        listed = {y.value[0].text for x in diagrams for y in x.states if y.value}
+        listed = {y.left[0].text for x in diagrams for y in x.states if y.left}
         mine = [n for n in names if alone or n in listed]
         starts = [r.left[0].text for x in diagrams for r in x.rows
                   if r.first.word == 'ASYNC_RESET' and r.left] + mine[:1]
@@ -50,7 +50,8 @@ class States:
         if not any(x.word == 'ISTYPE' for x in d.tokens):
             key.after += " istype 'reg,buffer'" if s.device == 'GAL22V10' else " istype 'reg'"
         d.last.after += f' {name} = [{token.out}];'
-        s.say.change(token, squeeze(d.tokens), f'{bits} registers, on pins that are free (see list)')
+        s.say.change(token, squeeze(d.tokens),
+                     f'{bits} registers, on pins that are free (see list)')
 
     def constants(self, d: Declaration) -> None:
         """The names of states, as constants."""
@@ -73,10 +74,10 @@ class States:
         at_clock = [r for r in diagram.rows if r.first.word == 'SYNC_RESET']
         before = ''.join(f'IF ({written(r.right)}) THEN {written(r.left)} ELSE ' for r in at_clock)
         for state in diagram.states if before else []:
-            for first in state.transitions:
+            for first in state.right:
                 first.before = before + first.before
-            if not state.transitions:
-                state.colon.after += ' ' + before[:-len(' ELSE ')] + ';'
+            if not state.right:
+                state.last.after += ' ' + before[:-len(' ELSE ')] + ';'
         for reset in at_clock:
             self.s.drop(reset.first, reset.last, before.strip() + ' before each transition')
 

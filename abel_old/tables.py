@@ -3,11 +3,12 @@
 GONE = 'no effect'
 STANDARD = 'operators are written in the standard set'
 
-# A directive without effect: how many tokens go with the word (-1: all up to ;), and why.
+# A directive without effect: how many tokens go with the word (None: all up to ;), why, a note.
 DIRECTIVES = {
-    '@ALTERNATE': (0, STANDARD), '@STANDARD': (0, STANDARD), '@PAGE': (0, GONE),
-    '@DCSTATE': (0, GONE), '@CARRY': (-1, GONE), '@SETSIZE': (-1, GONE),
-    '@MESSAGE': (1, 'a message'),
+    '@ALTERNATE': (0, STANDARD, ''), '@STANDARD': (0, STANDARD, ''), '@PAGE': (0, GONE, ''),
+    '@CARRY': (None, GONE, ''), '@SETSIZE': (None, GONE, ''), '@MESSAGE': (1, 'a message', ''),
+    '@DCSTATE': (0, GONE, '@DCSTATE leaves transitions free that nothing says; here they go to '
+                          'state 0, as it allows'),
 }
 # Directives that compare texts, those with a block that abel has too, and those that stay.
 COMPARISONS = {'@IFB', '@IFNB', '@IFIDEN', '@IFNIDEN'}
