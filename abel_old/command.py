@@ -14,6 +14,7 @@ from .tokens import Stop, Token
 
 USAGE = """abel-old [-d DEVICE] [-m MODULE] [-a NAME=TEXT].. [-diff | -check] IN
        abel-old [-a NAME=TEXT].. -o FOLDER IN"""
+ABEL = os.path.join(os.path.dirname(os.path.dirname(os.path.abspath(__file__))), 'abel')
 START = Token('', '', '', 1)
 
 
@@ -66,7 +67,7 @@ def with_arguments(text: str, given: list[tuple[str, str]], say: Report) -> str:
     return text
 
 
-def everything(folder: str, path: str, text: str, say: Report) -> int:
+def everything(folder: str, path: str, text: str, say: Report) -> None:
     """Writes each device of each module to a file of its own, which may not be there yet."""
     found: dict[str, tuple[str, Report]] = {}
     whole = Names(text, path, Report())
@@ -85,7 +86,7 @@ def everything(folder: str, path: str, text: str, say: Report) -> int:
             opened.write(out.encode('latin-1'))
         sys.stderr.write(file + '\n')
         told.show(sys.stderr)
-    return max([say.level] + [told.level for _, told in found.values()])
+        say.level = max(say.level, told.level)
 
 
 def difference(path: str, old: str, new: str) -> str:
@@ -95,7 +96,37 @@ def difference(path: str, old: str, new: str) -> str:
                    for x in lines)
 
 
-def run(asked: argparse.Namespace, say: Report) -> int:
+def abel(*words: str) -> str:
+    """What abel reports: the one beside this package, otherwise that of the PATH."""
+    import subprocess     # only where it is needed, as it takes time
+    program = os.environ.get('ABEL') or (ABEL if os.path.exists(ABEL) else 'abel')
+    done = subprocess.run([program, *words], stdout=subprocess.PIPE, check=False)
+    return done.stdout.decode('latin-1').strip()
+
+
+def verdict(new: str, say: Report) -> str:
+    """Whether the source's own vectors agree with what comes out."""
+    import tempfile
+    with tempfile.TemporaryDirectory() as folder:
+        source, file = os.path.join(folder, 'new.abl'), os.path.join(folder, 'new.jed')
+        with open(source, 'wb') as opened:
+            opened.write(new.encode('latin-1'))
+        compiled = abel('compile', source, file)
+        device = re.match(r'compiled (\S+) ', compiled)
+        if not device:
+            say.level = 2
+            return 'refused: ' + (compiled or 'abel says nothing')
+        told = abel('simulate', device[1], file)
+    count = re.search(r'vectors (\d+) mismatches (\d+)$', told)
+    if not count or count[2] != '0':
+        say.level = 2
+        return 'vectors disagree: ' + told.replace('\n', ', ')
+    if count[1] == '0':
+        return 'note no vectors: it compiles, and no more is known'
+    return '%s vectors agree' % count[1]
+
+
+def run(asked: argparse.Namespace, say: Report) -> None:
     with open(asked.path, 'rb') as opened:
         old = decoded(opened.read(), say)
     text = with_arguments(old, asked.arguments, say)
@@ -103,24 +134,22 @@ def run(asked: argparse.Namespace, say: Report) -> int:
         return everything(asked.folder, asked.path, text, say)
     new = Source(text, asked.path, say, asked.module).rewrite(asked.device)
     if asked.check:
-        from .check import check    # needs what takes time to import, as -diff does
-        check(asked.path, new, say)
+        lost = f', {say.vectors_lost} lost' if say.vectors_lost else ''
+        print(f'{asked.path}: {verdict(new, say)}{lost}')
     else:
         shown = difference(asked.path, old, new) if asked.diff else new
         sys.stdout.buffer.write(shown.encode('latin-1'))
-    return say.level
 
 
 def main(words: list[str]) -> int:
     asked, say = options(words), Report()
     fault = ''
     try:
-        level = run(asked, say)
+        run(asked, say)
     except (OSError, Stop) as stopped:
-        level, fault = 2, f'abel-old: {stopped}\n'
+        say.level, fault = 2, f'abel-old: {stopped}\n'
     except RecursionError:
-        sys.stderr.write('abel-old: too much in this source is nested\n')
-        return 2
+        say.level, fault = 2, 'abel-old: too much in this source is nested\n'
     say.show(sys.stderr)
     sys.stderr.write(fault)
-    return level
+    return say.level

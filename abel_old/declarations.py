@@ -18,7 +18,7 @@ def fix_parts(s: Names) -> None:
         if d.kind in PARTIAL:
             s.say.cant(d.first, f'{squeeze(d.tokens)}: write one module with all of it (MANUAL.md, '
                                 'Old sources)')
-        elif d.kind == 'LIBRARY' and len(d.tokens) > 1:
+        elif d.kind == 'LIBRARY' and [x.kind for x in d.tokens[1:2]] == ['str']:
             s.library(d.first)
 
 
@@ -118,12 +118,11 @@ def supplies(s: Names, d: Declaration) -> None:
         s.comment(d.first, d.last)
     elif not take_out(s, d, dead):
         return s.say.cant(d.first, 'pins of ground and supply in a range: write the others alone')
-    constants = ','.join(kept)
-    s.say.change(d.first, f"{', '.join(names)}, ground or supply", 'no pin' + (
-        f", but the constant {', '.join(kept)}" if kept else ''))
+    constants = f", but the constant {', '.join(kept)}" if kept else ''
+    s.say.change(d.first, f"{', '.join(names)}, ground or supply", 'no pin' + constants)
     if kept:
         levels = ','.join('1' if s.signals[n].pin == size else '0' for n in kept)
-        d.last.after += f' {constants} = {levels};'
+        d.last.after += f" {','.join(kept)} = {levels};"
     for n in names:
         s.constants[n] = []
         s.signals.pop(n, None)
@@ -153,14 +152,10 @@ def reset_node(s: Names, d: Declaration, name: str, register: str | None, extens
     if not register:
         return s.say.cant(d.first, f'node of the {word}, and no register')
     for a in s.assignments:
-        target = [x for x in a.left if x.text != '!']
-        if [x.text for x in target[:1]] == [name] and (
-                len(target) == 1 or target[1].word in ('.RE', '.PR', '.AR', '.SP')):
-            target[0].out = register + extension
-            for x in target[1:]:
-                x.out = ''
-            if a.sign.text == ':=':
-                a.sign.out = '='
+        if [x.text for x in a.bare] == [name] and a.extension in ('', '.RE', '.PR', '.AR', '.SP'):
+            s.blank(a.left[-1:])
+            a.bare[0].out = register + extension
+            a.sign.out = a.sign.text.replace(':', '')
     s.say.change(d.first, f'{name}, the node of the {word}',
                  f'{register}{extension}, which counts for all registers')
     for x in s.uses(name):

@@ -30,7 +30,7 @@ def fix_extensions(s: Names) -> None:
         elif a.extension in ('.CLK', '.C'):
             signs = [x for x in a.right if x.text not in ('(', ')') and x.kind != 'id']
             if signs or any(s.signals[n].pin not in (1, None) for n in s.reads(a.right)):
-                s.say.cant(a.first, f'{s.label(a)}: pin 1 is the clock of every register '
+                s.say.cant(a.first, f'{a.label}: pin 1 is the clock of every register '
                                     '(MANUAL.md, Old sources)')
 
 
@@ -73,7 +73,7 @@ def single(s: Names, a: Statement) -> bool:
 
 def fix_control(s: Names, a: Statement) -> None:
     """Clock enables, resets and presets at the clock: .CE, .SR, .CLR and .SET."""
-    names, label = s.members(a.named), s.label(a)
+    names, label = s.members(a.named), a.label
     if names is None or a.under or a.left[0].text == '!':
         return s.say.cant(a.first, label + ': under a condition: write it as data')
     inverts = s.inverts(names)
@@ -131,7 +131,7 @@ def preset_as_reset(s: Names, a: Statement) -> bool:
     if any(x.kind == 'ext' and x.word in BY_COMPLEMENT
            and names & set(s.members(s.before(x)) or []) for x in s.t):
         return False
-    was, x = s.label(a), a.left[-1]
+    was, x = a.label, a.left[-1]
     x.out = '.AR' if x.text.isupper() else '.ar'
     for n in dict.fromkeys(s.targets(a)):
         if n not in s.held:

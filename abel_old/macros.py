@@ -7,7 +7,7 @@ from .directives import Walk, definition
 from .records import Macro
 from .tables import COMPARISONS, OPERATORS
 from .text import Text
-from .tokens import Stop, Token, cut, raw, split, squeeze, written
+from .tokens import Stop, Token, cut, joined, raw, split, squeeze, written
 
 ROUNDS, TOO_MANY = 8, 100000
 
@@ -109,9 +109,8 @@ def define_anew(text: Text, walk: Walk, macro: Macro) -> None:
     for switch in walk.switches:
         if switch.at >= macro.last.at:
             table = OPERATORS if switch.word == '@ALTERNATE' else {}
-            new = ''.join((x.blanks if k else '')
-                          + (table.get(x.text, x.text) if x.at in body else x.text)
-                          for k, x in enumerate(text.between(macro.name, macro.last)))
+            new = joined(text.between(macro.name, macro.last), lambda x:
+                         table.get(x.text, x.text) if x.at in body else x.text)
             switch.after += ' ' + re.sub(r'\s*\n\s*', ' ', new) + ';'
             text.say.change(switch, f'macro {name}, called under both sets of operators',
                             'defined anew here')

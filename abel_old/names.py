@@ -8,7 +8,7 @@ from typing import TYPE_CHECKING, Iterable
 from .records import Declaration, Macro, Signal, Statement
 from .tables import CONTROLS, INPUTS
 from .text import Report, Text
-from .tokens import Token, number, split, squeeze
+from .tokens import Token, number, split
 
 if TYPE_CHECKING:
     from .module import Module
@@ -18,10 +18,10 @@ WIDE = 1000                   # names or numbers of a range
 RANGE = re.compile(r'(.*?)(\d{1,4})$')
 
 
-def span(first: int, last: int) -> list[int]:
+def span(first: int, last: int) -> range:
     """All numbers from the first up or down to the last."""
     step = 1 if first <= last else -1
-    return list(range(first, last + step, step))[:WIDE]
+    return range(first, last + step, step)[:WIDE]
 
 
 def attributes(tokens: Iterable[Token]) -> set[str]:
@@ -215,9 +215,6 @@ class Names(Text):
                 return
         x = (sections + [self.module.end])[0]
         x.before = f'equations {text} {x.before}'
-
-    def label(self, a: Statement) -> str:
-        return squeeze([*a.left, a.sign, *a.right])
 
     def statement(self, a: Statement) -> list[Token]:
         return self.between(a.first, a.last)

@@ -6,7 +6,7 @@ from __future__ import annotations
 
 from dataclasses import dataclass, field
 
-from .tokens import Token
+from .tokens import Token, squeeze
 
 
 @dataclass(eq=False)
@@ -31,6 +31,15 @@ class Statement:
     @property
     def extension(self) -> str:
         return self.left[-1].word if self.left[-1].kind == 'ext' else ''
+
+    @property
+    def bare(self) -> list[Token]:
+        """That without !, too."""
+        return [x for x in self.named if x.text != '!']
+
+    @property
+    def label(self) -> str:
+        return squeeze([*self.left, self.sign, *self.right])
 
     @property
     def named(self) -> list[Token]:

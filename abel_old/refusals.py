@@ -2,8 +2,8 @@
 from __future__ import annotations
 
 from .names import Names
-from .records import Statement
 from .tables import PRESETS, RESETS
+from .tokens import Token
 
 
 def look(s: Names) -> None:
@@ -19,34 +19,28 @@ def look(s: Names) -> None:
 
 def loops(s: Names) -> None:
     """Equations that read themselves; those of macros are not looked at."""
-    reads: dict[str, dict[str, Statement]] = {}
-    kept = set(s.assignments)
+    reads: dict[str, set[str]] = {}
+    places: dict[str, Token] = {}
+    kept, done = set(s.assignments), s.registers
     for a in s.module.assignments:
-        if a not in kept or a.sign.text not in ('=', '?=') or a.enables \
-                or a.extension not in ('', '.COM'):
-            continue
-        names = s.targets(a)
-        same = s.members([x for x in a.right if x.kind != 'ext']) or []
-        if names and len(names) == len(same):
-            for name, read in zip(names, same):
-                reads.setdefault(name, {})[read] = a
-        elif len(names) == 1:
-            reads.setdefault(names[0], {}).update(dict.fromkeys(s.reads(a.right), a))
-    done: set[str] = set()
+        if a in kept and a.sign.text in ('=', '?=') and not a.enables \
+                and a.extension in ('', '.COM'):
+            names = s.targets(a)
+            same = s.members([x for x in a.right if x.kind != 'ext']) or []
+            each = [{n} for n in same] if len(same) == len(names) else [s.reads(a.right)]
+            for name, read in zip(names, each if len(each) == len(names) else []):
+                reads.setdefault(name, set()).update(read)
+                places.setdefault(name, a.first)
     for name in reads:
-        if name in s.registers | done:
-            continue
-        path, stack = {name}, [name]
-        while stack:
-            reached = set(reads[stack.pop()])
-            if name in reached:
-                s.say.cant(next(iter(reads[name].values())).first, f'{name} reads itself without '
-                           'a clock, as a latch does (HAZARDS.md, Latches)')
-                done |= path
-                break
-            new = {n for n in reached - path if n in reads and n not in s.registers}
-            path |= new
-            stack += sorted(new)
+        path: set[str] = set()
+        more = {name} - done
+        while more:
+            path |= more
+            more = {r for n in more for r in reads[n] if r in reads} - s.registers - path
+        if any(name in reads[n] for n in path):
+            s.say.cant(places[name], f'{name} reads itself without a clock, as a latch does '
+                                     '(HAZARDS.md, Latches)')
+            done = done | path
 
 
 def unread(s: Names) -> None:

@@ -13,7 +13,7 @@ class Registers:
 
     def __init__(self, s: Names) -> None:
         self.s = s
-        self.inputs = [(a, s.members(a.named) or [squeeze(self.bare(a))])
+        self.inputs = [(a, s.members(a.named) or [squeeze(a.bare)])
                        for a in s.extended(*INPUTS)]
         self.uses: dict[str, list[Statement]] = {}
         for a, names in self.inputs:
@@ -21,9 +21,6 @@ class Registers:
                 self.uses.setdefault(name, []).append(a)
         self.nodes: dict[str, dict[str, str]] = {}
         self.noded = {name for name, uses in self.uses.items() if self.needs_nodes(uses)}
-
-    def bare(self, a: Statement) -> list[Token]:
-        return [x for x in a.named if x.text != '!']
 
     def run(self) -> None:
         members = self.find_members()
@@ -93,8 +90,8 @@ class Registers:
         if any('?' in n for n in names):
             self.s.say.cant(a.first, was + ': write the equation of the register (MANUAL.md, Old '
                                            'sources)')
-        elif self.bare(a):
-            self.write_nodes(self.bare(a), names, a.left[-1])
+        elif a.bare:
+            self.write_nodes(a.bare, names, a.left[-1])
             a.sign.out = a.sign.text.replace(':', '')
             self.s.told(self.s.statement(a), was)
 
@@ -106,7 +103,7 @@ class Registers:
             return self.s.say.cant(a.first, f'{was}: some of these registers have {partner} and '
                                             'some not')
         of_q = extension != '.T' and any(self.s.inverts(names))
-        held = squeeze(self.bare(a)) + ('.Q' if of_q else '')
+        held = squeeze(a.bare) + ('.Q' if of_q else '')
         a.left[-1].out = '.D' if of_q else ''
         a.sign.out = '?:=' if '?' in a.sign.text else ':='
         no = '!' if (a.left[0].text == '!') != (extension in ('.K', '.R')) else ''

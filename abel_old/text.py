@@ -125,8 +125,10 @@ class Text:
         last = self.ending(name)
         was = squeeze(self.between(first, last))
         base = name.text.strip("'").replace('\\', '/').split('/')[-1]
-        text = self.find(base) if name.kind == 'str' else None
-        if text is None:
+        folder = os.path.dirname(self.path) or '.'
+        paths = [path for file in sorted(os.listdir(folder)) if file.lower() == base.lower()
+                 and os.path.isfile(path := os.path.join(folder, file))]
+        if not paths:
             self.say.cant(first, f'{was}: no such file beside {os.path.basename(self.path)}')
             return last.at + 1
         if len(self.t) > TOO_LONG or self.included.count(base) > 20:
@@ -135,6 +137,8 @@ class Text:
         self.comment(first, last)
         last.after += '\n'
         self.included.append(base)
+        with open(paths[0], encoding='latin-1', newline='') as opened:
+            text = opened.read().replace('\r\n', '\n').rstrip('\x1a')
         more, after = cut(text, base), self.next(last)
         rest = more.pop().blanks.rstrip('\x1a')
         after.blanks = (rest.rstrip('\n') if rest.strip('\r\n') else '') + after.blanks
@@ -142,23 +146,11 @@ class Text:
         self.number()
         return last.at + 1
 
-    def find(self, base: str) -> str | None:
-        """The text of the file of this name beside the source, in any case of letters."""
-        folder = os.path.dirname(self.path) or '.'
-        for file in sorted(os.listdir(folder)):
-            path = os.path.join(folder, file)
-            if file.lower() == base.lower() and os.path.isfile(path):
-                with open(path, 'rb') as opened:
-                    return opened.read().decode('latin-1').replace('\r\n', '\n').rstrip('\x1a')
-        return None
-
     def library(self, first: Token) -> None:
         """A comment, if a file of this name is included."""
         name = self.next(first)
         base = name.text.strip("'")
-        if name.kind != 'str':
-            return
-        if any(x.lower().split('.')[0] == base.lower() for x in self.included):
+        if base.lower() in [x.lower().split('.')[0] for x in self.included]:
             self.drop(first, self.ending(name), 'its text is here already')
         else:
             self.say.cant(first, f'{squeeze([first, name])}: put the text of {base}.inc here')

@@ -2,7 +2,7 @@
 from __future__ import annotations
 
 import re
-from typing import Iterable
+from typing import Callable, Iterable
 
 TOKEN = re.compile(r"""(?P<blanks>(?:[ \t\r\n\f\x1a]+|"[^"\n]*"?|//[^\n]*)*)(?:
   (?P<str>'(?:\\.|[^'\\])*'?)
@@ -60,15 +60,19 @@ def cut(text: str, file: str = '') -> list[Token]:
     return tokens
 
 
+def joined(tokens: Iterable[Token], text: Callable[[Token], str]) -> str:
+    """The texts of the tokens, without the blanks before the first."""
+    return ''.join((x.blanks if k else '') + text(x) for k, x in enumerate(tokens))
+
+
 def raw(tokens: Iterable[Token]) -> str:
-    """The old text, without the blanks before its first token."""
-    return ''.join((x.blanks if k else '') + x.text for k, x in enumerate(tokens))
+    """The old text."""
+    return joined(tokens, lambda x: x.text)
 
 
 def written(tokens: Iterable[Token]) -> str:
-    """The new text, without the blanks before its first token."""
-    return ''.join((x.blanks if k else '') + x.before + x.out + x.after
-                   for k, x in enumerate(tokens))
+    """The new text."""
+    return joined(tokens, lambda x: x.before + x.out + x.after)
 
 
 def squeeze(tokens: Iterable[Token]) -> str:

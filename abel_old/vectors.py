@@ -5,7 +5,7 @@ from .declarations import take_out
 from .names import Names
 from .records import Declaration, Part, Statement
 from .tables import EDGES
-from .tokens import Token
+from .tokens import Token, joined
 
 
 def special(s: Names, x: Token) -> str:
@@ -68,8 +68,8 @@ def several(s: Names, row: Statement, edge: str) -> None:
     hits = {x.at for x in row.left if special(s, x) == edge}
     levels, before = EDGES[edge], ''
     for level in levels[:-1]:
-        before += ''.join((x.blanks if k else '') + (level if x.at in hits else x.text)
-                          for k, x in enumerate(s.t[row.first.at:row.sign.at])) + ' -> .X.; '
+        before += joined(s.t[row.first.at:row.sign.at],
+                         lambda x: level if x.at in hits else x.text) + ' -> .X.; '
     for x in row.left:
         if x.at in hits:
             x.out = levels[-1]
