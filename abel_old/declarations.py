@@ -57,14 +57,14 @@ def fix_string(s: Names, d: Declaration, string: Token) -> None:
 
 def look(s: Names, d: Declaration, string: Token, word: str) -> None:
     """Says what there is to say of an attribute."""
-    lower, names = word.lower(), {name for name, _ in d.names}
+    lower, names = word.lower(), set(d.names)
     if lower in ('latch', 'reg_l'):
         s.say.cant(string, f'{string.text}: these devices have no latches (HAZARDS.md, Latches)')
     elif lower not in ATTRIBUTES:
         s.say.cant(string, f'{word} in {string.text}: no attribute that I know')
     elif lower in ('neg', 'pos') and s.device == 'GAL22V10':
         now = 'invert' if lower == 'neg' else 'buffer'
-        for name, _ in d.names:
+        for name in d.names:
             if name in s.registers and name in s.signals \
                     and not s.signals[name].words & {'buffer', 'invert'}:
                 s.say.note(string, f"{name}: '{lower}' is ignored; if the level after power-up or "
@@ -108,11 +108,11 @@ def fix_pins(s: Names) -> None:
 
 def supplies(s: Names, d: Declaration) -> None:
     size = 24 if s.device == 'GAL22V10' else 20
-    dead = [k for k, (name, _) in enumerate(d.names) if name in s.signals and (
+    dead = [k for k, name in enumerate(d.names) if name in s.signals and (
         s.signals[name].pin in (size // 2, size) or s.signals[name].plcc in UNCONNECTED)]
     if not dead:
         return
-    names = [d.names[k][0] for k in dead]
+    names = [d.names[k] for k in dead]
     kept = [n for n in names if s.uses(n)]
     if len(dead) == len(d.names):
         s.comment(d.first, d.last)
@@ -129,7 +129,7 @@ def supplies(s: Names, d: Declaration) -> None:
 
 
 def nodes(s: Names, d: Declaration) -> None:
-    inputs = {name: NODES[value] for (name, _), (value, _) in zip(d.names, d.numbers)
+    inputs = {name: NODES[value] for name, value in zip(d.names, d.numbers)
               if s.device == 'GAL22V10' and value in NODES}
     if inputs and len(inputs) < len(d.names):
         s.say.cant(d.first, 'nodes 25 and 26 beside others: declare them alone')

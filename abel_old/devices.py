@@ -106,9 +106,9 @@ def package(s: Names, token: Token, old: str) -> None:
         if d.kind == 'PIN' and d.numbers:
             was = squeeze(d.digits)
             s.blank(d.digits)
-            d.digits[0].out = ','.join(numeral(PLCC.get(v or 0, 0), x) for v, x in d.numbers)
+            d.digits[0].out = ','.join(numeral(PLCC.get(n or 0, 0), d.digits[0]) for n in d.numbers)
             s.say.change(d.digits[0], f'pin {was} of the 28-pin package', d.digits[0].out)
-            for (name, _), (pin, _) in zip(d.names, d.numbers):
+            for name, pin in zip(d.names, d.numbers):
                 s.signals[name].pin, s.signals[name].plcc = PLCC.get(pin or 0), pin
     if s.module.of('TEST_VECTORS'):
         s.say.note(token, 'fuse files number the pins of the 24-pin package')

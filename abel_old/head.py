@@ -120,7 +120,7 @@ def fix_devices(s: Names, chosen: str | None, elsewhere: bool) -> None:
         elif part.owner:
             s.drop(part.first, part.last, 'of device ' + part.owner[1].text)
             others.add(part)
-            gone |= {name for name, _ in part.names} if isinstance(part, Declaration) else set()
+            gone.update(part.names if isinstance(part, Declaration) else ())
     more = [d for d in module.declarations if foreign(d, gone) and d not in others]
     while more:
         for d in more:
@@ -138,7 +138,6 @@ def fix_devices(s: Names, chosen: str | None, elsewhere: bool) -> None:
 
 def foreign(d: Declaration, gone: set[str]) -> set[str]:
     """The names of a constant or of ISTYPE that stand for what another device has."""
-    names = [name for name, _ in d.names]
     if d.kind == 'ISTYPE':
-        return set(names) & gone
-    return {n for n, value in zip(names, d.values) if {x.text for x in value} & gone}
+        return set(d.names) & gone
+    return {n for n, value in zip(d.names, d.values) if {x.text for x in value} & gone}

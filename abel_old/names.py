@@ -6,7 +6,7 @@ from functools import cached_property
 from typing import TYPE_CHECKING, Iterable
 
 from .records import Declaration, Macro, Signal, Statement
-from .tables import CONTROLS, INPUTS
+from .tables import CONTROLS, DECLARING, INPUTS
 from .text import Report, Text
 from .tokens import Token, number, split
 
@@ -24,27 +24,17 @@ def span(first: int, last: int) -> range:
     return range(first, last + step, step)[:WIDE]
 
 
-def attributes(tokens: Iterable[Token]) -> set[str]:
-    return {w for x in tokens if x.kind == 'str' for w in re.findall(r'\w+', x.text.lower())}
-
-
 def expand(tokens: list[Token]) -> list[tuple[str, Token]] | None:
     """The names of a declaration or a set; None if there is something else."""
     found: list[tuple[str, Token]] = []
-    i = 0
-    while i < len(tokens):
-        x = tokens[i]
-        if x.kind == 'id' and len(tokens) > i + 2 and tokens[i + 1].text == '..':
-            first, last = RANGE.match(x.text), RANGE.match(tokens[i + 2].text)
-            if not first or not last:
-                return None
-            found += [(first[1] + str(n), x) for n in span(int(first[2]), int(last[2]))]
-            i += 2
-        elif x.kind == 'id':
+    for part in filter(None, split(x for x in tokens if x.text != '!')):
+        x, first, last = part[0], RANGE.match(part[0].text), RANGE.match(part[-1].text)
+        if x.kind == 'id' and len(part) == 1:
             found.append((x.text, x))
-        elif x.text not in (',', '!'):
+        elif x.kind == 'id' and part[1].text == '..' and len(part) == 3 and first and last:
+            found += [(first[1] + str(n), x) for n in span(int(first[2]), int(last[2]))]
+        else:
             return None
-        i += 1
     return found
 
 
@@ -112,46 +102,38 @@ class Names(Text):
         return sum((bit or 0) << k for k, bit in enumerate(reversed(bits)))
 
     def declare(self, d: Declaration) -> None:
-        d.names, d.tail = expand(d.tokens[:d.at]) or [], d.tokens[d.at:]
+        places, d.tail = expand(d.tokens[:d.at]) or [], d.tokens[d.at:]
+        d.names = [name for name, _ in places]
         if d.kind in ('PIN', 'NODE'):
-            self.declare_signals(d)
-        elif d.kind == 'ISTYPE':
-            for name, _ in d.names:
-                if name in self.signals:
-                    self.signals[name].words |= attributes(d.tail)
+            self.number_pins(d)
+            for pin, (name, x) in zip(d.numbers + [None] * len(places), places):
+                low = x.at > 0 and self.t[x.at - 1].text == '!'
+                self.signals.setdefault(name, Signal(pin, d.kind == 'NODE', set(), d, x, low))
+        elif d.kind == 'STATE_REGISTER':
+            self.signals.update((n, Signal(None, True, {'reg'}, d, x)) for n, x in places)
         elif d.kind == '=':
             d.values = [value for value in split(d.tail[1:]) if value]
-            for (name, _), value in zip(d.names, d.values):
+            for name, value in zip(d.names, d.values):
                 self.constants[name] = value
                 if len(value) == 1 and value[0].kind == 'spec':
                     self.specials[name] = value[0].word
                 elif len(value) == 1 and value[0].text in self.specials:
                     self.specials[name] = self.specials[value[0].text]
-        elif d.kind == 'STATE_REGISTER':
-            for name, x in d.names:
-                self.signals[name] = Signal(None, True, attributes(d.tail) | {'reg'}, d, x)
+        for signal in [self.signals[n] for n in d.names if n in self.signals]:
+            if d.kind in DECLARING:
+                signal.words |= {w for x in d.tail if x.kind == 'str'
+                                 for w in re.findall(r'\w+', x.text.lower())}
 
-    def declare_signals(self, d: Declaration) -> None:
+    def number_pins(self, d: Declaration) -> None:
         rest = d.tail[1:]
         if len(rest) > 1 and rest[0].word == 'IN' and 'IN' not in self.renamed:
             d.owner, rest = rest[:2], rest[2:]
         end = next((k for k, x in enumerate(rest) if x.kind not in ('num', 'dir')
                     and x.text not in (',', '..')), len(rest))
-        d.digits, d.tail, i = rest[:end], rest[end:], 0
-        while i < end:
-            x = rest[i]
-            first = number(x) if x.kind == 'num' else None
-            if first is not None and i + 2 < end and rest[i + 1].text == '..':
-                d.numbers += [(n, x) for n in span(first, number(rest[i + 2]) or first)]
-                i += 2
-            elif x.text != ',':
-                d.numbers.append((first, x))
-            i += 1
-        pins = [n for n, _ in d.numbers] + [None] * len(d.names)
-        for pin, (name, x) in zip(pins, d.names):
-            low = x.at > 0 and self.t[x.at - 1].text == '!'
-            self.signals.setdefault(name, Signal(pin, d.kind == 'NODE', set(), d, x, low))
-            self.signals[name].words |= attributes(d.tail)
+        d.digits, d.tail = rest[:end], rest[end:]
+        for part in filter(None, split(d.digits)):
+            first, last = (number(x) if x.kind == 'num' else None for x in (part[0], part[-1]))
+            d.numbers += [first] if first is None or last is None else [*span(first, last)]
 
     def before(self, extension: Token) -> list[Token]:
         """What an extension stands behind: a name or a set."""

@@ -71,9 +71,9 @@ class Declaration(Part):
     """The keyword, of its kind, is `tokens[at]`; `names` stand before it."""
     tokens: list[Token] = field(default_factory=list)
     at: int = 0
-    names: list[tuple[str, Token]] = field(default_factory=list)
+    names: list[str] = field(default_factory=list)
     digits: list[Token] = field(default_factory=list)
-    numbers: list[tuple[int | None, Token]] = field(default_factory=list)
+    numbers: list[int | None] = field(default_factory=list)
     tail: list[Token] = field(default_factory=list)
     values: list[list[Token]] = field(default_factory=list)
 

@@ -4,7 +4,7 @@ from __future__ import annotations
 from .equations import single
 from .names import Names
 from .records import Statement
-from .tables import INPUTS, JOINED, PARTNERS
+from .tables import BY_NODES, IN_PLACE, INPUTS, PARTNERS
 from .tokens import Token, squeeze
 
 
@@ -76,12 +76,12 @@ class Registers:
 
     def write_nodes(self, tokens: list[Token], names: list[str], extension: Token) -> None:
         self.s.blank(tokens)
-        new = []
+        new, letter = [], extension.word[1:]
         for name in names:
             mine = self.nodes.setdefault(name, {})
-            if extension.word not in mine:
-                mine[extension.word] = self.s.free(name, '_' + extension.word[1:])
-            new.append(mine[extension.word])
+            if letter not in mine:
+                mine[letter] = self.s.free(name, '_' + letter)
+            new.append(mine[letter])
         tokens[0].out = f"[{','.join(new)}]" if new[1:] else new[0]
         extension.out = ''
 
@@ -96,45 +96,38 @@ class Registers:
             self.s.told(self.s.statement(a), was)
 
     def in_place(self, a: Statement, names: list[str]) -> None:
-        was, extension, one = squeeze(self.s.statement(a)), a.extension, single(self.s, a)
+        was, extension, negative = squeeze(self.s.statement(a)), a.extension, a.left[0].text == '!'
         partner = PARTNERS.get(extension)
         has = {any(b.extension == partner for b in self.uses[n]) for n in names}
-        if partner and len(has) > 1:
+        if len(has) > 1:
             return self.s.say.cant(a.first, f'{was}: some of these registers have {partner} and '
                                             'some not')
         of_q = extension != '.T' and any(self.s.inverts(names))
         held = squeeze(a.bare) + ('.Q' if of_q else '')
         a.left[-1].out = '.D' if of_q else ''
         a.sign.out = '?:=' if '?' in a.sign.text else ':='
-        no = '!' if (a.left[0].text == '!') != (extension in ('.K', '.R')) else ''
-        if a.left[0].text == '!':
-            a.left[0].out = ''
-        right = JOINED.get(extension, ' # ') + held
-        if partner and True in has:
-            right = ' & !' + held if extension == '.J' else ''
+        no, right = IN_PLACE[extension, True in has]
+        if negative:
+            a.left[0].out, no = '', '' if no else '!'
         if no or right:
+            one = single(self.s, a)
             a.right[0].before = no + ('' if one else '(') + a.right[0].before
-            a.right[-1].after += ('' if one else ')') + right
+            a.right[-1].after += ('' if one else ')') + right.replace('%s', held)
         self.s.told(self.s.statement(a), was)
 
     def declare(self, name: str) -> None:
         """Declares the nodes of a register, and writes its equation."""
-        s = self.s
+        s, mine = self.s, self.nodes[name]
+        kinds = ''.join(e for e in 'TJKSR' if e in mine)
         if name not in s.signals:
             return s.say.cant(s.t[0], f'{name}: not declared')
         signal = s.signals[name]
-        mine = {e: self.nodes[name][e] for e in ('.T', '.J', '.K', '.S', '.R')
-                if e in self.nodes[name]}
-        signal.declaration.last.after += f" {','.join(mine.values())} node;"
-        inverts = 'invert' in signal.words and '.T' not in mine
-        q, d = (name + '.Q', name + '.D') if inverts else (name, name)
-        on, off = mine.get('.J') or mine.get('.S'), mine.get('.K') or mine.get('.R')
-        kept = f'!{off} & {q}' if off else q
-        value = f'{on} # {kept}' if on else kept
-        if '.T' in mine:
-            value = f"{mine['.T']} $ {q}"
-        elif on and off and '.J' in mine:
-            value = f'{on} & !{q} # {kept}'
-        s.equation(f'{d} := {value};', signal.declaration.last)
-        s.say.change(signal.token, f"{name}, a register with {' '.join(mine)}",
-                     f'{d} := {value}; with nodes')
+        if kinds not in BY_NODES:
+            return s.say.cant(signal.token, f"{name}: a register with {' and '.join(kinds)}")
+        signal.declaration.last.after += f" {','.join(mine[e] for e in kinds)} node;"
+        inverts = 'invert' in signal.words and kinds != 'T'
+        value = BY_NODES[kinds].format(q=name + '.Q' if inverts else name, **mine)
+        equation = f"{name}{'.D' if inverts else ''} := {value};"
+        s.equation(equation, signal.declaration.last)
+        s.say.change(signal.token, f"{name}, a register with .{' .'.join(kinds)}",
+                     equation + ' with nodes')

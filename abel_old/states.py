@@ -18,7 +18,7 @@ class States:
         declarations = self.s.module.declarations
         registers = [d for d in declarations if d.kind == 'STATE_REGISTER']
         states = [d for d in declarations if d.kind == 'STATE']
-        names = [name for d in states for name, _ in d.names]
+        names = [name for d in states for name in d.names]
         for d in registers:
             if len(d.names) == 1:
                 self.register(d, names, len(registers) == 1)
@@ -32,7 +32,8 @@ class States:
 
     def register(self, d: Declaration, names: list[str], alone: bool) -> None:
         """The registers of a symbolic one, and the codes of its states, 0 for the first."""
-        s, (name, token) = self.s, d.names[0]
+        s, name = self.s, d.names[0]
+        token = s.signals[name].token
         diagrams = [x for x in s.module.of('STATE_DIAGRAM')
                     if [y.text for y in x.left[:1]] == [name]]
         listed = {y.left[0].text for x in diagrams for y in x.states if y.left}
@@ -56,16 +57,16 @@ class States:
     def constants(self, d: Declaration) -> None:
         """The names of states, as constants."""
         s, key = self.s, d.tokens[d.at]
-        codes = {name: self.codes.get(name) for name, _ in d.names}
-        missing = ', '.join(name for name, _ in d.names if codes[name] is None)
+        codes = {name: self.codes.get(name) for name in d.names}
+        missing = ', '.join(name for name in d.names if codes[name] is None)
         if len(d.tail) > 1:
             s.say.cant(d.first, f'{squeeze(d.tokens)}: write constants')
-        elif missing:
+        elif missing or not codes:
             s.say.cant(d.first, f'state {missing}: of which register?')
         else:
-            key.out = '= ' + ','.join(numeral(self.codes[name], key) for name, _ in d.names)
+            key.out = '= ' + ','.join(numeral(self.codes[name], key) for name in d.names)
             s.say.change(d.first, squeeze(d.tokens), 'constants: ' + ', '.join(
-                f'{name} = {codes[name]}' for name, _ in d.names))
+                f'{name} = {codes[name]}' for name in d.names))
 
     def resets(self, diagram: Part) -> None:
         at_once = [r for r in diagram.rows if r.first.word == 'ASYNC_RESET']

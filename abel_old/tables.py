@@ -84,7 +84,17 @@ NO_EXTENSIONS = {
 }
 INPUTS = {'.T', '.J', '.K', '.S', '.R'}           # of registers that aren't D registers
 PARTNERS = {'.J': '.K', '.S': '.R'}
-JOINED = {'.T': ' $ ', '.K': ' & ', '.R': ' & '}  # with the register; the others by #
+# What is written before and behind an input in its place, by whether its partner is there too.
+IN_PLACE = {
+    ('.T', False): ('', ' $ %s'), ('.K', False): ('!', ' & %s'), ('.R', False): ('!', ' & %s'),
+    ('.J', True): ('', ' & !%s'), ('.J', False): ('', ' # %s'),
+    ('.S', True): ('', ''), ('.S', False): ('', ' # %s'),
+}
+# The value of a register whose inputs are nodes.
+BY_NODES = {
+    'T': '{T} $ {q}', 'JK': '{J} & !{q} # !{K} & {q}', 'SR': '{S} # !{R} & {q}',
+    'J': '{J} # {q}', 'K': '!{K} & {q}', 'S': '{S} # {q}', 'R': '!{R} & {q}',
+}
 BY_COMPLEMENT = {'.D', '.Q', '.FB'} | INPUTS      # say something of the register itself
 RESETS, PRESETS = {'.AR', '.RE', '.ACLR'}, {'.AP', '.ASET'}      # at once
 CONTROLS = {'.OE', '.CLK', '.C', '.AR', '.SP', '.RE', '.PR', '.ACLR', '.ASET', '.AP', '.CE', '.SR',

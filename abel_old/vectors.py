@@ -80,7 +80,7 @@ def several(s: Names, row: Statement, edge: str) -> None:
 
 def fix_constants(s: Names, d: Declaration) -> None:
     """Takes out names of specials that aren't here, if nothing reads them."""
-    gone = {k: name for k, (name, _) in enumerate(d.names[:len(d.values)])
+    gone = {k: name for k, name in enumerate(d.names[:len(d.values)])
             if s.specials.get(name) in EDGES or is_heavy(s.specials.get(name, ''))}
     declared = {x.at for x in d.tokens}
     left = [x for x in s.t if x.text in gone.values() and x.kind == 'id' and x.untouched
