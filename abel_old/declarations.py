@@ -73,8 +73,6 @@ def look(s: Names, d: Declaration, string: Token, word: str) -> None:
         if names & {n for x in s.module.of('STATE_DIAGRAM') for n in s.members(x.left) or []}:
             s.say.note(string, f'{lower} of a diagram: where no transition is taken the registers '
                                'go to 0')
-    elif lower == 'retain':
-        s.say.note(string, "'retain' has no effect: HAZARDS.md")
 
 
 def take_out(s: Names, d: Declaration, places: list[int]) -> bool:

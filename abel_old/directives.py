@@ -76,10 +76,8 @@ class Walk:
             return self.text.include(first)
         if word in COMPARISONS:
             return self.compare(first, flat)
-        if word == '@IRPC':
-            return self.characters(first, flat)
         if word in BLOCKS:
-            return self.kept(first, flat)
+            return self.with_block(first, flat)
         if word == '@EXPR':
             flat.append(first)
             at = self.text.close(after.at) + 1 if after.text == '{' else after.at
@@ -123,13 +121,16 @@ class Walk:
                                     'arithmetic: check')
         return end
 
-    def kept(self, first: Token, flat: list[Token]) -> int:
-        name = self.text.next(first)
+    def with_block(self, first: Token, flat: list[Token]) -> int:
+        """A directive that abel has too; @IRPC as @IRP with the characters one by one."""
+        name, known = self.text.next(first).text, {*self.constants, *self.macros}
         opened = (self.arithmetic if first.word in ('@IF', '@REPEAT') else self.to)(first.at, '{')
-        if first.word in ('@IFDEF', '@IFNDEF') and name.text not in self.constants \
-                and name.text not in self.macros and any(x.text == name.text for x in flat):
-            self.say.note(first, f'{first.text} {name.text}: only macros and names of @CONST count '
+        if first.word in ('@IFDEF', '@IFNDEF') and name not in known \
+                and any(x.text == name for x in flat):
+            self.say.note(first, f'{first.text} {name}: only macros and names of @CONST count '
                                  'here; the name is declared')
+        if first.word == '@IRPC':
+            opened = self.characters(first) + 1
         return self.block(opened, flat)
 
     def compare(self, first: Token, flat: list[Token]) -> int:
@@ -143,7 +144,7 @@ class Walk:
         text = raw(self.t[at + 1:closed])
         parts = [x.strip() for x in text.split(',')]
         yes = parts == [''] if blank else len(parts) == 2 and parts[0] == parts[1]
-        if '?' in text and not (blank and re.sub(r'\?[A-Za-z_~][\w~]*', '', text).strip()):
+        if '?' in text:
             self.say.cant(first, f'{first.text} asks for an argument of a macro: write what it '
                                  'would give (REFUSALS.md, Unsupported)')
             return self.block(opened.at, flat)
@@ -157,19 +158,16 @@ class Walk:
         self.run(opened.at + 1, last, flat)
         return last.at + 1
 
-    def characters(self, first: Token, flat: list[Token]) -> int:
-        """@IRPC, as @IRP with the characters one by one."""
+    def characters(self, first: Token) -> int:
+        """Puts commas between the characters of an @IRPC; the index of their )."""
         at = self.to(first.at, '(')
         closed = self.text.close(at)
         tokens = self.t[at + 1:closed]
-        text = raw(tokens)
+        text, shown = raw(tokens), self.t[first.at:closed + 1]
         if at != first.at + 2 or not text or re.search(r"[\s,()\[\]'\"{}?]", text):
             self.say.cant(first, "@IRPC over characters that @IRP can't take one by one")
         else:
-            first.out = first.text[:-1]
-            for x in tokens:
-                x.out = x.blanks = ''
-            tokens[0].out = ','.join(text)
-            shown = self.t[first.at:closed + 1]
+            self.text.blank(tokens)
+            first.out, tokens[0].out = first.text[:-1], ','.join(text)
             self.say.change(first, squeeze(shown), written(shown))
-        return self.block(closed + 1, flat)
+        return closed

@@ -12,7 +12,7 @@ DIRECTIVES = {
 }
 # Directives that compare texts, those with a block that abel has too, and those that stay.
 COMPARISONS = {'@IFB', '@IFNB', '@IFIDEN', '@IFNIDEN'}
-BLOCKS = {'@IF', '@IFDEF', '@IFNDEF', '@IRP', '@REPEAT'}
+BLOCKS = {'@IF', '@IFDEF', '@IFNDEF', '@IRP', '@IRPC', '@REPEAT'}
 STAY = {'@DCSET', '@ONSET'}
 
 # An operator of the alternate set, and that of the standard set.
