@@ -2,6 +2,7 @@ pub mod Common
 pub mod FirstPlaces
 pub mod FixedLevels
 pub mod GivenTests
+pub mod LoadedLists
 pub mod OwnPins
 pub mod RowReads
 pub mod RowValues

@@ -55,6 +55,7 @@ device_from_tests t p =
       inverted_end = grind (arith, nat_tests, ends);
       registered_end = grind (arith, nat_tests, ends);
       switches_end = grind (arith, nat_tests, ends);
+      few_switches = grind (arith, nat_tests, ends);
       few_fixed = grind (arith, nat_tests, ends);
       inverted = λ c within. inverted_where (inverted_at t c) t.flip (at_below (length t.cells) (λ c. same_level (is_some (inverted_at t c)) (not (is_always t.flip))) p.inverted c within);
       registered = λ c within. registered_where (registered_at t c) (cell_at t c).kinds (at_below (length t.cells) (λ c. same_level (is_some (registered_at t c)) (is_either (cell_at t c).kinds)) p.registered c within);

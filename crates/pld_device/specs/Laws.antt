@@ -128,10 +128,11 @@ pub record IsDevice (t : Table) : Type 0 where
   pub control : (what : Control) (fuse : ℕ) → fuse_for t what ≡ Some fuse → IsControlFuse t fuse
   pub control_listed : All (IsControlFuse t) (control_fuses t)
   pub control_apart : (a b : Control) (fuse : ℕ) → fuse_for t a ≡ Some fuse → fuse_for t b ≡ Some fuse → a ≡ b
-  -- no control fuse is that of a cell or a row past the last one, and at most 16 are fixed
+  -- no control fuse is that of a cell or a row past the last one, at most 64 switch a row, and at most 16 are fixed
   pub inverted_end : length t.inverted ≤ length t.cells
   pub registered_end : length t.registered ≤ length t.cells
   pub switches_end : length t.row_switches ≤ t.rows
+  pub few_switches : length t.row_switches ≤ 64
   pub few_fixed : length t.fixed ≤ 16
   -- a fuse says inverted unless the device always complements, and one says registered if a cell may be either
   pub inverted : EachIndex t.cells (λ c. IsSome (inverted_at t c) ↔ (t.flip ≢ Always))

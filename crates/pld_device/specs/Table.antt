@@ -1,6 +1,7 @@
 -- A device's table: everything that distinguishes one device from another (this project's rule,
 -- over the logic diagrams and control fuses of the devices' datasheets).
-use Rattle.std.specs.Prelude.{ℕ, ◌+◌, ◌<◌, ◌≤◌, Option, List, None, get_or, length}
+use Rattle.std.specs.Prelude.{ℕ, ◌+◌, ◌<◌, ◌≤◌, Option, List, None, get_or, length, map}
+use Rattle.std.specs.List.{range_with_len}
 use Rattle.pld_base.specs.declared.device_name.DeviceName.{DeviceName}
 use Rattle.pld_device.specs.declared.carry.Carry.{Carry}
 use Rattle.pld_device.specs.declared.cell.Cell.{Cell}
@@ -72,6 +73,13 @@ inverted_at t c = get_or t.inverted c None
 
 abbrev pub registered_at : Table → ℕ → Option FuseBit
 registered_at t c = get_or t.registered c None
+
+-- the same of every cell, in order
+abbrev pub inverted_by_cell : Table → List (Option FuseBit)
+inverted_by_cell t = map (inverted_at t) (range_with_len 0 (length t.cells))
+
+abbrev pub registered_by_cell : Table → List (Option FuseBit)
+registered_by_cell t = map (registered_at t) (range_with_len 0 (length t.cells))
 
 -- the row is one of the cell's data rows
 abbrev pub IsDataRow : Table → (c row : ℕ) → Type 0

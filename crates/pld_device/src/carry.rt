@@ -24,3 +24,10 @@ impl Carry {
         }
     }
 }
+
+/// What is at the places of a list that are not used yet.
+impl Default for Carry {
+    fn default() -> Carry {
+        Carry::Pin(0)
+    }
+}

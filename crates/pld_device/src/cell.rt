@@ -12,3 +12,16 @@ pub struct Cell {
     pub room: u8,
     pub kinds: Kinds,
 }
+
+/// What is at the places of a list that are not used yet.
+impl Default for Cell {
+    fn default() -> Cell {
+        Cell {
+            pin: 0,
+            enable: Enable::Row(0),
+            first: 0,
+            room: 0,
+            kinds: Kinds::Combinational,
+        }
+    }
+}

@@ -7,6 +7,7 @@ ghost use Rattle.pld_device.specs.Registers.{says};
 use crate::device::Device;
 use crate::fuse_bit::FuseBit;
 use crate::fuses::Fuses;
+use crate::loaded::Loaded;
 
 /// How many fuses have a fixed level at most.
 const FIXED: u16 = 16;
@@ -19,14 +20,14 @@ fn is_wrong(levels: &[bool], bit: FuseBit) -> bool
     levels[usize::from(bit.fuse)] != bit.level
 }
 
-/// The first fuse, in the order of `Device::fixed`, whose level is not the one that the device fixes. Takes no memory.
-pub fn wrong_fuse<D: Device>(fuses: &Fuses) -> Option<u16>
+/// The first fuse, in the order of `Loaded::fixed`, whose level is not the one that the device fixes. Takes no memory.
+pub fn wrong_fuse<D: Device>(device: &Loaded<D>, fuses: &Fuses) -> Option<u16>
     requires { length fuses.now ≡ D.table.fuses }
     ensures first { result ≡ wrong_fixed fuses.now D.table.fixed }
     ensures none { (result ≡ None) ↔ HasFixedLevels D.table fuses.now }
 {
     for index in 0..FIXED {
-        let Some(bit) = D::fixed(index) else {
+        let Some(bit) = device.fixed(index) else {
             return None;
         };
         if is_wrong(fuses.levels(), bit) {

@@ -16,42 +16,38 @@ use pld_base::DeviceName;
 pub struct Sample;
 
 impl Part for Sample {
-    ghost use Rattle.std.specs.Prelude.{refl};
-    ghost use Rattle.pld_device.specs.Table.{chip_of};
     ghost use Rattle.pld_device.specs.SampleTable.{sample, sample_sound};
 
-    const CHIP: Chip = Chip {
-        name: DeviceName::GAL22V10,
-        pins: 10,
-        ground_pin: 5,
-        fuses: 60,
-        short: 57,
-        columns: 8,
-        rows: 6,
-        cells: 2,
-        clock: 1,
-        reset: Some(0),
-        preset: Some(5),
-        flip: Flip::AfterRegister,
-    };
+    ghost table = { λ p. sample };
 
-    ghost CHIP = { chip_of sample };
+    ghost sound = { λ p. sample_sound };
 
-    ghost table = { sample };
-
-    ghost chip_is = { refl };
-
-    ghost sound = { sample_sound };
+    fn chip(&self) -> Chip {
+        Chip {
+            name: DeviceName::GAL22V10,
+            pins: 10,
+            ground_pin: 5,
+            fuses: 60,
+            short: 57,
+            columns: 8,
+            rows: 6,
+            cells: 2,
+            clock: 1,
+            reset: Some(0),
+            preset: Some(5),
+            flip: Flip::AfterRegister,
+        }
+    }
 
     #[rattlefmt::skip]
-    fn carries(pair: u16) -> Carry {
+    fn carries(&self, pair: u16) -> Carry {
         match pair {
             0 => Carry::Pin(1), 1 => Carry::Cell(0),
             2 => Carry::Pin(2), _ => Carry::Cell(1),
         }
     }
 
-    fn cell(index: u8) -> Cell {
+    fn cell(&self, index: u8) -> Cell {
         match index {
             0 => Cell {
                 pin: 9,
@@ -70,14 +66,14 @@ impl Part for Sample {
         }
     }
 
-    fn inverted_at(cell: u8) -> Option<FuseBit> {
+    fn inverted_at(&self, cell: u8) -> Option<FuseBit> {
         Some(FuseBit {
             fuse: 48 + u16::from(cell),
             level: false,
         })
     }
 
-    fn registered_at(cell: u8) -> Option<FuseBit> {
+    fn registered_at(&self, cell: u8) -> Option<FuseBit> {
         match cell {
             0 => Some(FuseBit {
                 fuse: 50,
@@ -87,11 +83,11 @@ impl Part for Sample {
         }
     }
 
-    fn row_switch(row: u16) -> Option<u16> {
+    fn row_switch(&self, row: u16) -> Option<u16> {
         if row < 6 { Some(51 + row) } else { None }
     }
 
-    fn fixed(index: u16) -> Option<FuseBit> {
+    fn fixed(&self, index: u16) -> Option<FuseBit> {
         match index {
             0 => Some(FuseBit {
                 fuse: 57,

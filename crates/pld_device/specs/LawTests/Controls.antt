@@ -32,12 +32,13 @@ is_either Combinational = false
 is_either Registered = false
 is_either Either = true
 
--- the lists of control fuses end by the last cell and the last row
+-- the lists of control fuses end by the last cell and the last row, and are short
 abbrev pub ends_test : Table → Bool
 ends_test t =
     nat_le (length t.inverted) (length t.cells)
     && nat_le (length t.registered) (length t.cells)
     && nat_le (length t.row_switches) t.rows
+    && nat_le (length t.row_switches) 64
     && nat_le (length t.fixed) 16
 
 pub control_from_test : (t : Table) (fuse : ℕ) → control_test t fuse ≡ true → IsControlFuse t fuse

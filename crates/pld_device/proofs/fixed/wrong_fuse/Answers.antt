@@ -18,7 +18,7 @@ brought levels fuses bit wrong same is = subst (λ (ls : List Bool). wrong ≡ n
 
 pub is_wrong-requires : goal.is_wrong-requires
 is_wrong-requires g c =
-    let below = fixed_below g.D.Device.table g.met.D.Device.sound c.loop-index.index c.in-Some.bit (sym c.fixed.ensures ∙ c.in-Some.is) in
+    let below = fixed_below g.D.Device.table g.D.Device.sound c.loop-index.index c.in-Some.bit (sym c.fixed.ensures ∙ c.in-Some.is) in
     let long : length c.levels.result.now ≡ length c.args.fuses.now = ap length c.levels.ensures in
     omega (arith, below, long, c.requires)
 
@@ -53,5 +53,5 @@ returns-then-is_wrong-clause-none g c =
 pub returns-clause-none : goal.returns-clause-none
 returns-clause-none g c =
     told g.D.Device.table c.args.fuses.now None
-    (none_past c.args.fuses.now g.D.Device.table.fixed c.loop-index.index (let few = g.met.D.Device.sound.few_fixed in omega (arith, few, c.loop-index-test.false))
+    (none_past c.args.fuses.now g.D.Device.table.fixed c.loop-index.index (let few = g.D.Device.sound.few_fixed in omega (arith, few, c.loop-index-test.false))
     ∙ c.loop-index.invariant)

@@ -1,0 +1,6 @@
+use Rattle.std.proofs.Common.{◌≡◌, take}
+use Rattle.pld_device.specs.Table.{inverted_by_cell}
+use Rattle.pld_device.proofs.loading.inverted_of.Given as goal
+
+abbrev pub invariant-loop-cell : goal.invariant-loop-cell
+invariant-loop-cell g l = l.bits.items ≡ take l.cell (inverted_by_cell (g.P.Part.table l.part))
