@@ -4,20 +4,22 @@ ghost use Rattle.std.specs.Prelude.{◌≡◌};
 ghost use Rattle.devices.specs.Prelude.{DeviceName, IsDevice};
 ghost use Rattle.devices.specs.Devices.{table_of};
 
-use crate::on_device;
+use crate::loading::loaded;
 use pld_base::DeviceName;
 use pld_device::Device;
+use std::marker::Brand;
 
 /// The table of each name is that of a device. Does nothing.
 pub fn each_is_a_device()
     ensures { (device : DeviceName) → IsDevice (table_of device) }
 {}
 
-/// The name of a device, by its type.
-fn name_of<D: Device>() -> DeviceName
+/// The name of the device that has this table.
+fn name_for<D: Device>(name: DeviceName) -> DeviceName
+    requires table { table_of name ≡ D.table }
     ensures { result ≡ D.table.name }
 {
-    D::NAME
+    loaded::<D>(name).name()
 }
 
 /// The name of the device that a name chooses, which is this name. Takes no memory.
@@ -25,5 +27,5 @@ pub fn chosen(device: DeviceName) -> DeviceName
     ensures same { result ≡ device }
     ensures named { result ≡ (table_of device).name }
 {
-    on_device!(device, name_of())
+    name_for::<Brand>(device)
 }

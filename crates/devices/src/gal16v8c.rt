@@ -10,57 +10,53 @@ use pld_device::{Carry, Cell, Chip, Flip, FuseBit, Part};
 pub struct Gal16V8C;
 
 impl Part for Gal16V8C {
-    ghost use Rattle.std.specs.Prelude.{refl};
-    ghost use Rattle.pld_device.specs.Table.{chip_of};
     ghost use Rattle.devices.specs.Gal16V8Laws.{gal16v8c_sound};
     ghost use Rattle.devices.specs.Gal16V8Tables.{gal16v8c};
 
-    const CHIP: Chip = Chip {
-        name: DeviceName::GAL16V8C,
-        pins: 20,
-        ground_pin: 10,
-        fuses: 2194,
-        short: 2194,
-        columns: 32,
-        rows: 64,
-        cells: 8,
-        clock: 0,
-        reset: None,
-        preset: None,
-        flip: Flip::BeforeRegister,
-    };
+    ghost table = { λ p. gal16v8c };
 
-    ghost CHIP = { chip_of gal16v8c };
+    ghost sound = { λ p. gal16v8c_sound };
 
-    ghost table = { gal16v8c };
-
-    ghost chip_is = { refl };
-
-    ghost sound = { gal16v8c_sound };
-
-    fn carries(pair: u16) -> Carry {
-        Pal16L8::carries(pair)
+    fn chip(&self) -> Chip {
+        Chip {
+            name: DeviceName::GAL16V8C,
+            pins: 20,
+            ground_pin: 10,
+            fuses: 2194,
+            short: 2194,
+            columns: 32,
+            rows: 64,
+            cells: 8,
+            clock: 0,
+            reset: None,
+            preset: None,
+            flip: Flip::BeforeRegister,
+        }
     }
 
-    fn cell(index: u8) -> Cell {
-        Pal16L8::cell(index)
+    fn carries(&self, pair: u16) -> Carry {
+        Pal16L8.carries(pair)
     }
 
-    fn inverted_at(cell: u8) -> Option<FuseBit> {
+    fn cell(&self, index: u8) -> Cell {
+        Pal16L8.cell(index)
+    }
+
+    fn inverted_at(&self, cell: u8) -> Option<FuseBit> {
         xor(cell)
     }
 
-    fn registered_at(cell: u8) -> Option<FuseBit> {
+    fn registered_at(&self, cell: u8) -> Option<FuseBit> {
         None
     }
 
-    fn row_switch(row: u16) -> Option<u16> {
+    fn row_switch(&self, row: u16) -> Option<u16> {
         switch(row)
     }
 
     /// AC1 of each cell, from pin 19 on, then SYN and AC0.
     #[rattlefmt::skip]
-    fn fixed(index: u16) -> Option<FuseBit> {
+    fn fixed(&self, index: u16) -> Option<FuseBit> {
         match index {
             0 => always(2120, true), 1 => always(2121, true), 2 => always(2122, true),
             3 => always(2123, true), 4 => always(2124, true), 5 => always(2125, true),

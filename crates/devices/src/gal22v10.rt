@@ -25,36 +25,32 @@ fn either(pin: u8, enable: u16, room: u8) -> Cell
 }
 
 impl Part for Gal22V10 {
-    ghost use Rattle.std.specs.Prelude.{refl};
-    ghost use Rattle.pld_device.specs.Table.{chip_of};
     ghost use Rattle.devices.specs.Gal22V10Laws.{gal22v10_sound};
     ghost use Rattle.devices.specs.Gal22V10Table.{gal22v10};
 
-    const CHIP: Chip = Chip {
-        name: DeviceName::GAL22V10,
-        pins: 24,
-        ground_pin: 12,
-        fuses: 5892,
-        short: 5828,
-        columns: 44,
-        rows: 132,
-        cells: 10,
-        clock: 1,
-        reset: Some(0),
-        preset: Some(131),
-        flip: Flip::AfterRegister,
-    };
+    ghost table = { λ p. gal22v10 };
 
-    ghost CHIP = { chip_of gal22v10 };
+    ghost sound = { λ p. gal22v10_sound };
 
-    ghost table = { gal22v10 };
-
-    ghost chip_is = { refl };
-
-    ghost sound = { gal22v10_sound };
+    fn chip(&self) -> Chip {
+        Chip {
+            name: DeviceName::GAL22V10,
+            pins: 24,
+            ground_pin: 12,
+            fuses: 5892,
+            short: 5828,
+            columns: 44,
+            rows: 132,
+            cells: 10,
+            clock: 1,
+            reset: Some(0),
+            preset: Some(131),
+            flip: Flip::AfterRegister,
+        }
+    }
 
     #[rattlefmt::skip]
-    fn carries(pair: u16) -> Carry {
+    fn carries(&self, pair: u16) -> Carry {
         match pair {
             0  => Carry::Pin(1),  1 => Carry::Cell(0),
             2  => Carry::Pin(2),  3 => Carry::Cell(1),
@@ -71,7 +67,7 @@ impl Part for Gal22V10 {
     }
 
     #[rattlefmt::skip]
-    fn cell(index: u8) -> Cell {
+    fn cell(&self, index: u8) -> Cell {
         match index {
             0 => either(23,   1,  8),
             1 => either(22,  10, 10),
@@ -86,25 +82,25 @@ impl Part for Gal22V10 {
         }
     }
 
-    fn inverted_at(cell: u8) -> Option<FuseBit> {
+    fn inverted_at(&self, cell: u8) -> Option<FuseBit> {
         Some(FuseBit {
             fuse: 5808 + 2 * u16::from(cell),
             level: false,
         })
     }
 
-    fn registered_at(cell: u8) -> Option<FuseBit> {
+    fn registered_at(&self, cell: u8) -> Option<FuseBit> {
         Some(FuseBit {
             fuse: 5809 + 2 * u16::from(cell),
             level: false,
         })
     }
 
-    fn row_switch(row: u16) -> Option<u16> {
+    fn row_switch(&self, row: u16) -> Option<u16> {
         None
     }
 
-    fn fixed(index: u16) -> Option<FuseBit> {
+    fn fixed(&self, index: u16) -> Option<FuseBit> {
         None
     }
 }

@@ -41,36 +41,32 @@ impl Pal16L8 {
 }
 
 impl Part for Pal16L8 {
-    ghost use Rattle.std.specs.Prelude.{refl};
-    ghost use Rattle.pld_device.specs.Table.{chip_of};
     ghost use Rattle.devices.specs.Pal16L8Laws.{pal16l8_sound};
     ghost use Rattle.devices.specs.Pal16L8Table.{pal16l8};
 
-    const CHIP: Chip = Chip {
-        name: DeviceName::P16L8,
-        pins: 20,
-        ground_pin: 10,
-        fuses: 2048,
-        short: 2048,
-        columns: 32,
-        rows: 64,
-        cells: 8,
-        clock: 0,
-        reset: None,
-        preset: None,
-        flip: Flip::Always,
-    };
+    ghost table = { λ p. pal16l8 };
 
-    ghost CHIP = { chip_of pal16l8 };
+    ghost sound = { λ p. pal16l8_sound };
 
-    ghost table = { pal16l8 };
-
-    ghost chip_is = { refl };
-
-    ghost sound = { pal16l8_sound };
+    fn chip(&self) -> Chip {
+        Chip {
+            name: DeviceName::P16L8,
+            pins: 20,
+            ground_pin: 10,
+            fuses: 2048,
+            short: 2048,
+            columns: 32,
+            rows: 64,
+            cells: 8,
+            clock: 0,
+            reset: None,
+            preset: None,
+            flip: Flip::Always,
+        }
+    }
 
     #[rattlefmt::skip]
-    fn carries(pair: u16) -> Carry {
+    fn carries(&self, pair: u16) -> Carry {
         match pair {
             0  => Carry::Pin(2),  1 => Carry::Pin(1),
             2  => Carry::Pin(3),  3 => Carry::Cell(1),
@@ -83,23 +79,23 @@ impl Part for Pal16L8 {
         }
     }
 
-    fn cell(index: u8) -> Cell {
+    fn cell(&self, index: u8) -> Cell {
         combinational(index)
     }
 
-    fn inverted_at(cell: u8) -> Option<FuseBit> {
+    fn inverted_at(&self, cell: u8) -> Option<FuseBit> {
         None
     }
 
-    fn registered_at(cell: u8) -> Option<FuseBit> {
+    fn registered_at(&self, cell: u8) -> Option<FuseBit> {
         None
     }
 
-    fn row_switch(row: u16) -> Option<u16> {
+    fn row_switch(&self, row: u16) -> Option<u16> {
         None
     }
 
-    fn fixed(index: u16) -> Option<FuseBit> {
+    fn fixed(&self, index: u16) -> Option<FuseBit> {
         None
     }
 }

@@ -9,58 +9,54 @@ use pld_device::{Carry, Cell, Chip, Flip, FuseBit, Part};
 pub struct Pal16R6;
 
 impl Part for Pal16R6 {
-    ghost use Rattle.std.specs.Prelude.{refl};
-    ghost use Rattle.pld_device.specs.Table.{chip_of};
     ghost use Rattle.devices.specs.Pal16RLaws.{pal16r6_sound};
     ghost use Rattle.devices.specs.Pal16RTables.{pal16r6};
 
-    const CHIP: Chip = Chip {
-        name: DeviceName::P16R6,
-        pins: 20,
-        ground_pin: 10,
-        fuses: 2048,
-        short: 2048,
-        columns: 32,
-        rows: 64,
-        cells: 8,
-        clock: 1,
-        reset: None,
-        preset: None,
-        flip: Flip::Always,
-    };
+    ghost table = { λ p. pal16r6 };
 
-    ghost CHIP = { chip_of pal16r6 };
+    ghost sound = { λ p. pal16r6_sound };
 
-    ghost table = { pal16r6 };
+    fn chip(&self) -> Chip {
+        Chip {
+            name: DeviceName::P16R6,
+            pins: 20,
+            ground_pin: 10,
+            fuses: 2048,
+            short: 2048,
+            columns: 32,
+            rows: 64,
+            cells: 8,
+            clock: 1,
+            reset: None,
+            preset: None,
+            flip: Flip::Always,
+        }
+    }
 
-    ghost chip_is = { refl };
-
-    ghost sound = { pal16r6_sound };
-
-    fn carries(pair: u16) -> Carry {
+    fn carries(&self, pair: u16) -> Carry {
         registered_pair(pair)
     }
 
-    fn cell(index: u8) -> Cell {
+    fn cell(&self, index: u8) -> Cell {
         match index {
             1..=6 => registered(index),
             _ => combinational(index),
         }
     }
 
-    fn inverted_at(cell: u8) -> Option<FuseBit> {
+    fn inverted_at(&self, cell: u8) -> Option<FuseBit> {
         None
     }
 
-    fn registered_at(cell: u8) -> Option<FuseBit> {
+    fn registered_at(&self, cell: u8) -> Option<FuseBit> {
         None
     }
 
-    fn row_switch(row: u16) -> Option<u16> {
+    fn row_switch(&self, row: u16) -> Option<u16> {
         None
     }
 
-    fn fixed(index: u16) -> Option<FuseBit> {
+    fn fixed(&self, index: u16) -> Option<FuseBit> {
         None
     }
 }

@@ -9,55 +9,51 @@ use pld_device::{Carry, Cell, Chip, Flip, FuseBit, Part};
 pub struct Pal16R8;
 
 impl Part for Pal16R8 {
-    ghost use Rattle.std.specs.Prelude.{refl};
-    ghost use Rattle.pld_device.specs.Table.{chip_of};
     ghost use Rattle.devices.specs.Pal16RLaws.{pal16r8_sound};
     ghost use Rattle.devices.specs.Pal16RTables.{pal16r8};
 
-    const CHIP: Chip = Chip {
-        name: DeviceName::P16R8,
-        pins: 20,
-        ground_pin: 10,
-        fuses: 2048,
-        short: 2048,
-        columns: 32,
-        rows: 64,
-        cells: 8,
-        clock: 1,
-        reset: None,
-        preset: None,
-        flip: Flip::Always,
-    };
+    ghost table = { λ p. pal16r8 };
 
-    ghost CHIP = { chip_of pal16r8 };
+    ghost sound = { λ p. pal16r8_sound };
 
-    ghost table = { pal16r8 };
+    fn chip(&self) -> Chip {
+        Chip {
+            name: DeviceName::P16R8,
+            pins: 20,
+            ground_pin: 10,
+            fuses: 2048,
+            short: 2048,
+            columns: 32,
+            rows: 64,
+            cells: 8,
+            clock: 1,
+            reset: None,
+            preset: None,
+            flip: Flip::Always,
+        }
+    }
 
-    ghost chip_is = { refl };
-
-    ghost sound = { pal16r8_sound };
-
-    fn carries(pair: u16) -> Carry {
+    fn carries(&self, pair: u16) -> Carry {
         registered_pair(pair)
     }
 
-    fn cell(index: u8) -> Cell {
+    fn cell(&self, index: u8) -> Cell {
         registered(index)
     }
 
-    fn inverted_at(cell: u8) -> Option<FuseBit> {
+    fn inverted_at(&self, cell: u8) -> Option<FuseBit> {
         None
     }
 
-    fn registered_at(cell: u8) -> Option<FuseBit> {
+    fn registered_at(&self, cell: u8) -> Option<FuseBit> {
         None
     }
 
-    fn row_switch(row: u16) -> Option<u16> {
+    fn row_switch(&self, row: u16) -> Option<u16> {
         None
     }
 
-    fn fixed(index: u16) -> Option<FuseBit> {
+    fn fixed(&self, index: u16) -> Option<FuseBit> {
         None
     }
 }

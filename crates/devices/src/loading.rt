@@ -1,0 +1,33 @@
+//! The devices by their names at run time.
+
+ghost use Rattle.std.specs.Prelude.{◌≡◌};
+ghost use Rattle.devices.specs.Devices.{table_of};
+
+use crate::gal16v8c::Gal16V8C;
+use crate::gal16v8r4::Gal16V8R4;
+use crate::gal16v8r6::Gal16V8R6;
+use crate::gal16v8r8::Gal16V8R8;
+use crate::gal22v10::Gal22V10;
+use crate::pal16l8::Pal16L8;
+use crate::pal16r4::Pal16R4;
+use crate::pal16r6::Pal16R6;
+use crate::pal16r8::Pal16R8;
+use pld_base::DeviceName;
+use pld_device::{Device, Loaded, load};
+
+/// The device of a name: the one place that asks which it is. Takes no memory.
+pub fn loaded<D: Device>(name: DeviceName) -> Loaded<D>
+    requires { table_of name ≡ D.table }
+{
+    match name {
+        DeviceName::P16L8 => load::<D, Pal16L8>(&Pal16L8),
+        DeviceName::P16R4 => load::<D, Pal16R4>(&Pal16R4),
+        DeviceName::P16R6 => load::<D, Pal16R6>(&Pal16R6),
+        DeviceName::P16R8 => load::<D, Pal16R8>(&Pal16R8),
+        DeviceName::GAL22V10 => load::<D, Gal22V10>(&Gal22V10),
+        DeviceName::GAL16V8C => load::<D, Gal16V8C>(&Gal16V8C),
+        DeviceName::GAL16V8R4 => load::<D, Gal16V8R4>(&Gal16V8R4),
+        DeviceName::GAL16V8R6 => load::<D, Gal16V8R6>(&Gal16V8R6),
+        DeviceName::GAL16V8R8 => load::<D, Gal16V8R8>(&Gal16V8R8),
+    }
+}
