@@ -2,15 +2,98 @@
 source, and how two fuse files of it differ. None of it is the program's own code, against which it is held.
 """
 import re
+from collections import namedtuple
 
-BOTH = {"L8": [2, 1, 3, 18, 4, 17, 5, 16, 6, 15, 7, 14, 8, 13, 9, 11],
-        "R": [2, 19, 3, 18, 4, 17, 5, 16, 6, 15, 7, 14, 8, 13, 9, 12]}
-REGISTERS = {"L8": [], "R4": range(14, 18), "R6": range(13, 19), "R8": range(12, 20)}
-WIDE = [1, 23, 2, 22, 3, 21, 4, 20, 5, 19, 6, 18, 7, 17, 8, 16, 9, 15, 10, 14, 11, 13]
-# Of the GAL22V10: the enable row of each cell, whose data rows come behind it.
-ENABLES = {23: 1, 22: 10, 21: 21, 20: 34, 19: 49, 18: 66, 17: 83, 16: 98, 15: 111, 14: 122}
-ROOMS = {23: 8, 22: 10, 21: 12, 20: 14, 19: 16, 18: 16, 17: 14, 16: 12, 15: 10, 14: 8}
-DEVICES = ["P16L8", "P16R4", "P16R6", "P16R8", "GAL22V10", "GAL16V8C", "GAL16V8R4", "GAL16V8R6", "GAL16V8R8"]
+# A cell: the row that enables it, None where a pin does while it is low; its data rows; "c" combinational, "r" a register, "rc" either.
+Cell = namedtuple("Cell", "enable data kinds")
+
+
+class Device:
+    """A device: what its pairs of columns carry, its cells by pin, and its control fuses.
+
+    Of the cells in their order, `polarity` and `kind` are the fuses that say by 0 that a cell inverts and that it is a register;
+    `before` says that a register takes the complement in place of its pin. A row is off while the fuse from `switches` on is 0;
+    `fixed` has the fuses of one level. `enabling` is the pin that enables registers, `unread` one that no source may read.
+    """
+
+    def __init__(self, pins, fuses, pairs, cells, clock=0, enabling=None, reset=None, preset=None, polarity=(), kind=(), before=False,
+                 switches=None, fixed=(), unread=None):
+        self.pins, self.ground, self.fuses, self.pairs, self.cells = pins, pins // 2, fuses, pairs, cells
+        self.width, self.clock, self.enabling, self.reset, self.preset = 2 * len(pairs), clock, enabling, reset, preset
+        self.polarity, self.kind, self.before = dict(zip(cells, polarity)), dict(zip(cells, kind)), before
+        self.switches, self.fixed, self.unread = switches, dict(fixed), unread
+        ends = [cell.data.stop for cell in cells.values()] + [row + 1 for row in (reset, preset) if row is not None]
+        self.rows = max(ends)
+        # the fuses that a design chooses one by one
+        self.controls = sorted([*self.polarity.values(), *self.kind.values()])
+
+    def inputs(self):
+        """The pins that columns carry and that are no cell's."""
+        return sorted(set(self.pairs) - set(self.cells))
+
+
+def blocks(pins, height, registers=()):
+    """Cells of so many rows each, from row 0 on. The first row enables, but of a register it is data."""
+    cells = {}
+    for number, pin in enumerate(pins):
+        first, last = height * number, height * (number + 1)
+        cells[pin] = Cell(None, range(first, last), "r") if pin in registers else Cell(first, range(first + 1, last), "c")
+    return cells
+
+
+def either(pins, rooms):
+    """Cells of either kind behind row 0, each an enable row with its data rows."""
+    cells, row = {}, 1
+    for pin, room in zip(pins, rooms):
+        cells[pin] = Cell(row, range(row + 1, row + 1 + room), "rc")
+        row += 1 + room
+    return cells
+
+
+REGISTERS = {"L8": range(0), "R4": range(14, 18), "R6": range(13, 19), "R8": range(12, 20)}
+L8 = [2, 1, 3, 18, 4, 17, 5, 16, 6, 15, 7, 14, 8, 13, 9, 11]
+R = [2, 19, 3, 18, 4, 17, 5, 16, 6, 15, 7, 14, 8, 13, 9, 12]
+L8_24 = [2, 1, 3, 23, 4, 21, 5, 20, 6, 19, 7, 18, 8, 17, 9, 16, 10, 14, 11, 13]
+R_24 = [2, 23, 3, 22, 4, 21, 5, 20, 6, 19, 7, 18, 8, 17, 9, 16, 10, 15, 11, 14]
+L10 = [2, 1, 3, 22, 4, 21, 5, 20, 6, 19, 7, 18, 8, 17, 9, 16, 10, 15, 11, 13]
+V10_24 = [1, 23, 2, 22, 3, 21, 4, 20, 5, 19, 6, 18, 7, 17, 8, 16, 9, 15, 10, 14, 11, 13]
+V10_20 = [1, 19, 2, 18, 3, 17, 4, 16, 5, 15, 6, 14, 7, 13, 8, 12, 11, 9]
+
+
+def pal(mode, pins=20, **controls):
+    """A PAL16 or a PAL20 by its mode, or what has its array."""
+    top, pairs = (19, (L8, R)) if pins == 20 else (22, (L8_24, R_24))
+    registers = [pin + top - 19 for pin in REGISTERS[mode]]
+    clocked = {"clock": 1, "enabling": 11 if pins == 20 else 13} if registers else {}
+    array = 64 * 2 * len(pairs[0])
+    return Device(pins, array + controls.pop("more", 0), pairs[bool(registers)], blocks(range(top, top - 8, -1), 8, registers),
+                  **clocked, **controls)
+
+
+def gal16v8(mode):
+    """The GAL16V8 in the place of a PAL16: XOR, AC1, PTD, SYN and AC0."""
+    kinds = {2120 + cell: int(19 - cell not in REGISTERS[mode]) for cell in range(8)}
+    return pal(mode, more=146, polarity=range(2048, 2056), before=True, switches=2128, fixed={**kinds, 2192: int(mode == "L8"), 2193: 1})
+
+
+def gal22v10(more=0, **controls):
+    """The GAL22V10, or what has its cells: S0 and S1."""
+    cells = either(range(23, 13, -1), [8, 10, 12, 14, 16, 16, 14, 12, 10, 8])
+    return Device(24, 5892 + more, V10_24, cells, 1, None, 0, 131, range(5808, 5828, 2), range(5809, 5828, 2), **controls)
+
+
+DEVICES = {f"P16{mode}": pal(mode) for mode in REGISTERS}
+DEVICES["GAL22V10"] = gal22v10()
+DEVICES |= {f"GAL16V8{mode.replace('L8', 'C')}": gal16v8(mode) for mode in REGISTERS}
+DEVICES |= {f"P20{mode}": pal(mode, 24) for mode in REGISTERS}
+DEVICES |= {
+    "P20L10": Device(24, 1600, L10, blocks(range(23, 13, -1), 4)),
+    "P16P8": pal("L8", more=8, polarity=range(2048, 2056)),
+    "P18P8": Device(20, 2600, L8 + [19, 12], blocks(range(19, 11, -1), 9), polarity=range(2592, 2600)),
+    "GAL18V10": Device(20, 3540, V10_20, either([*range(19, 10, -1), 9], [8, 8, 8, 8, 10, 10, 8, 8, 8, 8]), 1, None, 0, 95,
+                       range(3456, 3476, 2), range(3457, 3476, 2)),
+    "ATF22V10C": gal22v10(1, fixed={5892: 0}, unread=4),
+}
 
 
 class Loop(Exception):
@@ -25,27 +108,19 @@ class Chip:
     """A device with its fuses, a list of 0 and 1."""
 
     def __init__(self, name, fuses):
-        self.name, self.fuses = name, fuses
-        self.wide = name == "GAL22V10"
-        self.is_gal16 = name.startswith("GAL16")
-        kind = name[-2:].replace("8C", "L8")
-        self.pins = 24 if self.wide else 20
-        self.ground = 12 if self.wide else 10
-        self.pairs = WIDE if self.wide else BOTH["L8" if kind == "L8" else "R"]
-        self.cells = list(range(23, 13, -1)) if self.wide else list(range(19, 11, -1))
-        if self.wide:
-            self.registers = [pin for pin in self.cells if not fuses[5809 + 2 * (23 - pin)]]
-        else:
-            self.registers = list(REGISTERS[kind])
-        self.clock = 1 if self.wide or kind != "L8" else 0
-        self.rows = {row: self.row(row) for row in range(132 if self.wide else 64)}
-        self.reset, self.preset = (0, 131) if self.wide else (None, None)
+        self.name, self.fuses, self.device = name, fuses, DEVICES[name]
+        device = self.device
+        self.pins, self.ground, self.pairs, self.clock = device.pins, device.ground, device.pairs, device.clock
+        self.reset, self.preset = device.reset, device.preset
+        self.cells = list(device.cells)
+        self.registers = [pin for pin, cell in device.cells.items() if cell.kinds == "r" or cell.kinds == "rc" and not fuses[device.kind[pin]]]
+        self.rows = {row: self.row(row) for row in range(device.rows)}
 
     # ---- rows
 
     def row(self, number):
         """What a row asks, as pairs of a pin and whether it is the lower column; None where it is never true."""
-        width = 2 * len(self.pairs)
+        width, switches = self.device.width, self.device.switches
         levels = self.fuses[width * number : width * number + width]
         asked = []
         for place, pin in enumerate(self.pairs):
@@ -54,36 +129,29 @@ class Chip:
                 return None
             if not (lower and higher):
                 asked.append((pin, not lower))
-        if self.is_gal16 and not self.fuses[2128 + number]:
+        if switches is not None and not self.fuses[switches + number]:
             return None
         return asked
 
     def enable(self, pin):
-        """The row that enables a cell; None where pin 11 does."""
-        if self.wide:
-            return ENABLES[pin]
-        return None if pin in self.registers else 8 * (19 - pin)
+        """The row that enables a cell; None where a pin does."""
+        return self.device.cells[pin].enable
 
     def data(self, pin):
         """The data rows of a cell."""
-        if self.wide:
-            return range(ENABLES[pin] + 1, ENABLES[pin] + 1 + ROOMS[pin])
-        first = 8 * (19 - pin)
-        return range(first if pin in self.registers else first + 1, first + 8)
+        return self.device.cells[pin].data
 
     def control(self, pin):
         """The polarity fuse: 1 where nothing is complemented at a combinational pin."""
-        if self.wide:
-            return self.fuses[5808 + 2 * (23 - pin)]
-        return self.fuses[2048 + 19 - pin] if self.is_gal16 else 0
+        return self.fuses[self.device.polarity[pin]] if self.device.polarity else 0
 
     def inverts(self, pin):
         """Whether the pin has the complement of the OR, or of Q."""
-        return not self.control(pin) or self.is_gal16 and pin in self.registers
+        return not self.control(pin) or self.device.before and pin in self.registers
 
     def takes_complement(self, pin):
         """Whether the register takes the complement of the OR."""
-        return self.is_gal16 and bool(self.control(pin))
+        return self.device.before and bool(self.control(pin))
 
     # ---- reads
 
@@ -119,9 +187,13 @@ class Chip:
     def variables(self):
         """The pins whose outside levels count, and the registers."""
         read = {pin for asked in self.rows.values() for pin, _ in asked or []} - set(self.registers)
-        return read | ({11} if self.clock and not self.wide else set()), set(self.registers)
+        return read | ({self.device.enabling} - {None}), set(self.registers)
 
     # ---- the source
+
+    def reads(self, pin):
+        """Whether an equation of the source reads the pin."""
+        return any(word == f"p{pin}" for line in self.equations() for word in re.findall(r"p\d+", line.partition("=")[2]))
 
     def product(self, row):
         words = []
@@ -197,7 +269,7 @@ class Rest:
 
     def drives(self, pin):
         row = self.chip.enable(pin)
-        return self.turned(self.level(11), True) if row is None else self.once(("drives", pin), self.is_true, row)
+        return self.turned(self.level(self.chip.device.enabling), True) if row is None else self.once(("drives", pin), self.is_true, row)
 
     def sum(self, pin):
         value = 0
@@ -277,22 +349,19 @@ def differ(a, b):
 
 
 def controls(rng, name, fuses):
-    """Draws the control fuses; those that the device's mode fixes have its levels."""
-    if name == "GAL22V10":
-        for fuse in range(5808, 5828):
-            fuses[fuse] = rng.randrange(2)
-    elif name.startswith("GAL"):
-        registers = REGISTERS["L8" if name.endswith("C") else name[-2:]]
-        for cell in range(8):
-            fuses[2048 + cell] = rng.randrange(2)
-            fuses[2120 + cell] = int(19 - cell not in registers)
-        fuses[2128:2192] = [1] * 64
-        fuses[2192], fuses[2193] = int(name.endswith("C")), 1
+    """Draws the control fuses; all switches are on, and those that the device fixes have their levels."""
+    device = DEVICES[name]
+    for fuse in device.controls:
+        fuses[fuse] = rng.randrange(2)
+    if device.switches is not None:
+        fuses[device.switches : device.switches + device.rows] = [1] * device.rows
+    for fuse, level in device.fixed.items():
+        fuses[fuse] = level
 
 
 def put_row(chip, number, asked):
     """Sets a row: pairs of a pin and whether it is the lower column; None for zeros."""
-    width = 2 * len(chip.pairs)
+    width = chip.device.width
     levels = [int(asked is not None)] * width
     for pin, lower in asked or []:
         levels[2 * chip.pairs.index(pin) + (0 if lower else 1)] = 0
@@ -307,7 +376,7 @@ def product(rng, pins, most):
 def draw(rng, name, inputs, rows, literals):
     """Random fuses, whose rows read these inputs, registers and cells that read no later one; at most so many data rows a cell, of at
     most so many literals."""
-    fuses = [0] * {"GAL22": 5892, "GAL16": 2194}.get(name[:5], 2048)
+    fuses = [0] * DEVICES[name].fuses
     controls(rng, name, fuses)
     chip = Chip(name, fuses)
     order = rng.sample(chip.cells, len(chip.cells))
@@ -354,8 +423,8 @@ def vectors_of(rng, chip, count):
 
 def file_of(name, fuses, vectors=()):
     """The fuse file with these fuses, its fuse sum and its transmission sum."""
-    pins, width = (24, 44) if name == "GAL22V10" else (20, 32)
-    lines = ["drawn*", f"QP{pins}*", f"QF{len(fuses)}*", *([f"QV{len(vectors)}*"] if vectors else []), "F0*", "X0*"]
+    width = DEVICES[name].width
+    lines = ["drawn*", f"QP{DEVICES[name].pins}*", f"QF{len(fuses)}*", *([f"QV{len(vectors)}*"] if vectors else []), "F0*", "X0*"]
     for first in range(0, len(fuses), width):
         lines.append(f"L{first:04} {''.join(map(str, fuses[first:first + width]))}*")
     groups = [fuses[first : first + 8] for first in range(0, len(fuses), 8)]
@@ -367,7 +436,7 @@ def file_of(name, fuses, vectors=()):
 
 def fuses_in(name, data):
     """The fuses that a sound file gives."""
-    count = {"GAL22": 5892, "GAL16": 2194}.get(name[:5], 2048)
+    count = DEVICES[name].fuses
     text = data.decode("latin-1").partition("\x02")[2].partition("\x03")[0]
     fields = [field.strip() for field in text.split("*")[1:]]
     default = next((int(field[1]) for field in fields if re.fullmatch(r"F[01]", field)), 0)

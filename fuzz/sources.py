@@ -1,18 +1,9 @@
 """Random ABEL-HDL sources, half of which or more are compiled, and damaged bytes."""
 
-# Of each device: pins that are inputs alone and can be read, and pins of cells.
-PINS = {
-    "P16L8": ([1, 2, 3, 4, 5, 6, 7, 8, 9, 11], [12, 13, 14, 15, 16, 17, 18, 19]),
-    "P16R4": ([2, 3, 4, 5, 6, 7, 8, 9], [12, 13, 14, 15, 16, 17, 18, 19]),
-    "P16R6": ([2, 3, 4, 5, 6, 7, 8, 9], [12, 13, 14, 15, 16, 17, 18, 19]),
-    "P16R8": ([2, 3, 4, 5, 6, 7, 8, 9], [12, 13, 14, 15, 16, 17, 18, 19]),
-    "GAL22V10": ([1, 2, 3, 4, 5, 6, 7, 8, 9, 10, 11, 13], [14, 15, 16, 17, 18, 19, 20, 21, 22, 23]),
-}
-REGISTERS = {"P16L8": [], "P16R4": [14, 15, 16, 17], "P16R6": [13, 14, 15, 16, 17, 18],
-             "P16R8": PINS["P16R8"][1], "GAL22V10": PINS["GAL22V10"][1]}
-# The modes of the GAL16V8 have the pins and the registers of a PAL16 each.
-for pal, gal in (("P16L8", "GAL16V8C"), ("P16R4", "GAL16V8R4"), ("P16R6", "GAL16V8R6"), ("P16R8", "GAL16V8R8")):
-    PINS[gal], REGISTERS[gal] = PINS[pal], REGISTERS[pal]
+from chips import DEVICES
+
+# Of each device: pins that are inputs alone and that a source may read, and pins of cells.
+PINS = {name: ([pin for pin in device.inputs() if pin != device.unread], sorted(device.cells)) for name, device in DEVICES.items()}
 OPERATORS = ["&", "&", "#", "#", "$", "!$", "+", "-", "==", "!=", "<", "<=", ">", ">="]
 SCRAPS = ["(", ")", "[", "]", "{", "}", ";", "=", ":=", "?=", "..", ".D", ".OE", "'", '"', "//", "@IF", "@REPEAT 3",
           "MACRO", "?a", "^h", "^b1", ".X.", "65536", "0", "end", "equations", "truth_table", "state_diagram",
@@ -32,13 +23,13 @@ class Source:
         self.before = []
 
     def is_register(self, name):
-        if name[0] != "o" or int(name[1:]) not in REGISTERS[self.device]:
-            return False
-        return self.device != "GAL22V10" or int(name[1:]) % 2 == 0
+        """Whether the name is that of a register. Of the cells that may be either those on even pins are."""
+        kinds = DEVICES[self.device].cells[int(name[1:])].kinds if name[0] == "o" else "c"
+        return kinds == "r" or kinds == "rc" and int(name[1:]) % 2 == 0
 
     def is_read(self, name):
         """Whether the name may be read where no loop is wanted: a register, or one that is assigned before."""
-        if self.device in ("P16L8", "GAL16V8C") and name in ("o12", "o19"):
+        if name[0] == "o" and int(name[1:]) not in DEVICES[self.device].pairs:
             return False
         return self.is_register(name) or name in self.before
 
@@ -76,7 +67,7 @@ class Source:
         rng = self.rng
         words = ["OE"]
         if self.is_register(name):
-            words = ["OE", "AR", "SP"] if self.device == "GAL22V10" else []
+            words = ["OE", "AR", "SP"] if DEVICES[self.device].reset is not None else []
         if rng.random() < 0.05 or not words:
             words = ["OE", "AR", "SP", "CLK"] if rng.random() < 0.2 else []
         if not words:
