@@ -1,29 +1,37 @@
 -- The devices by their names (the part names of the datasheets; the GAL16V8's by its modes, and that case does not count, are
 -- this project's rules).
-use Rattle.std.specs.Prelude.{ℕ, Option, Some, None, List, [], ◌∷◌, bytes_eq, codes, if◌then◌else◌}
+use Rattle.std.specs.Prelude.{ℕ, Option, Some, None, List, [], ◌∷◌, map, bytes_eq, codes, if◌then◌else◌}
 use Rattle.std.specs.Str.{str_to_ascii_lowercase}
 use Rattle.pld_base.specs.declared.device_name.DeviceName.{DeviceName}
-use Rattle.pld_base.specs.declared.device_name.DeviceName.TheVariants.{P16L8, P16R4, P16R6, P16R8, GAL22V10, GAL16V8C, GAL16V8R4, GAL16V8R6, GAL16V8R8}
+use Rattle.pld_base.specs.declared.device_name.DeviceName.TheVariants as device
 
 -- the bytes of a device's name, as it is in fuse files and reports
 abbrev pub device_text : DeviceName → List ℕ
-device_text P16L8 = codes "P16L8"
-device_text P16R4 = codes "P16R4"
-device_text P16R6 = codes "P16R6"
-device_text P16R8 = codes "P16R8"
-device_text GAL22V10 = codes "GAL22V10"
-device_text GAL16V8C = codes "GAL16V8C"
-device_text GAL16V8R4 = codes "GAL16V8R4"
-device_text GAL16V8R6 = codes "GAL16V8R6"
-device_text GAL16V8R8 = codes "GAL16V8R8"
+device_text device.P16L8 = codes "P16L8"
+device_text device.P16R4 = codes "P16R4"
+device_text device.P16R6 = codes "P16R6"
+device_text device.P16R8 = codes "P16R8"
+device_text device.GAL22V10 = codes "GAL22V10"
+device_text device.GAL16V8C = codes "GAL16V8C"
+device_text device.GAL16V8R4 = codes "GAL16V8R4"
+device_text device.GAL16V8R6 = codes "GAL16V8R6"
+device_text device.GAL16V8R8 = codes "GAL16V8R8"
+
+-- all of them
+abbrev pub device_names : List DeviceName
+device_names =
+    device.P16L8 ∷ device.P16R4 ∷ device.P16R6 ∷ device.P16R8
+    ∷ device.GAL22V10
+    ∷ device.GAL16V8C ∷ device.GAL16V8R4 ∷ device.GAL16V8R6 ∷ device.GAL16V8R8
+    ∷ []
+
+-- a device's name in lower case, with the device
+abbrev pub lower_name : DeviceName → List ℕ × DeviceName
+lower_name name = (str_to_ascii_lowercase (device_text name), name)
 
 -- the names that a source or a command line may give, in lower case: those names, and a second one of the GAL22V10
 abbrev pub device_strings : List (List ℕ × DeviceName)
-device_strings =
-    (codes "p16l8", P16L8) ∷ (codes "p16r4", P16R4) ∷ (codes "p16r6", P16R6) ∷ (codes "p16r8", P16R8)
-    ∷ (codes "p22v10", GAL22V10) ∷ (codes "gal22v10", GAL22V10)
-    ∷ (codes "gal16v8c", GAL16V8C) ∷ (codes "gal16v8r4", GAL16V8R4) ∷ (codes "gal16v8r6", GAL16V8R6)
-    ∷ (codes "gal16v8r8", GAL16V8R8) ∷ []
+device_strings = (codes "p22v10", device.GAL22V10) ∷ map lower_name device_names
 
 -- the device of a name in lower case
 abbrev pub device_in : List (List ℕ × DeviceName) → List ℕ → Option DeviceName

@@ -1,7 +1,8 @@
 //! The devices by name.
 
-ghost use Rattle.std.specs.Prelude.{◌≡◌};
-ghost use Rattle.pld_base.specs.DeviceNames.{device_text, named_device};
+ghost use Rattle.std.specs.Prelude.{◌≡◌, bytes_eq, map};
+ghost use Rattle.std.specs.Str.{str_to_ascii_lowercase};
+ghost use Rattle.pld_base.specs.DeviceNames.{device_in, device_text, lower_name, named_device};
 
 /// The programmable devices that the project knows.
 #[derive(Clone, Copy, Debug, PartialEq, Eq)]
@@ -16,6 +17,19 @@ pub enum DeviceName {
     GAL16V8R6,
     GAL16V8R8,
 }
+
+/// All of them.
+const DEVICES: [DeviceName; 9] = [
+    DeviceName::P16L8,
+    DeviceName::P16R4,
+    DeviceName::P16R6,
+    DeviceName::P16R8,
+    DeviceName::GAL22V10,
+    DeviceName::GAL16V8C,
+    DeviceName::GAL16V8R4,
+    DeviceName::GAL16V8R6,
+    DeviceName::GAL16V8R8,
+];
 
 impl DeviceName {
     /// The name as it is in fuse files and reports.
@@ -39,33 +53,28 @@ impl DeviceName {
     pub fn named(name: &[u8]) -> Option<DeviceName>
         ensures { result ≡ named_device name.now }
     {
-        if name.eq_ignore_ascii_case(b"p16l8") {
-            return Some(DeviceName::P16L8);
-        }
-        if name.eq_ignore_ascii_case(b"p16r4") {
-            return Some(DeviceName::P16R4);
-        }
-        if name.eq_ignore_ascii_case(b"p16r6") {
-            return Some(DeviceName::P16R6);
-        }
-        if name.eq_ignore_ascii_case(b"p16r8") {
-            return Some(DeviceName::P16R8);
-        }
-        if name.eq_ignore_ascii_case(b"p22v10") || name.eq_ignore_ascii_case(b"gal22v10") {
+        if name.eq_ignore_ascii_case(b"p22v10") {
             return Some(DeviceName::GAL22V10);
         }
-        if name.eq_ignore_ascii_case(b"gal16v8c") {
-            return Some(DeviceName::GAL16V8C);
-        }
-        if name.eq_ignore_ascii_case(b"gal16v8r4") {
-            return Some(DeviceName::GAL16V8R4);
-        }
-        if name.eq_ignore_ascii_case(b"gal16v8r6") {
-            return Some(DeviceName::GAL16V8R6);
-        }
-        if name.eq_ignore_ascii_case(b"gal16v8r8") {
-            return Some(DeviceName::GAL16V8R8);
-        }
-        None
+        first_named(&DEVICES, name)
     }
+
+    /// Whether this is the device's name, without regard to case.
+    fn is_named(&self, name: &[u8]) -> bool
+        ensures { result ≡ bytes_eq (str_to_ascii_lowercase name.now) (lower_name self.now).0 }
+    {
+        name.eq_ignore_ascii_case(self.text().as_bytes())
+    }
+}
+
+/// The first of these devices that has the name, without regard to case.
+fn first_named(devices: &[DeviceName], name: &[u8]) -> Option<DeviceName>
+    ensures { result ≡ device_in (map lower_name devices.now) (str_to_ascii_lowercase name.now) }
+{
+    for device in devices {
+        if device.is_named(name) {
+            return Some(*device);
+        }
+    }
+    None
 }
