@@ -3,9 +3,8 @@ use Rattle.std.proofs.Common.{◌≡◌, ℕ, zero, suc, ◌+◌, ◌-◌, ◌*�
 use Rattle.jedec_writer.proofs.Common.{All, All-cons, All-head, All-nil, All-tail, decimal, list_any, cases_Bool, length-map, length-take, Table, IsDevice, Vector, all_chars, chars_of, control_fuses, control_levels, past, control_line, canonical_body, canonical_file, four_digits, four_hex, level_char, levels_line, line, line_with, row_line, row_lines, space, vector_lines, fuse_sum_of, STX, ETX}
 use Rattle.std.proofs.lemmas.List.{length-append}
 use Rattle.std.proofs.lemmas.Fmt.{length-decimal-le}
+use Rattle.pld_base.proofs.EachDevice.{device_short}
 use Rattle.pld_base.specs.DeviceNames.{device_text}
-use Rattle.pld_base.specs.declared.device_name.DeviceName.{DeviceName}
-use Rattle.pld_base.specs.declared.device_name.DeviceName.TheVariants.{P16L8, P16R4, P16R6, P16R8, GAL22V10, GAL16V8C, GAL16V8R4, GAL16V8R6, GAL16V8R8}
 use Rattle.pld_device.specs.Laws.{HasSizes}
 use Rattle.jedec_writer.proofs.LinesRead.{part_ends}
 
@@ -28,17 +27,6 @@ vector_length n vector =
     let text : List ℕ = codes "V" ++ four_digits n ++ space ∷ vector in
     let long : length text ≡ suc (suc (suc (suc (suc (suc (length vector)))))) = refl in
     omega (arith, line_length text, long)
-
-device_length : (d : DeviceName) → length (device_text d) ≤ 9
-device_length P16L8 = omega arith
-device_length P16R4 = omega arith
-device_length P16R6 = omega arith
-device_length P16R8 = omega arith
-device_length GAL22V10 = omega arith
-device_length GAL16V8C = omega arith
-device_length GAL16V8R4 = omega arith
-device_length GAL16V8R6 = omega arith
-device_length GAL16V8R8 = omega arith
 
 with_length : (vectors : List (List ℕ)) (text : List ℕ) → length (line_with vectors text) ≤ length text + 3
 with_length [] text = omega arith
@@ -85,7 +73,7 @@ header_length : (t : Table) (name : List ℕ) → length name ≤ 31 → HasAtMo
 header_length t name short =
     let start : HasAtMost 10 (STX ∷ codes "ABEL-HDL ") = record { few = omega arith } in
     let own : HasAtMost 31 name = record { few = short } in
-    let device : HasAtMost 10 (space ∷ device_text t.name) = record { few = omega (arith, device_length t.name) } in
+    let device : HasAtMost 10 (space ∷ device_text t.name) = record { few = omega (arith, device_short t.name) } in
     one_line (joined (joined start own) device)
 
 counted_length : (a b n : ℕ) → n ≤ 9999 → HasAtMost 9 (line (a ∷ b ∷ decimal n))
