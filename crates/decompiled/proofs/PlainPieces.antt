@@ -6,7 +6,8 @@ use Rattle.abel_tree.specs.declared.words.Extension.TheVariants as an_extension
 use Rattle.decompiled.proofs.Apart.{name_apart, number_apart, digit_is}
 use Rattle.decompiled.proofs.PinNumbers.{IsPinNumber, is_number_word}
 use Rattle.decompiled.proofs.PieceTexts.{IsWritten, literal_is, product_is, sum_is}
-use Rattle.decompiled.proofs.PlainWords.{Stops, stopped, not_apart, and_apart, or_apart, equal_apart, semicolon_apart, extension_apart, extension_plain, sign_plain, not_plain, and_plain, or_plain, equal_plain, semicolon_plain, one_apart, zero_apart, one_plain, zero_plain, pin_keyword, istype_keyword, pin_apart, istype_apart, buffer_apart, invert_apart, device_plain, device_apart, module_plain, module_apart, chip_word, chip_apart, d_word, d_apart, device_word, device_word_apart, equations_word, equations_apart, end_word, end_apart}
+use Rattle.decompiled.proofs.NameTexts.{device_plain, device_apart}
+use Rattle.decompiled.proofs.PlainWords.{Stops, stopped, not_apart, and_apart, or_apart, equal_apart, semicolon_apart, extension_apart, extension_plain, sign_plain, not_plain, and_plain, or_plain, equal_plain, semicolon_plain, one_apart, zero_apart, one_plain, zero_plain, pin_keyword, istype_keyword, pin_apart, istype_apart, buffer_apart, invert_apart, module_plain, module_apart, chip_word, chip_apart, d_word, d_apart, device_word, device_word_apart, equations_word, equations_apart, end_word, end_apart}
 
 -- ---- names
 

@@ -1,8 +1,6 @@
 -- The words and signs of such a source are plain, and apart from what follows them.
 use Rattle.std.proofs.Common.{◌≡◌, ℕ, inl, inr, Bool, true, Some, List, [], ◌∷◌, ◌++◌, length, refl, sym, subst, eqb-true, ◌==◌, ◌||◌, codes}
-use Rattle.decompiled.proofs.Common.{list_all, or_cases, true≢false, device_text, is_blank, starts, is_keyword, is_left_out, longest_at, longest_word, Extension, IsPlainPiece, extension_text, none, space, feed, sign, keyword, identifier, number, string, extension}
-use Rattle.pld_base.specs.declared.device_name.DeviceName.{DeviceName}
-use Rattle.pld_base.specs.declared.device_name.DeviceName.TheVariants.{P16L8, P16R4, P16R6, P16R8, GAL22V10, GAL16V8C, GAL16V8R4, GAL16V8R6, GAL16V8R8}
+use Rattle.decompiled.proofs.Common.{list_all, or_cases, true≢false, is_blank, starts, is_keyword, is_left_out, longest_at, longest_word, Extension, IsPlainPiece, extension_text, none, space, feed, sign, keyword, identifier, number, extension}
 use Rattle.abel_lexer.specs.declared.token.TokenKind.TheVariants as kind
 use Rattle.abel_tree.specs.declared.words.Extension.TheVariants as an_extension
 
@@ -136,30 +134,7 @@ pub invert_apart : (rest : List ℕ) → longest_at (codes "'reg,invert'" ++ 59 
 unfolding longest_at longest_word
 invert_apart rest = refl
 
--- ---- the device
-
-pub device_plain : (d : DeviceName) → IsPlainPiece (string space (codes "'" ++ device_text d ++ codes "'"))
-device_plain P16L8 = record { some = refl; sound = λ at. refl; unmarked = refl; first = refl; quoted = refl; no_macro = refl; blank = refl }
-device_plain P16R4 = record { some = refl; sound = λ at. refl; unmarked = refl; first = refl; quoted = refl; no_macro = refl; blank = refl }
-device_plain P16R6 = record { some = refl; sound = λ at. refl; unmarked = refl; first = refl; quoted = refl; no_macro = refl; blank = refl }
-device_plain P16R8 = record { some = refl; sound = λ at. refl; unmarked = refl; first = refl; quoted = refl; no_macro = refl; blank = refl }
-device_plain GAL22V10 = record { some = refl; sound = λ at. refl; unmarked = refl; first = refl; quoted = refl; no_macro = refl; blank = refl }
-device_plain GAL16V8C = record { some = refl; sound = λ at. refl; unmarked = refl; first = refl; quoted = refl; no_macro = refl; blank = refl }
-device_plain GAL16V8R4 = record { some = refl; sound = λ at. refl; unmarked = refl; first = refl; quoted = refl; no_macro = refl; blank = refl }
-device_plain GAL16V8R6 = record { some = refl; sound = λ at. refl; unmarked = refl; first = refl; quoted = refl; no_macro = refl; blank = refl }
-device_plain GAL16V8R8 = record { some = refl; sound = λ at. refl; unmarked = refl; first = refl; quoted = refl; no_macro = refl; blank = refl }
-
-pub device_apart : (d : DeviceName) (text : List ℕ) → longest_at ((codes "'" ++ device_text d ++ codes "'") ++ text) ≡ (kind.Text, length (codes "'" ++ device_text d ++ codes "'"))
-unfolding longest_at longest_word
-device_apart P16L8 text = refl
-device_apart P16R4 text = refl
-device_apart P16R6 text = refl
-device_apart P16R8 text = refl
-device_apart GAL22V10 text = refl
-device_apart GAL16V8C text = refl
-device_apart GAL16V8R4 text = refl
-device_apart GAL16V8R6 text = refl
-device_apart GAL16V8R8 text = refl
+-- ---- words of every source
 
 pub module_plain : IsPlainPiece (keyword none (codes "module"))
 unfolding is_left_out
