@@ -116,7 +116,6 @@ pub use Rattle.pld_base.specs.DeviceNames.{device_text, named_device}
 pub use Rattle.pld_base.specs.Logic.{Logic}
 pub use Rattle.pld_base.specs.Points.{Levels}
 pub use Rattle.pld_base.specs.declared.device_name.DeviceName.{DeviceName}
-pub use Rattle.pld_base.specs.declared.device_name.DeviceName.TheVariants.{GAL16V8C, GAL16V8R4, GAL16V8R6, GAL16V8R8, GAL22V10, P16L8, P16R4, P16R6, P16R8}
 pub use Rattle.pld_base.specs.declared.place.Place.{Place}
 pub use Rattle.pld_device.proofs.OwnPins.{own_pins}
 pub use Rattle.pld_device.specs.Laws.{IsDevice, IsPair, IsSignalPin}

@@ -1,23 +1,12 @@
 -- Nothing is refused of the text of a device's fuses.
 use Rattle.std.proofs.Common.{◌≡◌, ◌≢◌, Some, Result, Ok, Err, refl, ap, ◌∙◌}
-use Rattle.decompiler.proofs.Common.{DeviceName, P16L8, P16R4, P16R6, P16R8, GAL22V10, GAL16V8C, GAL16V8R4, GAL16V8R6, GAL16V8R8, Table, table_sound, table_of, decompiled_text, SourcesAreRight, IsDecompiled, DecompiledTextsAreAccepted, DecompiledTextsAreShort, DecompiledTextsCompile, IsAnswered}
+use Rattle.decompiler.proofs.Common.{DeviceName, Table, table_sound, table_of, decompiled_text, SourcesAreRight, IsDecompiled, DecompiledTextsAreAccepted, DecompiledTextsAreShort, DecompiledTextsCompile, IsAnswered}
 use Rattle.compile_phases.specs.declared.fault.CompileFault.{CompileFault}
 use Rattle.compile_phases.specs.declared.fault.CompileFault.TheVariants.{Source, Place, Fit, OutOfMemory}
 use Rattle.abel_compile.specs.declared.compiled.Compiled.{Compiled}
+use Rattle.devices.specs.DeviceLaws.{table_has_name}
 use Rattle.decompiler.proofs.ReadTexts.{is_decompiled}
 use Rattle.decompiler.proofs.TextSizes.{text_short}
-
--- a device's table has its name
-pub device_is : (device : DeviceName) → (table_of device).name ≡ device
-device_is P16L8 = refl
-device_is P16R4 = refl
-device_is P16R6 = refl
-device_is P16R8 = refl
-device_is GAL22V10 = refl
-device_is GAL16V8C = refl
-device_is GAL16V8R4 = refl
-device_is GAL16V8R6 = refl
-device_is GAL16V8R8 = refl
 
 pub texts_are_short : DecompiledTextsAreShort
 texts_are_short device fuses = text_short (table_of device) fuses (table_sound device)
@@ -31,7 +20,7 @@ texts_are_accepted right device fuses can =
       source = text.source;
       read = text.read;
       device = device;
-      named = text.right.named ∙ ap (λ (x : DeviceName). Some x) (device_is device);
+      named = text.right.named ∙ ap (λ (x : DeviceName). Some x) (table_has_name device);
       so = (text.right.placed, text.right.accepted, text.right.fits);
     }
 

@@ -12,7 +12,7 @@ use Rattle.placer.specs.Placements.{IsPinned}
 use Rattle.compile_phases.proofs.PlacedRefusals.{one_placed}
 use Rattle.decompiled.proofs.SignalsOn.{lines_declare, on_it, on_none, registers_have_cells}
 use Rattle.decompiler.proofs.ReadTexts.{is_decompiled, read_as_source}
-use Rattle.decompiler.proofs.NeverRefused.{device_is}
+use Rattle.devices.specs.DeviceLaws.{table_has_name}
 use Rattle.decompiler.specs.Recompiled.{RecompiledFusesRunAlike, RunAsBefore}
 use Rattle.decompiler.proofs.OneSource.{one_source}
 use Rattle.decompiler.proofs.Unexchanged.{same_logic, same_values}
@@ -72,7 +72,7 @@ module _ (device : DeviceName) (fuses : List Bool) (can : AreLoadable (table_of 
     source_is = sym (right.only means.source (spelled text means.source means.read))
 
     name_is : name ≡ device
-    name_is = same_some name t.name (sym right.named ∙ ap device_named source_is ∙ means.right.named) ∙ device_is device
+    name_is = same_some name t.name (sym right.named ∙ ap device_named source_is ∙ means.right.named) ∙ table_has_name device
 
     -- nothing of it is placed
     placed_is : right.placed ≡ m

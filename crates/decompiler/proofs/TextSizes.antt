@@ -1,7 +1,8 @@
 -- The text of a device's fuses is short enough to be compiled.
 use Rattle.std.proofs.Common.{◌≡◌, ℕ, ◌+◌, ◌*◌, ◌≤◌, Bool, true, false, Option, None, Some, List, [], ◌∷◌, ◌++◌, length, filter, arith, length-append, inl, inr, codes, flat_map}
-use Rattle.decompiler.proofs.Common.{AllByRecursion, list_any, range_with_len, cases_Bool, ltb-false, length-map, length-range_with_len, DeviceName, P16L8, P16R4, P16R6, P16R8, GAL22V10, GAL16V8C, GAL16V8R4, GAL16V8R6, GAL16V8R8, device_text, IsDevice, Table, Extension, PinLiteral, PinLine, SumLine, attributes_text, extension_text, head_text, line_text, literal_text, name_text, pin_text, product_text, q_if, sign_text, sum_text, target_text, IsLow, IsLowLine, IsLowProduct, decompiled_text, lines_of, names_pin, pin_line, pins_of, source_of, each_weaker}
+use Rattle.decompiler.proofs.Common.{AllByRecursion, list_any, range_with_len, cases_Bool, ltb-false, length-map, length-range_with_len, device_text, IsDevice, Table, Extension, PinLiteral, PinLine, SumLine, attributes_text, extension_text, head_text, line_text, literal_text, name_text, pin_text, product_text, q_if, sign_text, sum_text, target_text, IsLow, IsLowLine, IsLowProduct, decompiled_text, lines_of, names_pin, pin_line, pins_of, source_of, each_weaker}
 use Rattle.std.specs.Fmt.{decimal}
+use Rattle.pld_base.proofs.EachDevice.{device_short}
 use Rattle.abel_tree.specs.declared.words.Extension.TheVariants as extension
 use Rattle.decompiled.proofs.PinNumbers.{pin_number}
 use Rattle.decompiler.proofs.OwnLines.{IsOwnLine, IsShortProduct, few_lines, own_lines}
@@ -53,17 +54,6 @@ attributes_short : (follows : Option Bool) → length (attributes_text follows) 
 attributes_short None = omega arith
 attributes_short (Some true) = omega arith
 attributes_short (Some false) = omega arith
-
-device_short : (device : DeviceName) → length (device_text device) ≤ 9
-device_short P16L8 = omega arith
-device_short P16R4 = omega arith
-device_short P16R6 = omega arith
-device_short P16R8 = omega arith
-device_short GAL22V10 = omega arith
-device_short GAL16V8C = omega arith
-device_short GAL16V8R4 = omega arith
-device_short GAL16V8R6 = omega arith
-device_short GAL16V8R8 = omega arith
 
 -- ---- sums
 
