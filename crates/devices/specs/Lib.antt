@@ -1,15 +1,11 @@
 pub mod CounterCells
 pub mod DeviceLaws
 pub mod Devices
-pub mod Gal16V8Laws
 pub mod Gal16V8Tables
-pub mod Gal22V10Laws
 pub mod Gal22V10Table
 pub mod MixedCells
 pub mod Pal16Cells
-pub mod Pal16L8Laws
 pub mod Pal16L8Table
-pub mod Pal16RLaws
 pub mod Pal16RTables
 pub mod Prelude
 pub mod SmallCells

@@ -4,7 +4,7 @@ pub use Rattle.pld_base.specs.Points.{Levels}
 pub use Rattle.pld_base.specs.declared.device_name.DeviceName.{DeviceName}
 pub use Rattle.pld_base.specs.declared.device_name.DeviceName.TheVariants.{GAL16V8C, GAL16V8R4, GAL16V8R6, GAL16V8R8, GAL22V10, P16L8, P16R4, P16R6, P16R8}
 pub use Rattle.pld_device.specs.DrawnFuses.{Drawn, drawn_array}
-pub use Rattle.pld_device.specs.LawTests.{device_by_computation}
+pub use Rattle.pld_device.specs.LawTests.{device_by_computation, passes_all}
 pub use Rattle.pld_device.specs.Laws.{IsDevice}
 pub use Rattle.pld_device.specs.ShownCells.{ShownRow, ShowsEach, point_with, shown}
 pub use Rattle.pld_device.specs.Table.{Table, cell_at}

@@ -10,12 +10,13 @@ use pld_device::{Carry, Cell, Chip, Flip, FuseBit, Part};
 pub struct Gal16V8C;
 
 impl Part for Gal16V8C {
-    ghost use Rattle.devices.specs.Gal16V8Laws.{gal16v8c_sound};
+    ghost use Rattle.devices.specs.Prelude.{GAL16V8C};
+    ghost use Rattle.devices.specs.DeviceLaws.{table_sound};
     ghost use Rattle.devices.specs.Gal16V8Tables.{gal16v8c};
 
     ghost table = { λ p. gal16v8c };
 
-    ghost sound = { λ p. gal16v8c_sound };
+    ghost sound = { λ p. table_sound GAL16V8C };
 
     fn chip(&self) -> Chip {
         Chip {

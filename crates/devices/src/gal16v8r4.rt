@@ -10,12 +10,13 @@ use pld_device::{Carry, Cell, Chip, Flip, FuseBit, Part};
 pub struct Gal16V8R4;
 
 impl Part for Gal16V8R4 {
-    ghost use Rattle.devices.specs.Gal16V8Laws.{gal16v8r4_sound};
+    ghost use Rattle.devices.specs.Prelude.{GAL16V8R4};
+    ghost use Rattle.devices.specs.DeviceLaws.{table_sound};
     ghost use Rattle.devices.specs.Gal16V8Tables.{gal16v8r4};
 
     ghost table = { λ p. gal16v8r4 };
 
-    ghost sound = { λ p. gal16v8r4_sound };
+    ghost sound = { λ p. table_sound GAL16V8R4 };
 
     fn chip(&self) -> Chip {
         Chip {

@@ -25,12 +25,13 @@ fn either(pin: u8, enable: u16, room: u8) -> Cell
 }
 
 impl Part for Gal22V10 {
-    ghost use Rattle.devices.specs.Gal22V10Laws.{gal22v10_sound};
+    ghost use Rattle.devices.specs.Prelude.{GAL22V10};
+    ghost use Rattle.devices.specs.DeviceLaws.{table_sound};
     ghost use Rattle.devices.specs.Gal22V10Table.{gal22v10};
 
     ghost table = { λ p. gal22v10 };
 
-    ghost sound = { λ p. gal22v10_sound };
+    ghost sound = { λ p. table_sound GAL22V10 };
 
     fn chip(&self) -> Chip {
         Chip {

@@ -41,12 +41,13 @@ impl Pal16L8 {
 }
 
 impl Part for Pal16L8 {
-    ghost use Rattle.devices.specs.Pal16L8Laws.{pal16l8_sound};
+    ghost use Rattle.devices.specs.Prelude.{P16L8};
+    ghost use Rattle.devices.specs.DeviceLaws.{table_sound};
     ghost use Rattle.devices.specs.Pal16L8Table.{pal16l8};
 
     ghost table = { λ p. pal16l8 };
 
-    ghost sound = { λ p. pal16l8_sound };
+    ghost sound = { λ p. table_sound P16L8 };
 
     fn chip(&self) -> Chip {
         Chip {

@@ -9,12 +9,13 @@ use pld_device::{Carry, Cell, Chip, Flip, FuseBit, Part};
 pub struct Pal16R6;
 
 impl Part for Pal16R6 {
-    ghost use Rattle.devices.specs.Pal16RLaws.{pal16r6_sound};
+    ghost use Rattle.devices.specs.Prelude.{P16R6};
+    ghost use Rattle.devices.specs.DeviceLaws.{table_sound};
     ghost use Rattle.devices.specs.Pal16RTables.{pal16r6};
 
     ghost table = { λ p. pal16r6 };
 
-    ghost sound = { λ p. pal16r6_sound };
+    ghost sound = { λ p. table_sound P16R6 };
 
     fn chip(&self) -> Chip {
         Chip {

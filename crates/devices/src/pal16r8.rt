@@ -9,12 +9,13 @@ use pld_device::{Carry, Cell, Chip, Flip, FuseBit, Part};
 pub struct Pal16R8;
 
 impl Part for Pal16R8 {
-    ghost use Rattle.devices.specs.Pal16RLaws.{pal16r8_sound};
+    ghost use Rattle.devices.specs.Prelude.{P16R8};
+    ghost use Rattle.devices.specs.DeviceLaws.{table_sound};
     ghost use Rattle.devices.specs.Pal16RTables.{pal16r8};
 
     ghost table = { λ p. pal16r8 };
 
-    ghost sound = { λ p. pal16r8_sound };
+    ghost sound = { λ p. table_sound P16R8 };
 
     fn chip(&self) -> Chip {
         Chip {
