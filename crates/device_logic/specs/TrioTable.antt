@@ -27,6 +27,7 @@ trio = record {
   reset = None;
   preset = None;
   flip = Always;
+  power_down = 0;
   cells = trio_cell 9 0 ∷ trio_cell 8 3 ∷ trio_cell 7 6 ∷ [];
   pairs = carry.Pin 1 ∷ carry.Pin 2 ∷ carry.Cell 0 ∷ carry.Cell 1 ∷ carry.Cell 2 ∷ [];
   inverted = [];

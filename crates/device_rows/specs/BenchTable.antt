@@ -31,6 +31,7 @@ bench = record {
   reset = None;
   preset = None;
   flip = AfterRegister;
+  power_down = 0;
   cells = bench_cell 5 0 Registered ∷ bench_cell 6 2 Combinational ∷ bench_cell 7 4 Combinational ∷ [];
   pairs = carry.Pin 2 ∷ carry.Pin 3 ∷ carry.Cell 1 ∷ [];
   inverted = Some (bit 36 false) ∷ Some (bit 37 false) ∷ Some (bit 38 false) ∷ [];

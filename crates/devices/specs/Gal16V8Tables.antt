@@ -42,6 +42,7 @@ gal16v8 name clock syn cells pairs = record {
   reset = None;
   preset = None;
   flip = BeforeRegister;
+  power_down = 0;
   cells = cells;
   pairs = pairs;
   inverted = xors;

@@ -86,6 +86,7 @@ gal22v10 = record {
   reset = Some 0;
   preset = Some 131;
   flip = AfterRegister;
+  power_down = 0;
   cells = gal22v10_cells;
   pairs = gal22v10_pairs;
   inverted = gal22v10_inverted;

@@ -25,6 +25,7 @@ pal16 name clock cells pairs = record {
   reset = None;
   preset = None;
   flip = Always;
+  power_down = 0;
   cells = cells;
   pairs = pairs;
   inverted = [];

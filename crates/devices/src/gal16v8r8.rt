@@ -32,6 +32,7 @@ impl Part for Gal16V8R8 {
             reset: None,
             preset: None,
             flip: Flip::BeforeRegister,
+            power_down: 0,
         }
     }
 

@@ -11,7 +11,7 @@ use pld_device::{Carry, Cell, Chip, Enable, Flip, FuseBit, Kinds, Part};
 pub struct Gal22V10;
 
 /// A cell: its pin, the row that enables it, and how many data rows follow that one.
-fn either(pin: u8, enable: u16, room: u8) -> Cell
+pub(crate) fn either(pin: u8, enable: u16, room: u8) -> Cell
     requires { enable < 132 }
     ensures { result ≡ either_cell pin enable room }
 {
@@ -47,6 +47,7 @@ impl Part for Gal22V10 {
             reset: Some(0),
             preset: Some(131),
             flip: Flip::AfterRegister,
+            power_down: 0,
         }
     }
 

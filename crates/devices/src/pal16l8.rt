@@ -63,6 +63,7 @@ impl Part for Pal16L8 {
             reset: None,
             preset: None,
             flip: Flip::Always,
+            power_down: 0,
         }
     }
 

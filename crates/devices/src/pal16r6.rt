@@ -31,6 +31,7 @@ impl Part for Pal16R6 {
             reset: None,
             preset: None,
             flip: Flip::Always,
+            power_down: 0,
         }
     }
 

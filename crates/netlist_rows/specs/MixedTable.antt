@@ -46,6 +46,7 @@ mixed = record {
   reset = Some 0;
   preset = Some 10;
   flip = BeforeRegister;
+  power_down = 0;
   cells = mixed_cells;
   pairs = mixed_pairs;
   inverted = Some (bit 156 true) ∷ Some (bit 154 false) ∷ Some (bit 155 true) ∷ [];

@@ -1,5 +1,5 @@
 -- The pins of a device's pairs and cells (this project's rule).
-use Rattle.std.specs.Prelude.{◌≡◌, ◌≢◌, ℕ, Bool, false, ◌==◌, ◌<◌, ◌≤◌, Option, Some, List, length, map, position, slice_get}
+use Rattle.std.specs.Prelude.{◌≡◌, ◌≢◌, ℕ, Bool, false, not, ◌&&◌, ◌==◌, ◌<◌, ◌≤◌, Option, Some, is_some, List, length, map, position, slice_get}
 use Rattle.pld_device.specs.declared.carry.Carry.{Carry}
 use Rattle.pld_device.specs.declared.carry.Carry.TheVariants as carry
 use Rattle.pld_device.specs.declared.cell.Cell.{Cell}
@@ -34,6 +34,10 @@ IsPairOf t pin pair = slice_get (pair_pins t) pair ≡ Some pin
 -- the cell is on the pin
 abbrev pub IsCellOf : Table → (pin c : ℕ) → Type 0
 IsCellOf t pin c = slice_get (cell_pins t) c ≡ Some pin
+
+-- a source may read the pin: a pair carries it or the cell on it, and it can't power the chip down
+abbrev pub is_read_pin : Table → (pin : ℕ) → Bool
+is_read_pin t pin = is_some (position (λ p. p == pin) (pair_pins t)) && not (pin == t.power_down)
 
 -- no two pairs represent one pin
 abbrev pub PairsApart : Table → Type 0

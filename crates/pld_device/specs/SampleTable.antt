@@ -37,6 +37,7 @@ sample = record {
   reset = Some 0;
   preset = Some 5;
   flip = AfterRegister;
+  power_down = 0;
   cells = sample_cells;
   pairs = carry.Pin 1 ∷ carry.Cell 0 ∷ carry.Pin 2 ∷ carry.Cell 1 ∷ [];
   inverted = Some (bit 48 false) ∷ Some (bit 49 false) ∷ [];

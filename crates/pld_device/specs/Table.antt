@@ -31,6 +31,8 @@ pub record Table : Type 0 where
   pub preset : Option ℕ
   -- if the device complements
   pub flip : Flip
+  -- the pin that may power the chip down, 0 if there isn't one: no source may read it
+  pub power_down : ℕ
   -- the cells, and what each pair of columns carries
   pub cells : List Cell
   pub pairs : List Carry
@@ -57,6 +59,7 @@ chip_of t = record {
   reset = t.reset;
   preset = t.preset;
   flip = t.flip;
+  power_down = t.power_down;
 }
 
 -- what represents a cell past the last one

@@ -30,4 +30,6 @@ pub struct Chip {
     pub preset: Option<u16>,
     /// If the device complements.
     pub flip: Flip,
+    /// The pin that may power the chip down, 0 if there isn't one.
+    pub power_down: u8,
 }

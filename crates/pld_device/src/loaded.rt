@@ -136,6 +136,13 @@ impl<D: Device> Loaded<D> {
         self.chip.flip
     }
 
+    /// The pin that may power the chip down, which no source may read; 0 if there isn't one.
+    pub fn power_down(&self) -> u8
+        ensures { result ≡ D.table.power_down }
+    {
+        self.chip.power_down
+    }
+
     /// What a pair of columns carries, pairs from 0.
     pub fn carries(&self, pair: u16) -> Carry
         requires { pair < length D.table.pairs }

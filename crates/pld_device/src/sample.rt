@@ -36,6 +36,7 @@ impl Part for Sample {
             reset: Some(0),
             preset: Some(5),
             flip: Flip::AfterRegister,
+            power_down: 0,
         }
     }
 
