@@ -1,11 +1,16 @@
+pub mod Atf22V10CTable
 pub mod CounterCells
 pub mod DeviceLaws
 pub mod Devices
 pub mod Gal16V8Tables
+pub mod Gal18V10Table
 pub mod Gal22V10Table
 pub mod MixedCells
 pub mod Pal16Cells
 pub mod Pal16L8Table
 pub mod Pal16RTables
+pub mod Pal20L10Table
+pub mod Pal20Tables
+pub mod PolarityTables
 pub mod Prelude
 pub mod SmallCells

@@ -3,15 +3,24 @@
 ghost use Rattle.std.specs.Prelude.{◌≡◌};
 ghost use Rattle.devices.specs.Devices.{table_of};
 
+use crate::atf22v10c::Atf22V10C;
 use crate::gal16v8c::Gal16V8C;
 use crate::gal16v8r4::Gal16V8R4;
 use crate::gal16v8r6::Gal16V8R6;
 use crate::gal16v8r8::Gal16V8R8;
+use crate::gal18v10::Gal18V10;
 use crate::gal22v10::Gal22V10;
 use crate::pal16l8::Pal16L8;
+use crate::pal16p8::Pal16P8;
 use crate::pal16r4::Pal16R4;
 use crate::pal16r6::Pal16R6;
 use crate::pal16r8::Pal16R8;
+use crate::pal18p8::Pal18P8;
+use crate::pal20l8::Pal20L8;
+use crate::pal20l10::Pal20L10;
+use crate::pal20r4::Pal20R4;
+use crate::pal20r6::Pal20R6;
+use crate::pal20r8::Pal20R8;
 use pld_base::DeviceName;
 use pld_device::{Device, Loaded, load};
 
@@ -29,5 +38,14 @@ pub fn loaded<D: Device>(name: DeviceName) -> Loaded<D>
         DeviceName::GAL16V8R4 => load::<D, Gal16V8R4>(&Gal16V8R4),
         DeviceName::GAL16V8R6 => load::<D, Gal16V8R6>(&Gal16V8R6),
         DeviceName::GAL16V8R8 => load::<D, Gal16V8R8>(&Gal16V8R8),
+        DeviceName::P20L8 => load::<D, Pal20L8>(&Pal20L8),
+        DeviceName::P20R4 => load::<D, Pal20R4>(&Pal20R4),
+        DeviceName::P20R6 => load::<D, Pal20R6>(&Pal20R6),
+        DeviceName::P20R8 => load::<D, Pal20R8>(&Pal20R8),
+        DeviceName::P20L10 => load::<D, Pal20L10>(&Pal20L10),
+        DeviceName::P16P8 => load::<D, Pal16P8>(&Pal16P8),
+        DeviceName::P18P8 => load::<D, Pal18P8>(&Pal18P8),
+        DeviceName::GAL18V10 => load::<D, Gal18V10>(&Gal18V10),
+        DeviceName::ATF22V10C => load::<D, Atf22V10C>(&Atf22V10C),
     }
 }

@@ -25,6 +25,15 @@ placed device.GAL16V8C = record { at = 5; within = refl; is = λ d. refl }
 placed device.GAL16V8R4 = record { at = 6; within = refl; is = λ d. refl }
 placed device.GAL16V8R6 = record { at = 7; within = refl; is = λ d. refl }
 placed device.GAL16V8R8 = record { at = 8; within = refl; is = λ d. refl }
+placed device.P20L8 = record { at = 9; within = refl; is = λ d. refl }
+placed device.P20R4 = record { at = 10; within = refl; is = λ d. refl }
+placed device.P20R6 = record { at = 11; within = refl; is = λ d. refl }
+placed device.P20R8 = record { at = 12; within = refl; is = λ d. refl }
+placed device.P20L10 = record { at = 13; within = refl; is = λ d. refl }
+placed device.P16P8 = record { at = 14; within = refl; is = λ d. refl }
+placed device.P18P8 = record { at = 15; within = refl; is = λ d. refl }
+placed device.GAL18V10 = record { at = 16; within = refl; is = λ d. refl }
+placed device.ATF22V10C = record { at = 17; within = refl; is = λ d. refl }
 
 pub each_device : (test : DeviceName → Bool) → list_all test device_names ≡ true → (name : DeviceName) → test name ≡ true
 each_device test all name =

@@ -16,6 +16,15 @@ device_text device.GAL16V8C = codes "GAL16V8C"
 device_text device.GAL16V8R4 = codes "GAL16V8R4"
 device_text device.GAL16V8R6 = codes "GAL16V8R6"
 device_text device.GAL16V8R8 = codes "GAL16V8R8"
+device_text device.P20L8 = codes "P20L8"
+device_text device.P20R4 = codes "P20R4"
+device_text device.P20R6 = codes "P20R6"
+device_text device.P20R8 = codes "P20R8"
+device_text device.P20L10 = codes "P20L10"
+device_text device.P16P8 = codes "P16P8"
+device_text device.P18P8 = codes "P18P8"
+device_text device.GAL18V10 = codes "GAL18V10"
+device_text device.ATF22V10C = codes "ATF22V10C"
 
 -- all of them
 abbrev pub device_names : List DeviceName
@@ -23,6 +32,12 @@ device_names =
     device.P16L8 ∷ device.P16R4 ∷ device.P16R6 ∷ device.P16R8
     ∷ device.GAL22V10
     ∷ device.GAL16V8C ∷ device.GAL16V8R4 ∷ device.GAL16V8R6 ∷ device.GAL16V8R8
+    ∷ device.P20L8 ∷ device.P20R4 ∷ device.P20R6 ∷ device.P20R8
+    ∷ device.P20L10
+    ∷ device.P16P8
+    ∷ device.P18P8
+    ∷ device.GAL18V10
+    ∷ device.ATF22V10C
     ∷ []
 
 -- a device's name in lower case, with the device

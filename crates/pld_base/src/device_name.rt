@@ -16,10 +16,19 @@ pub enum DeviceName {
     GAL16V8R4,
     GAL16V8R6,
     GAL16V8R8,
+    P20L8,
+    P20R4,
+    P20R6,
+    P20R8,
+    P20L10,
+    P16P8,
+    P18P8,
+    GAL18V10,
+    ATF22V10C,
 }
 
 /// All of them.
-const DEVICES: [DeviceName; 9] = [
+const DEVICES: [DeviceName; 18] = [
     DeviceName::P16L8,
     DeviceName::P16R4,
     DeviceName::P16R6,
@@ -29,6 +38,15 @@ const DEVICES: [DeviceName; 9] = [
     DeviceName::GAL16V8R4,
     DeviceName::GAL16V8R6,
     DeviceName::GAL16V8R8,
+    DeviceName::P20L8,
+    DeviceName::P20R4,
+    DeviceName::P20R6,
+    DeviceName::P20R8,
+    DeviceName::P20L10,
+    DeviceName::P16P8,
+    DeviceName::P18P8,
+    DeviceName::GAL18V10,
+    DeviceName::ATF22V10C,
 ];
 
 impl DeviceName {
@@ -46,6 +64,15 @@ impl DeviceName {
             DeviceName::GAL16V8R4 => "GAL16V8R4",
             DeviceName::GAL16V8R6 => "GAL16V8R6",
             DeviceName::GAL16V8R8 => "GAL16V8R8",
+            DeviceName::P20L8 => "P20L8",
+            DeviceName::P20R4 => "P20R4",
+            DeviceName::P20R6 => "P20R6",
+            DeviceName::P20R8 => "P20R8",
+            DeviceName::P20L10 => "P20L10",
+            DeviceName::P16P8 => "P16P8",
+            DeviceName::P18P8 => "P18P8",
+            DeviceName::GAL18V10 => "GAL18V10",
+            DeviceName::ATF22V10C => "ATF22V10C",
         }
     }
 
