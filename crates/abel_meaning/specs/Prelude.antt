@@ -27,7 +27,7 @@ pub use Rattle.pld_base.specs.Bits.{is_on, same_level}
 pub use Rattle.pld_base.specs.Logic.{Logic}
 pub use Rattle.pld_base.specs.Points.{Levels}
 pub use Rattle.pld_device.specs.Macrocells.{complement_if}
-pub use Rattle.pld_device.specs.Pins.{IsPairOf, carries_cell, cell_on, pair_pins}
+pub use Rattle.pld_device.specs.Pins.{IsPairOf, carries_cell, cell_on, is_read_pin, pair_pins}
 pub use Rattle.pld_device.specs.Table.{Table, cell_at}
 pub use Rattle.pld_device.specs.declared.enable.Enable.{Enable}
 pub use Rattle.pld_device.specs.declared.enable.Enable.TheVariants.{PinLow, Row}

@@ -1,7 +1,7 @@
 -- What a device's pin can be for a signal: whether a name may have it, what its cell can be, and what its column carries
 -- (the devices' datasheets, macrocell diagrams).
 use Rattle.std.specs.Prelude.{ℕ, ◌==◌, Bool, true, false, not, ◌&&◌, ◌||◌, Option, None, Some, is_some, List, position, nat_lt}
-use Rattle.abel_meaning.specs.Prelude.{list_any, Kinds, Combinational, Registered, Either, Table, pair_pins, cell_on, carries_cell, Extension, Kind, APin, ANode, Entry, is_stored}
+use Rattle.abel_meaning.specs.Prelude.{list_any, Kinds, Combinational, Registered, Either, Table, is_read_pin, cell_on, carries_cell, Extension, Kind, APin, ANode, Entry, is_stored}
 use Rattle.pld_device.specs.declared.cell.Cell.{Cell}
 use Rattle.abel_tree.specs.declared.words.Extension.TheVariants as extension
 use Rattle.abel_meaning.specs.Controls.{must_register, is_on_pin}
@@ -50,10 +50,10 @@ is_registered_node x = is_registered_by x.words.registered x.kind
 
 -- ---- columns
 
--- a pair of columns carries the pin's level: not so if the cell on it must register and nothing is assigned
+-- a pair of columns carries the pin's level, which may be read: not so if the cell on it must register and nothing is assigned
 abbrev pub carries_level : Table → Entry → (pin : ℕ) → Bool
 carries_level t x pin =
-    is_some (position (λ p. p == pin) (pair_pins t))
+    is_read_pin t pin
     && (x.assigned || not (list_any (λ (c : Cell). (c.pin == pin) && must_register c.kinds) t.cells))
 
 -- a pair of columns carries the Q of the cell that there may be
