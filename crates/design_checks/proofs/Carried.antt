@@ -5,7 +5,7 @@ use Rattle.std.proofs.lemmas.List.Quantifiers.{position-Some}
 use Rattle.pld_device.specs.declared.carry.Carry.{Carry}
 use Rattle.pld_device.specs.declared.carry.Carry.TheVariants as carry
 use Rattle.pld_device.specs.declared.cell.Cell.{Cell}
-use Rattle.pld_device.specs.Pins.{pair_pins, cell_on, carries_cell}
+use Rattle.pld_device.specs.Pins.{is_read_pin, pair_pins, cell_on, carries_cell}
 use Rattle.bit_expr.specs.declared.node.Leaf.{Leaf}
 use Rattle.bit_expr.specs.declared.node.Leaf.TheVariants as leaf
 use Rattle.abel_tree.specs.declared.words.Extension.TheVariants as extension
@@ -81,8 +81,9 @@ module _ (d : Context) (apart : PinsApart d) where
 
     level_carried : carries_level d.device (name_at d s) pin ≡ true → HasColumns d (leaf.Pin pin)
     level_carried there =
-        let parts = and_parts (is_some (position (λ p. p == pin) (pair_pins d.device))) ((name_at d s).assigned || not (list_any needs d.device.cells)) there in
-        let at = placed (λ p. p == pin) (pair_pins d.device) parts.0 in
+        let parts = and_parts (is_read_pin d.device pin) ((name_at d s).assigned || not (list_any needs d.device.cells)) there in
+        let found = and_parts (is_some (position (λ p. p == pin) (pair_pins d.device))) (not (pin == d.device.power_down)) parts.0 in
+        let at = placed (λ p. p == pin) (pair_pins d.device) found.0 in
         let is = position-Some (λ p. p == pin) (pair_pins d.device) at.0 0 at.1 in (
           (at.0, slice_get-get_or (pair_pins d.device) at.0 0 is.0 ∙ ap (λ x. Some x) (eqb-true (get_or (pair_pins d.device) at.0 0) pin is.1)),
           λ c low on. stores c low on (signal_on d c) refl parts.1,
