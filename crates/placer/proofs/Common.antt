@@ -73,7 +73,7 @@ pub use Rattle.pld_base.specs.Bits.{is_on}
 unfoldable pub use Rattle.pld_base.specs.Bits.{bits}
 pub use Rattle.pld_base.specs.declared.place.Place.{Place}
 pub use Rattle.pld_device.proofs.FirstPlaces.{any_here, any_none, place_first, place_here, place_later, place_none}
-pub use Rattle.pld_device.specs.Pins.{cell_on, pair_pins}
+pub use Rattle.pld_device.specs.Pins.{cell_on, is_read_pin}
 pub use Rattle.pld_device.specs.Table.{Table, no_cell}
 pub use Rattle.pld_device.specs.declared.cell.Cell.{Cell}
 pub use Rattle.pld_device.specs.declared.flip.Flip.{Flip}

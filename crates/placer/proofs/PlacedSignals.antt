@@ -1,6 +1,6 @@
 -- What becomes of each signal that was placed.
 use Rattle.std.proofs.Common.{◌≡◌, ℕ, zero, suc, ◌+◌, ◌<◌, Bool, true, false, not, ◌&&◌, ◌||◌, Option, None, Some, List, [], ◌∷◌, length, get_or, if◌then◌else◌, refl, sym, ap, ap₂, subst, ◌∙◌, arith, inl, inr, ◌==◌, is_some, position}
-use Rattle.placer.proofs.Common.{list_any, true≢false, and_parts, or_cases, length-map, Cell, Flip, pair_pins, Table, Assigned, named_of, sections_assign, is_assigned, is_clocked_target, Kind, APin, ANode, AConstant, ADeviceName, Words, Entry, is_signal, passes, names_any, is_stored, ModuleTree, declared_names, is_unnumbered, no_name, Holds, holds_of, is_registered, is_buffer_by_default, words_with_kind, with_kind, with_kinds, names_of, name_refusals, has_wrong_kind, has_wrong_kind_by, is_registered_by, is_registered_node, has_read_path, reads_by, IsAssignment, has_enable, is_read, IsFollowed, placed_module, Pins, with_pins, is_node, pin_of, node_pin_of, dc_of, all_released, module_wishes, placed_with, IsPlacedModule, is_buried_register, needs_pin, pin_fits, to_place, wish}
+use Rattle.placer.proofs.Common.{list_any, true≢false, and_parts, or_cases, length-map, Cell, Flip, is_read_pin, Table, Assigned, named_of, sections_assign, is_assigned, is_clocked_target, Kind, APin, ANode, AConstant, ADeviceName, Words, Entry, is_signal, passes, names_any, is_stored, ModuleTree, declared_names, is_unnumbered, no_name, Holds, holds_of, is_registered, is_buffer_by_default, words_with_kind, with_kind, with_kinds, names_of, name_refusals, has_wrong_kind, has_wrong_kind_by, is_registered_by, is_registered_node, has_read_path, reads_by, IsAssignment, has_enable, is_read, IsFollowed, placed_module, Pins, with_pins, is_node, pin_of, node_pin_of, dc_of, all_released, module_wishes, placed_with, IsPlacedModule, is_buried_register, needs_pin, pin_fits, to_place, wish}
 use Rattle.abel_meaning.specs.Controls.{must_register}
 use Rattle.placer.proofs.FittingPins.{no_wrong_kind, has_path, pins_fit}
 use Rattle.placer.proofs.GivenPins.{known_at, low_signal, needs_signal, pin_at, released_quiet}
@@ -57,7 +57,7 @@ followed_one t read x f pin on fit = (
     by_assigned a b false assigned kind = ap (λ k. reads_by t a false k None) kind ∙ level a b assigned
       where
         level : (a b : Entry) → a.assigned ≡ b.assigned → reads_by t a false (APin pin on.negated) None ≡ reads_by t b false (APin pin on.negated) None
-        level a b same = ap (λ assigned. is_some (position (λ p. p == pin) (pair_pins t)) && (assigned || not (list_any (λ (c : Cell). (c.pin == pin) && must_register c.kinds) t.cells))) same
+        level a b same = ap (λ assigned. is_read_pin t pin && (assigned || not (list_any (λ (c : Cell). (c.pin == pin) && must_register c.kinds) t.cells))) same
 
     path : (stored : Bool) → is_stored f ≡ stored → has_read_path t f None ≡ reads_by t (record x { kind = APin pin on.negated }) stored (APin pin on.negated) None
     path stored is = ap (λ b. reads_by t f b f.kind None) is ∙ by_assigned f (record x { kind = APin pin on.negated }) stored on.assigned on.kind
