@@ -1,6 +1,6 @@
 -- The source of a device's fuses (the devices' datasheets, macrocell diagrams; what is in which line is this project's
 -- rule).
-use Rattle.std.specs.Prelude.{ℕ, ◌==◌, Bool, true, false, not, ◌&&◌, ◌||◌, if◌then◌else◌, Option, None, Some, List, [], ◌∷◌, ◌++◌, length, filter, find, flat_map, map}
+use Rattle.std.specs.Prelude.{◌≡◌, ◌≢◌, ℕ, ◌==◌, Bool, true, false, not, ◌&&◌, ◌||◌, if◌then◌else◌, Option, None, Some, List, [], ◌∷◌, ◌++◌, length, filter, find, flat_map, map}
 use Rattle.decompiled.specs.Prelude.{list_any, range_with_len, Carry, Enable, Row, PinLow, complement_if, data_complements, data_rows, pin_complements, is_never_true, is_inverted, stores, Table, cell_at, Extension}
 use Rattle.pld_device.specs.declared.carry.Carry.TheVariants as carry
 use Rattle.pld_device.specs.Given.{never_drives}
@@ -109,6 +109,10 @@ pin_line t fuses pin = record { pin = pin; follows = follows_by t fuses (registe
 -- the pins that some line names, in rising order
 abbrev pub pins_of : Table → List Bool → List ℕ
 pins_of t fuses = filter (λ pin. list_any (names_pin pin) (lines_of t fuses)) (range_with_len 1 t.pins)
+
+-- the pin that may power the chip down, if there is one, isn't among them: no row of a line reads it
+abbrev pub SparesPowerDown : Table → List Bool → Type 0
+SparesPowerDown t fuses = t.power_down ≢ 0 → list_any (λ pin. pin == t.power_down) (pins_of t fuses) ≡ false
 
 -- ---- the whole
 
