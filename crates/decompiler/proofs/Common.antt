@@ -77,7 +77,7 @@ pub use Rattle.decompiled.specs.SourceTrees.{AreLines, ArePins, IsJoined, IsLine
 pub use Rattle.decompiled.specs.SourceTrees.{IsSum, attributes_in, word}
 pub use Rattle.decompiled.specs.Sources.{cell_lines, control_line, control_products, data_line, decompiled_text, enable_lines, first_register, follows_by}
 pub use Rattle.decompiled.specs.Sources.{has_lines, is_register_on, lines_of, live_rows, named, named_by, names_pin, pin_line, pins_of, product_names}
-pub use Rattle.decompiled.specs.Sources.{product_of, register_on, shared_lines, source_of}
+pub use Rattle.decompiled.specs.Sources.{SparesPowerDown, product_of, register_on, shared_lines, source_of}
 pub use Rattle.decompiled.specs.SumFormulas.{literal_formula, product_formula, sum_formula}
 pub use Rattle.decompiled.specs.declared.literal.PinLiteral.{PinLiteral}
 pub use Rattle.decompiled.specs.declared.pin_line.PinLine.{PinLine}
@@ -120,7 +120,7 @@ pub use Rattle.pld_base.specs.declared.place.Place.{Place}
 pub use Rattle.pld_device.proofs.OwnPins.{own_pins}
 pub use Rattle.pld_device.specs.Laws.{IsDevice, IsPair, IsSignalPin}
 pub use Rattle.pld_device.specs.Macrocells.{complement_if, data_rows, device_logic, pin_complements}
-pub use Rattle.pld_device.specs.Pins.{carries_cell, cell_on, pair_pins, pin_carried}
+pub use Rattle.pld_device.specs.Pins.{carries_cell, cell_on, is_read_pin, pair_pins, pin_carried}
 pub use Rattle.pld_device.specs.Reads.{is_never_true, row_reads}
 pub use Rattle.pld_device.specs.Registers.{is_inverted, says, stores, stores_by}
 pub use Rattle.pld_device.specs.Rows.{row_fuses}

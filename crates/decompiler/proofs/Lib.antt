@@ -1,3 +1,4 @@
+mod TextSizes
 pub mod Accepted
 pub mod BuiltCells
 pub mod BuiltNetlists
@@ -40,8 +41,8 @@ pub mod ShortSums
 pub mod SignalCells
 pub mod SignalPins
 pub mod SmallBits
+pub mod SparedPins
 pub mod Taken
-mod TextSizes
 pub mod Unexchanged
 pub mod UnrefusedDesigns
 pub mod UnrefusedNames

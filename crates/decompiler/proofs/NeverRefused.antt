@@ -12,7 +12,7 @@ pub texts_are_short : DecompiledTextsAreShort
 texts_are_short device fuses = text_short (table_of device) fuses (table_sound device)
 
 pub texts_are_accepted : SourcesAreRight → DecompiledTextsAreAccepted
-texts_are_accepted right device fuses can =
+texts_are_accepted right device fuses can spares =
     let t : Table = table_of device in
     let text : IsDecompiled t fuses (decompiled_text t fuses) =
     is_decompiled right t fuses (table_sound device) can.size can.no_loop can.no_path (decompiled_text t fuses) refl in
@@ -21,12 +21,12 @@ texts_are_accepted right device fuses can =
       read = text.read;
       device = device;
       named = text.right.named ∙ ap (λ (x : DeviceName). Some x) (table_has_name device);
-      so = (text.right.placed, text.right.accepted, text.right.fits);
+      so = (text.right.placed, text.right.accepted spares, text.right.fits spares);
     }
 
 pub texts_compile : DecompiledTextsAreAccepted → DecompiledTextsCompile
-texts_compile accepted device fuses r can never =
-    let text = accepted device fuses can in
+texts_compile accepted device fuses r can spares never =
+    let text = accepted device fuses can spares in
     by_answer r (never (record {
       source = text.source;
       read = text.read;

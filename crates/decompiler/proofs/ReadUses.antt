@@ -1,7 +1,7 @@
 -- Nothing is refused of what the lines of a decompiled source read: each signal has what is asked of it, and a pair of
 -- columns carries it.
 use Rattle.std.proofs.Common.{◌≡◌, ℕ, ◌+◌, ◌<◌, inl, inr, Bool, true, false, not, is_some, if◌then◌else◌, Option, Some, None, List, [], ◌∷◌, ◌++◌, length, filter, map, refl, sym, ap, subst, ◌∙◌, append-nil, eq-eqb, eqb-true, ◌==◌, ◌&&◌, ◌||◌, position}
-use Rattle.decompiler.proofs.Common.{AllByRecursion, each_append, list_any, position_from, and_from, and_right, cases_Bool, or_right, true≢false, Carry, Cell, Kinds, Combinational, Registered, Either, IsDevice, pair_pins, pin_carried, cell_on, carries_cell, says, stores, stores_by, Table, cell_at, no_cell, registered_at, own_pins, Extension, target_extension, Kind, APin, Entry, is_stored, Tree, Statement, ModuleTree, Equations, statements_of, must_register, Design, design_of, name_at, Term, extended_if, term_named, term_of, carries_level, carries_q, has_by, has_extension, has_read_path, is_missing, is_unread, missing_uses, reads_by, unread_uses, design_uses, is_compared, part_uses, TargetFound, left_side, is_compared_of, Written, aims_refused, is_written_at, narrow, statement_refused, statements_refused, unwritten, written_if, RefusedUse, PinLiteral, SumLine, name_text, q_if, AreLines, IsLine, IsSourceTree, lines_of, named_by, source_of, signal_of, HasNoCell, cell_name, free_plain, kind_is, name, known_is, IsDeclared, IsDeclaredLiteral, cell_here, flat_map, flat_map-append, SectionTree}
+use Rattle.decompiler.proofs.Common.{AllByRecursion, each_append, list_any, position_from, and_from, and_right, cases_Bool, or_right, true≢false, Carry, Cell, Kinds, Combinational, Registered, Either, IsDevice, is_read_pin, pair_pins, pin_carried, cell_on, carries_cell, says, stores, stores_by, Table, cell_at, no_cell, registered_at, own_pins, Extension, target_extension, Kind, APin, Entry, is_stored, Tree, Statement, ModuleTree, Equations, statements_of, must_register, Design, design_of, name_at, Term, extended_if, term_named, term_of, carries_level, carries_q, has_by, has_extension, has_read_path, is_missing, is_unread, missing_uses, reads_by, unread_uses, design_uses, is_compared, part_uses, TargetFound, left_side, is_compared_of, Written, aims_refused, is_written_at, narrow, statement_refused, statements_refused, unwritten, written_if, RefusedUse, PinLiteral, SumLine, name_text, q_if, SparesPowerDown, AreLines, IsLine, IsSourceTree, lines_of, named_by, source_of, signal_of, HasNoCell, cell_name, free_plain, kind_is, name, known_is, IsDeclared, IsDeclaredLiteral, cell_here, flat_map, flat_map-append, SectionTree}
 use Rattle.pld_device.specs.declared.carry.Carry.TheVariants as carry
 use Rattle.abel_tree.specs.declared.words.Extension.TheVariants as extension
 use Rattle.abel_meaning.specs.Terms.{Read}
@@ -15,6 +15,7 @@ use Rattle.decompiler.proofs.EachTree.{HoldsBySteps, sum_holds}
 use Rattle.decompiler.proofs.LineManners.{IsGoodLine, aimed}
 use Rattle.decompiler.proofs.PairColumns.{IsAmong, IsColumn, IsDevicePair, line_columns}
 use Rattle.decompiler.proofs.PinTargets.{none_at, not_compared}
+use Rattle.decompiler.proofs.SparedPins.{is_spared}
 
 -- ---- what is found in lists
 
@@ -43,7 +44,8 @@ any_mapped f test (x ∷ xs) = ap (λ (b : Bool). test (f x) || b) (any_mapped f
 
 -- ---- what is read
 
-module _ (t : Table) (fuses : List Bool) (laws : IsDevice t) (m : ModuleTree) (is : IsSourceTree (source_of t fuses) m) where
+module _ (t : Table) (fuses : List Bool) (laws : IsDevice t) (m : ModuleTree) (is : IsSourceTree (source_of t fuses) m)
+    (spares : SparesPowerDown t fuses) where
   abbrev d : Design
   d = design_of t m
 
@@ -59,6 +61,11 @@ module _ (t : Table) (fuses : List Bool) (laws : IsDevice t) (m : ModuleTree) (i
   carried x pin among same =
       found_some (λ (p : ℕ). p == pin) (pair_pins t)
       (any_mapped (pin_carried t) (λ (p : ℕ). p == pin) t.pairs ∙ among (λ (y : Carry). pin_carried t y == pin) (eq-eqb (pin_carried t x) pin same))
+
+  may_be_read : (x : Carry) (pin : ℕ) → IsDeclared t fuses laws pin → IsAmong t.pairs x → pin_carried t x ≡ pin → is_read_pin t pin ≡ true
+  may_be_read x pin dec among same =
+      and_from (is_some (position (λ (p : ℕ). p == pin) (pair_pins t))) (not (pin == t.power_down)) (carried x pin among same)
+      (ap not (is_spared t fuses laws spares pin dec))
 
   -- by the kind of its name, a combinational signal is read as its level, and a register as its Q
   level_read : (pin : ℕ) → IsDeclared t fuses laws pin → is_stored (x_on pin) ≡ false → carries_level t (x_on pin) pin ≡ true → IsReadable pin false
@@ -96,16 +103,16 @@ module _ (t : Table) (fuses : List Bool) (laws : IsDevice t) (m : ModuleTree) (i
         | inr other ↦ rw other refl
       ]
 
-  level_carried : (x : Carry) (pin : ℕ) → IsAmong t.pairs x → pin_carried t x ≡ pin
+  level_carried : (x : Carry) (pin : ℕ) → IsDeclared t fuses laws pin → IsAmong t.pairs x → pin_carried t x ≡ pin
       → ((i : ℕ) → i < length t.cells → (cell_at t i).pin ≡ pin → stores t fuses i ≡ false) → carries_level t (x_on pin) pin ≡ true
-  level_carried x pin among same plain =
-      and_from (is_some (position (λ (p : ℕ). p == pin) (pair_pins t))) ((x_on pin).assigned || not (list_any (must_on pin) t.cells)) (carried x pin among same)
+  level_carried x pin dec among same plain =
+      and_from (is_read_pin t pin) ((x_on pin).assigned || not (list_any (must_on pin) t.cells)) (may_be_read x pin dec among same)
       (or_right (x_on pin).assigned (not (list_any (must_on pin) t.cells)) (ap not (no_must pin plain)))
 
   pair_readable : (higher : Bool) (x : Carry) → IsDevicePair t fuses x → IsDeclared t fuses laws (named_by t fuses higher x).pin
       → IsReadable (named_by t fuses higher x).pin (named_by t fuses higher x).of_q
   pair_readable higher (carry.Pin pin) of dec =
-      level_read pin dec (free_plain t fuses laws m is pin dec none) (level_carried (carry.Pin pin) pin of.among refl (λ i within same. absurd (none i within same)))
+      level_read pin dec (free_plain t fuses laws m is pin dec none) (level_carried (carry.Pin pin) pin dec of.among refl (λ i within same. absurd (none i within same)))
     where
       none : HasNoCell t fuses laws m is pin
       none c within same = of.law.1 c no_cell within same
@@ -124,7 +131,7 @@ module _ (t : Table) (fuses : List Bool) (laws : IsDevice t) (m : ModuleTree) (i
       by_kind false e =
           level_read (cell_at t c).pin dec (x_stored ∙ e)
           (
-          level_carried (carry.Cell c) (cell_at t c).pin of.among refl
+          level_carried (carry.Cell c) (cell_at t c).pin dec of.among refl
           (λ i within same. ap (stores t fuses) ((own_pins t laws).apart i c within of.law same) ∙ e)
           )
 

@@ -1,6 +1,6 @@
 -- A device can take the netlist of a decompiled source.
 use Rattle.std.proofs.Common.{◌≡◌, ℕ, suc, ◌<◌, inl, inr, Bool, true, false, not, Some, List, slice_get, refl, sym, ap, ◌∙◌, eqb-true}
-use Rattle.decompiler.proofs.Common.{true≢false, Flip, Always, AfterRegister, BeforeRegister, IsDevice, pin_complements, is_inverted, Table, arena, Kind, ANode, follows_q, ModuleTree, is_on_pin, Design, design_of, name_at, HasNoSignalLoop, HasNoSignalPath, NodesAreFew, PinsApart, Contributions, AreContributed, IsSourceTree, pins_of, source_of, taken_once, cell_name, IsNameAt, names_at, is_named, DesignsAreTakeable}
+use Rattle.decompiler.proofs.Common.{true≢false, Flip, Always, AfterRegister, BeforeRegister, IsDevice, pin_complements, is_inverted, Table, arena, Kind, ANode, follows_q, ModuleTree, is_on_pin, Design, design_of, name_at, HasNoSignalLoop, HasNoSignalPath, NodesAreFew, PinsApart, Contributions, AreContributed, SparesPowerDown, IsSourceTree, pins_of, source_of, taken_once, cell_name, IsNameAt, names_at, is_named, DesignsAreTakeable}
 use Rattle.design.specs.Accepted.{BuffersAreBehind}
 use Rattle.design.specs.Unrefused.{IsUnrefused, UnrefusedIsTakeable}
 use Rattle.design.specs.AssignedCorrect.{HasSoundDeclarations}
@@ -83,19 +83,19 @@ module _ (t : Table) (fuses : List Bool) (laws : IsDevice t) (m : ModuleTree) (i
   -- ---- the whole
 
   module _ (found : Contributions) (of : AreContributed d found) where
-    pub unrefused_by : (no_loop : HasNoSignalLoop d) → ((s : ℕ) → HasNoSignalPath d s) → IsUnrefused d found.list
-    unrefused_by no_loop no_path = record {
+    pub unrefused_by : SparesPowerDown t fuses → (no_loop : HasNoSignalLoop d) → ((s : ℕ) → HasNoSignalPath d s) → IsUnrefused d found.list
+    unrefused_by spares no_loop no_path = record {
       kinds = targets_pass t fuses laws m is (arena found.exprs) rule.Kinds found.list (all_of t fuses laws m is found of);
       nodes = no_nodes 0 d.context.names (names_plain t fuses laws m is);
       controls = targets_pass t fuses laws m is (arena found.exprs) rule.Controls found.list (all_of t fuses laws m is found of);
-      missing = none_missing t fuses laws m is (good_lines t fuses laws m is);
-      unread = none_unread t fuses laws m is (good_lines t fuses laws m is);
+      missing = none_missing t fuses laws m is spares (good_lines t fuses laws m is);
+      unread = none_unread t fuses laws m is spares (good_lines t fuses laws m is);
       no_loop = no_loop;
       no_path = no_path;
     }
 
 pub designs_takeable : UnrefusedIsTakeable → DesignsAreTakeable
-designs_takeable takes t fuses m laws long is no_loop no_path found of =
+designs_takeable takes t fuses m laws long is no_loop no_path spares found of =
     takes (design_of t m) (arena found.exprs) found.list laws
     (all_accepted t m (declarations t fuses laws m is) (sections_pass t fuses laws m is)) of.gives
-    (unrefused_by t fuses laws m is found of (no_signal_loop t fuses laws long m is no_loop) (λ s. no_signal_path t fuses laws long m is s no_path))
+    (unrefused_by t fuses laws m is found of spares (no_signal_loop t fuses laws long m is no_loop) (λ s. no_signal_path t fuses laws long m is s no_path))

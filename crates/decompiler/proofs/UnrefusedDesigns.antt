@@ -1,6 +1,6 @@
 -- Nothing is refused of the design of a decompiled source.
 use Rattle.std.proofs.Common.{◌≡◌, Bool, List, [], ◌++◌, map, ap, ◌∙◌}
-use Rattle.decompiler.proofs.Common.{AllByRecursion, IsDevice, Table, arena, Formula, ModuleTree, Design, design_of, Contribution, Contributions, AreContributed, no_controls, other_levels, refuses, targets_refused, Rule, missing_uses, RefusedUse, told, unwritten, IsSourceTree, lines_of, source_of, leaf_of, signal_of, given_is, DesignsAreUnrefused}
+use Rattle.decompiler.proofs.Common.{AllByRecursion, IsDevice, Table, arena, Formula, ModuleTree, Design, design_of, Contribution, Contributions, AreContributed, SparesPowerDown, no_controls, other_levels, refuses, targets_refused, Rule, missing_uses, RefusedUse, told, unwritten, IsSourceTree, lines_of, source_of, leaf_of, signal_of, given_is, DesignsAreUnrefused}
 use Rattle.design_checks.specs.Verdict.{HasSoundSignals}
 use Rattle.design_checks.specs.declared.rules.Rule.TheVariants as rule
 use Rattle.decompiler.proofs.LineManners.{IsGoodLine}
@@ -30,25 +30,25 @@ module _ (t : Table) (fuses : List Bool) (laws : IsDevice t) (m : ModuleTree) (i
   rule_passes : (r : Rule) → targets_refused (refuses t fs r) d.context.names cs ≡ []
   rule_passes r = targets_pass t fuses laws m is fs r cs all_of
 
-  controls_pass : no_controls d fs cs ≡ []
-  controls_pass =
+  controls_pass : SparesPowerDown t fuses → no_controls d fs cs ≡ []
+  controls_pass spares =
       ap (λ (rs : List RefusedUse). (rs ++ other_levels t fs d.context.names cs) ++ (unwritten d ++ map told (missing_uses d))) (rule_passes rule.Controls)
       ∙ ap (λ (rs : List RefusedUse). rs ++ (unwritten d ++ map told (missing_uses d))) (rule_passes rule.Levels)
-      ∙ ap (λ (rs : List RefusedUse). rs ++ map told (missing_uses d)) (all_written t fuses laws m is (good_lines t fuses laws m is))
-      ∙ ap (map told) (none_missing t fuses laws m is (good_lines t fuses laws m is))
+      ∙ ap (λ (rs : List RefusedUse). rs ++ map told (missing_uses d)) (all_written t fuses laws m is spares (good_lines t fuses laws m is))
+      ∙ ap (map told) (none_missing t fuses laws m is spares (good_lines t fuses laws m is))
 
-  pub sound : HasSoundSignals d fs cs
-  sound = record {
+  pub sound : SparesPowerDown t fuses → HasSoundSignals d fs cs
+  sound spares = record {
     kinds = record { kinds = rule_passes rule.Kinds; nodes = no_nodes 0 d.context.names (names_plain t fuses laws m is) };
     uses = record {
-      controls = record { controls = controls_pass; any = rule_passes rule.DontCares };
-      paths = ap (map told) (none_unread t fuses laws m is (good_lines t fuses laws m is));
+      controls = record { controls = controls_pass spares; any = rule_passes rule.DontCares };
+      paths = ap (map told) (none_unread t fuses laws m is spares (good_lines t fuses laws m is));
     };
   }
 
 pub designs_unrefused : DesignsAreUnrefused
-designs_unrefused t fuses m laws long is no_loop no_path found of = record {
-  signals = sound t fuses laws m is found of;
+designs_unrefused t fuses m laws long is no_loop no_path spares found of = record {
+  signals = sound t fuses laws m is found of spares;
   no_loop = no_signal_loop t fuses laws long m is no_loop;
   no_path = λ s. no_signal_path t fuses laws long m is s no_path;
 }

@@ -12,7 +12,7 @@ pub use Rattle.compile_phases.specs.SourceRefusals.{IsAcceptedFor, IsNetlistOf, 
 pub use Rattle.decompiled.specs.SourceTrees.{IsSourceTree}
 pub use Rattle.decompiled.specs.Sources.{cell_lines, control_products, data_line, decompiled_text, enable_lines, first_register, has_lines, is_complement}
 pub use Rattle.decompiled.specs.Sources.{is_register_on, lines_of, named, named_by, names_pin, pin_line, product_names, product_of, register_on, shared_lines}
-pub use Rattle.decompiled.specs.Sources.{source_of}
+pub use Rattle.decompiled.specs.Sources.{SparesPowerDown, source_of}
 pub use Rattle.decompiled.specs.declared.literal.PinLiteral.{PinLiteral}
 pub use Rattle.device_logic.specs.Array.{CarryInRange, is_live}
 pub use Rattle.device_logic.specs.CellReads.{cell_reads}
