@@ -14,24 +14,28 @@ use crate::said::Said;
 use crate::vectors::vectors;
 use jedec_file::{Field, JedecFault, fuse_sum};
 use pld_base::ListOf;
-use pld_device::{Device, Fuses};
+use pld_device::{Device, Fuses, Loaded};
 use std::alloc::Global;
 
 /// What these fields say, or why they are no fuse file's.
-pub fn contents<D: Device>(alloc: Global, fields: &[Field]) -> Result<FuseFile, JedecFault>
+pub fn contents<D: Device>(
+    alloc: Global,
+    device: &Loaded<D>,
+    fields: &[Field],
+) -> Result<FuseFile, JedecFault>
     requires { All (FieldFits D.table) fields.now }
     ensures file { Gives (contents D.table) result (contents_of D.table fields.now) }
     ensures fuses { IfOk result (λ file. length file.fuses ≡ D.table.fuses) }
     ensures padded { IfOk result (λ file. All (IsPadded D.table) file.vectors) }
 {
     let said = Said::by(fields);
-    let listed = listed::<D>(&said, fields)?;
-    let table = level_table::<D>(alloc, fields)?;
+    let listed = listed::<D>(device, &said, fields)?;
+    let table = level_table::<D>(alloc, device, fields)?;
     let count = usize::from(listed);
     let default = default_level(said.default_fuse, table.as_slice().split_at(count).0)?;
     let levels = fuse_levels(alloc, &table, listed, default)?;
     check_fuse_sum(said.fuse_sum, levels.as_slice().split_at(count).0)?;
-    let vectors = vectors::<D>(alloc, fields)?;
+    let vectors = vectors::<D>(alloc, device, fields)?;
     Ok(FuseFile {
         fuses: Fuses::from_levels(levels),
         listed,
@@ -41,31 +45,33 @@ pub fn contents<D: Device>(alloc: Global, fields: &[Field]) -> Result<FuseFile, 
 }
 
 /// The number of fuses that the file lists, one of the device's.
-fn listed<D: Device>(said: &Said, fields: &[Field]) -> Result<u16, JedecFault>
+fn listed<D: Device>(device: &Loaded<D>, said: &Said, fields: &[Field]) -> Result<u16, JedecFault>
     requires { IsSaidBy fields.now said.now }
     ensures size { Gives (λ count. count) result (size_of D.table fields.now) }
     ensures few { IfOk result (λ count. count ≤ D.table.fuses) }
 {
     match said.fuse_count {
-        Some(count) if is_size::<D>(said.pin_count, fields, count) => Ok(count),
+        Some(count) if is_size::<D>(device, said.pin_count, fields, count) => Ok(count),
         _ => Err(JedecFault::WrongSize),
     }
 }
 
 /// The number of fuses is one of the device's, the number of pins is the device's, and no level is
 /// past the fuses.
-fn is_size<D: Device>(pins: Option<u16>, fields: &[Field], count: u16) -> bool
+fn is_size<D: Device>(device: &Loaded<D>, pins: Option<u16>, fields: &[Field], count: u16) -> bool
     ensures { result ≡ size_fits D.table pins fields.now count }
 {
-    (count == D::FUSES || count == D::SHORT) && is_pin_count::<D>(pins) && all_end_by(fields, count)
+    (count == device.fuses() || count == device.short())
+        && is_pin_count::<D>(device, pins)
+        && all_end_by(fields, count)
 }
 
 /// The number of pins, if it is said, is the device's.
-fn is_pin_count<D: Device>(pins: Option<u16>) -> bool
+fn is_pin_count<D: Device>(device: &Loaded<D>, pins: Option<u16>) -> bool
     ensures { result ≡ is_pin_count D.table pins }
 {
     match pins {
-        Some(count) => count == u16::from(D::PINS),
+        Some(count) => count == u16::from(device.pins()),
         None => true,
     }
 }

@@ -13,13 +13,14 @@ use crate::words::{
 };
 use jedec_file::Field;
 use pld_base::ListOf;
-use pld_device::Device;
+use pld_device::{Device, Loaded};
 use std::alloc::{AllocError, Global};
 
 /// What the field of a letter and the text after it says; `None` if it is no field.
 #[tactic(auto, unfolding(jedec_file::specs::Fields::field_of))]
 pub fn field_of<D: Device>(
     alloc: Global,
+    device: &Loaded<D>,
     letter: u8,
     text: &[u8],
 ) -> Result<Option<Field>, AllocError>
@@ -28,12 +29,12 @@ pub fn field_of<D: Device>(
     match letter {
         b'Q' => Ok(counts(text)),
         b'F' => Ok(default_fuse(text)),
-        b'L' => levels_field::<D>(alloc, text),
+        b'L' => levels_field::<D>(alloc, device, text),
         b'C' => Ok(fuse_sum(text)),
         b'G' => Ok(security(text)),
         b'X' => Ok(default_test(text)),
-        b'P' => order_field::<D>(alloc, text),
-        b'V' => vector_field::<D>(alloc, text),
+        b'P' => order_field::<D>(alloc, device, text),
+        b'V' => vector_field::<D>(alloc, device, text),
         _ => Ok(passed_over(letter)),
     }
 }
@@ -98,7 +99,11 @@ fn passed_over(letter: u8) -> Option<Field>
 }
 
 /// `L`: a fuse, and the levels from it on. Takes memory for the levels.
-fn levels_field<D: Device>(alloc: Global, text: &[u8]) -> Result<Option<Field>, AllocError>
+fn levels_field<D: Device>(
+    alloc: Global,
+    device: &Loaded<D>,
+    text: &[u8],
+) -> Result<Option<Field>, AllocError>
     ensures { IfOk result (λ found. found ≡ fields.levels_field D.table (fields.words text.now)) }
 {
     let Some((first, rest)) = first_word(text) else {
@@ -108,13 +113,13 @@ fn levels_field<D: Device>(alloc: Global, text: &[u8]) -> Result<Option<Field>, 
         return Ok(None);
     }
     match levels(alloc, rest)? {
-        Some(levels) => Ok(levels_from::<D>(first, levels)),
+        Some(levels) => Ok(levels_from::<D>(device, first, levels)),
         None => Ok(None),
     }
 }
 
 /// The levels from the fuse on that the number names; a number of any size goes with no levels.
-fn levels_from<D: Device>(first: &[u8], levels: Vec<bool>) -> Option<Field>
+fn levels_from<D: Device>(device: &Loaded<D>, first: &[u8], levels: Vec<bool>) -> Option<Field>
     requires { all_ascii_digits first.now ≡ true }
     ensures { result ≡ fields.levels_from D.table (digits_value 10 first.now) levels.items }
 {
@@ -122,27 +127,35 @@ fn levels_from<D: Device>(first: &[u8], levels: Vec<bool>) -> Option<Field>
         return Some(Field::Passed);
     }
     let first = short_number(first)?;
-    if usize::from(first) + levels.len() > usize::from(D::FUSES) {
+    if usize::from(first) + levels.len() > usize::from(device.fuses()) {
         return None;
     }
     Some(Field::Levels(first, ListOf::from_vec(levels)))
 }
 
 /// `P`: the pin of each place of a vector. Takes memory for the pins.
-fn order_field<D: Device>(alloc: Global, text: &[u8]) -> Result<Option<Field>, AllocError>
+fn order_field<D: Device>(
+    alloc: Global,
+    device: &Loaded<D>,
+    text: &[u8],
+) -> Result<Option<Field>, AllocError>
     ensures { IfOk result (λ found. found ≡ fields.order_field D.table (fields.words text.now)) }
 {
     let Some(order) = pin_numbers(alloc, text)? else {
         return Ok(None);
     };
-    if is_each_pin(D::PINS, &order) {
+    if is_each_pin(device.pins(), &order) {
         return Ok(Some(Field::PinOrder(ListOf::from_vec(order))));
     }
     Ok(None)
 }
 
 /// `V`: a number, and a character for each pin. Takes memory for the characters.
-fn vector_field<D: Device>(alloc: Global, text: &[u8]) -> Result<Option<Field>, AllocError>
+fn vector_field<D: Device>(
+    alloc: Global,
+    device: &Loaded<D>,
+    text: &[u8],
+) -> Result<Option<Field>, AllocError>
     ensures { IfOk result (λ found. found ≡ fields.vector_field D.table (fields.words text.now)) }
 {
     let Some((first, rest)) = first_word(text) else {
@@ -152,7 +165,7 @@ fn vector_field<D: Device>(alloc: Global, text: &[u8]) -> Result<Option<Field>, 
         return Ok(None);
     };
     let characters = characters(alloc, rest)?;
-    if is_vector(D::PINS, number, &characters) {
+    if is_vector(device.pins(), number, &characters) {
         return Ok(Some(Field::Vector(number, ListOf::from_vec(characters))));
     }
     Ok(None)

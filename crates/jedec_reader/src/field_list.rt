@@ -12,35 +12,49 @@ use crate::field::field_of;
 use crate::frame::{frame_of, place_of};
 use crate::words::trimmed;
 use jedec_file::{Field, JedecFault};
-use pld_device::Device;
+use pld_device::{Device, Loaded};
 use std::alloc::Global;
 
 /// The fields of a fuse file's bytes, in order.
 ///
 /// Takes memory for the fields and for what each of them lists.
-pub fn fields<D: Device>(alloc: Global, bytes: &[u8]) -> Result<Vec<Field>, JedecFault>
+pub fn fields<D: Device>(
+    alloc: Global,
+    device: &Loaded<D>,
+    bytes: &[u8],
+) -> Result<Vec<Field>, JedecFault>
     requires { length bytes.now < 2 ^ 32 }
     ensures fields { Gives (λ v. v.items) result (fields_in D.table bytes.now) }
     ensures fits { IfOk result (λ v. All (FieldFits D.table) v.items) }
 {
     let (at, text) = frame_of(bytes)?;
-    behind_design::<D>(alloc, at, text)
+    behind_design::<D>(alloc, device, at, text)
 }
 
 /// The fields after the design text, which begins at the offset and has its asterisk.
 #[tactic(auto, unfolding(jedec_file::specs::FieldLists::behind_design))]
-fn behind_design<D: Device>(alloc: Global, at: usize, text: &[u8]) -> Result<Vec<Field>, JedecFault>
+fn behind_design<D: Device>(
+    alloc: Global,
+    device: &Loaded<D>,
+    at: usize,
+    text: &[u8],
+) -> Result<Vec<Field>, JedecFault>
     requires { at + length text.now < 2 ^ 32 }
     ensures { Gives (λ v. v.items) result (lists.behind_design D.table at (lists.pieces text.now)) }
 {
     let Some(length) = piece_len(text) else {
         return Err(JedecFault::BadField(at + text.len()));
     };
-    fields_from::<D>(alloc, at + length + 1, text.split_at(length + 1).1)
+    fields_from::<D>(alloc, device, at + length + 1, text.split_at(length + 1).1)
 }
 
 /// The fields of a text that begins at the offset.
-fn fields_from<D: Device>(alloc: Global, at: usize, text: &[u8]) -> Result<Vec<Field>, JedecFault>
+fn fields_from<D: Device>(
+    alloc: Global,
+    device: &Loaded<D>,
+    at: usize,
+    text: &[u8],
+) -> Result<Vec<Field>, JedecFault>
     requires { at + length text.now < 2 ^ 32 }
     ensures { Gives (λ v. v.items) result (lists.fields_from D.table at (lists.pieces text.now)) }
 {
@@ -48,7 +62,7 @@ fn fields_from<D: Device>(alloc: Global, at: usize, text: &[u8]) -> Result<Vec<F
     let mut place = at;
     let mut rest = text;
     while let Some(length) = piece_len(rest) {
-        let field = field_of_piece::<D>(alloc, place, rest.split_at(length).0)?;
+        let field = field_of_piece::<D>(alloc, device, place, rest.split_at(length).0)?;
         fields.push(field)?;
         place += length + 1;
         rest = rest.split_at(length + 1).1;
@@ -69,18 +83,28 @@ fn piece_len(text: &[u8]) -> Option<usize>
 }
 
 /// The field of a piece that begins at the offset and has its asterisk.
-fn field_of_piece<D: Device>(alloc: Global, at: usize, piece: &[u8]) -> Result<Field, JedecFault>
+fn field_of_piece<D: Device>(
+    alloc: Global,
+    device: &Loaded<D>,
+    at: usize,
+    piece: &[u8],
+) -> Result<Field, JedecFault>
     requires { at + length piece.now < 2 ^ 32 }
     ensures { Gives (λ field. field) result
         (lists.field_at D.table (letter_at at piece.now) (trimmed piece.now)) }
 {
     let text = trimmed(piece);
-    field_at::<D>(alloc, at + (piece.len() - text.len()), text)
+    field_at::<D>(alloc, device, at + (piece.len() - text.len()), text)
 }
 
 /// The field whose letter is at the offset.
 #[tactic(auto, unfolding(jedec_file::specs::FieldLists::field_at))]
-fn field_at<D: Device>(alloc: Global, at: usize, text: &[u8]) -> Result<Field, JedecFault>
+fn field_at<D: Device>(
+    alloc: Global,
+    device: &Loaded<D>,
+    at: usize,
+    text: &[u8],
+) -> Result<Field, JedecFault>
     ensures { Gives (λ field. field) result (lists.field_at D.table at text.now) }
 {
     let [letter, rest @ ..] = text else {
@@ -89,7 +113,7 @@ fn field_at<D: Device>(alloc: Global, at: usize, text: &[u8]) -> Result<Field, J
     if *letter == b'K' {
         return Err(JedecFault::UnsupportedField(at));
     }
-    match field_of::<D>(alloc, *letter, rest)? {
+    match field_of::<D>(alloc, device, *letter, rest)? {
         Some(field) => Ok(field),
         None => Err(JedecFault::BadField(at)),
     }

@@ -6,7 +6,7 @@ ghost use Rattle.jedec_reader.specs.FieldFits.{FieldFits};
 ghost use Rattle.jedec_reader.specs.VectorTable.{ArePlaces, place_of};
 
 use jedec_file::Field;
-use pld_device::Device;
+use pld_device::{Device, Loaded};
 
 /// The pins in rising order, of the device that has most.
 const RISING: [u8; 24] = [
@@ -15,11 +15,11 @@ const RISING: [u8; 24] = [
 
 /// Where vectors have the character of each pin, that of pin p at p - 1: by the last order of pins,
 /// and in rising order if there isn't one.
-pub fn places<D: Device>(fields: &[Field]) -> [u8; 24]
+pub fn places<D: Device>(device: &Loaded<D>, fields: &[Field]) -> [u8; 24]
     requires { All (FieldFits D.table) fields.now }
     ensures { ArePlaces (order_of D.table fields.now) result }
 {
-    let mut places = places_in(RISING.as_slice().split_at(usize::from(D::PINS)).0);
+    let mut places = places_in(RISING.as_slice().split_at(usize::from(device.pins())).0);
     for field in fields {
         if let Field::PinOrder(order) = field {
             places = places_in(order.as_slice());

@@ -9,24 +9,29 @@ ghost use Rattle.jedec_reader.specs.VectorTable.{ArePlaces, AreWithin, IsPlaced,
 use crate::pin_order::places;
 use jedec_file::Field;
 use pld_base::Vector;
-use pld_device::Device;
+use pld_device::{Device, Loaded};
 use std::alloc::{AllocError, Global};
 
 /// The test vectors of the fields: the last one of each number, in rising order of the numbers.
-pub fn vectors<D: Device>(alloc: Global, fields: &[Field]) -> Result<Vec<Vector>, AllocError>
+pub fn vectors<D: Device>(
+    alloc: Global,
+    device: &Loaded<D>,
+    fields: &[Field],
+) -> Result<Vec<Vector>, AllocError>
     requires { All (FieldFits D.table) fields.now }
     ensures chars { IfOk result (λ vectors.
         all_chars D.table vectors.items ≡ vectors_of D.table fields.now) }
     ensures padded { IfOk result (λ vectors. All (IsPadded D.table) vectors.items) }
 {
-    let places = places::<D>(fields);
-    let table = vector_table::<D>(alloc, fields, &places)?;
+    let places = places::<D>(device, fields);
+    let table = vector_table::<D>(alloc, device, fields, &places)?;
     present(alloc, &table)
 }
 
 /// The vectors by their numbers, None if a number has none.
 fn vector_table<D: Device>(
     alloc: Global,
+    device: &Loaded<D>,
     fields: &[Field],
     places: &[u8; 24],
 ) -> Result<Vec<Option<Vector>>, AllocError>

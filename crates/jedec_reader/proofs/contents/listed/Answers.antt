@@ -8,7 +8,7 @@ returns-in-Some-clause-size g c =
 
 pub returns-in-Some-clause-few : goal.returns-in-Some-clause-few
 returns-in-Some-clause-few g c =
-    size_few g.D.Device.table c.args.fields.now c.args.said.now.pin_count c.in-Some.count g.met.D.Device.sound.sizes.short_high (sym c.is_size.ensures ∙ c.if-is_size.true)
+    size_few g.D.Device.table c.args.fields.now c.args.said.now.pin_count c.in-Some.count g.D.Device.sound.sizes.short_high (sym c.is_size.ensures ∙ c.if-is_size.true)
 
 pub returns-in_default-clause-size : goal.returns-in_default-clause-size
 returns-in_default-clause-size g c =

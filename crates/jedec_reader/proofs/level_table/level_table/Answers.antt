@@ -8,7 +8,7 @@ use Rattle.jedec_reader.proofs.level_table.level_table.Goals.{in-Levels, in_defa
 pub loop-field-init : goal.loop-field-init
 loop-field-init g c =
     let made = c.in_ok-table.ensures.items_if_clones_equal (λ y same. search rules) in
-    let count : c.from.result ≡ g.D.Device.table.fuses = c.from.ensures ∙ (c.FUSES.ensures ∙ g.met.D.Device.fuses_is) in
+    let count : c.from.result ≡ g.D.Device.table.fuses = c.from.ensures ∙ c.fuses.ensures in
     made ∙ (ap (λ n. replicate n None) count ∙ said_none g.D.Device.table.fuses)
 
 pub put_levels-requires : goal.put_levels-requires

@@ -7,9 +7,9 @@ use Rattle.jedec_reader.proofs.pin_order.places.Goals.{in-PinOrder, in_default}
 
 pub loop-field-init : goal.loop-field-init
 loop-field-init g c =
-    let pins : c.from.result ≡ g.D.Device.table.pins = c.from.ensures ∙ (c.PINS.ensures ∙ g.met.D.Device.pins_is) in
+    let pins : c.from.result ≡ g.D.Device.table.pins = c.from.ensures ∙ c.pins.ensures in
     let front : c.split_at.result.0.now ≡ range_with_len 1 g.D.Device.table.pins =
-    c.split_at.ensures.front ∙ rw (c.as_slice.ensures, pins) (take-range_with_len 1 24 g.D.Device.table.pins g.met.D.Device.sound.sizes.pins_high) in
+    c.split_at.ensures.front ∙ rw (c.as_slice.ensures, pins) (take-range_with_len 1 24 g.D.Device.table.pins g.D.Device.sound.sizes.pins_high) in
     subst (λ (order : List ℕ). ArePlaces order c.places_in-places.result) front c.places_in-places.ensures
 
 pub loop-field-preserved : goal.loop-field-preserved
