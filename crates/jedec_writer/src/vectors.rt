@@ -9,7 +9,7 @@ ghost use Rattle.jedec_writer.specs.Places.{HasPlaces};
 
 use crate::lines::{put_counted, put_end};
 use pld_base::{OutOfMemory, Vector, put_four_digits};
-use pld_device::Device;
+use pld_device::{Device, Loaded};
 use std::alloc::Global;
 
 /// The number of vectors, if there are any.
@@ -40,7 +40,12 @@ pub fn put_default_test<D: Device>(out: &mut Vec<u8>, vectors: &[Vector]) -> Res
 }
 
 /// The line of a vector.
-fn put_vector<D: Device>(out: &mut Vec<u8>, number: u16, vector: &Vector) -> Result<(), OutOfMemory>
+fn put_vector<D: Device>(
+    device: &Loaded<D>,
+    out: &mut Vec<u8>,
+    number: u16,
+    vector: &Vector,
+) -> Result<(), OutOfMemory>
     ensures line { OnOk result (out.new.items ≡ out.old.items
         ++ line (codes "V" ++ four_digits number ++ space ∷ chars_of D.table vector.now)) }
     // What its type says, for the proof that the file is read back.
@@ -49,19 +54,23 @@ fn put_vector<D: Device>(out: &mut Vec<u8>, number: u16, vector: &Vector) -> Res
     out.push(b'V')?;
     put_four_digits(out, number)?;
     out.push(b' ')?;
-    out.extend_from_slice(&vector.chars[..usize::from(D::PINS)])?;
+    out.extend_from_slice(&vector.chars[..usize::from(device.pins())])?;
     put_end(out)
 }
 
 /// The lines of all vectors, with numbers from 1.
-pub fn put_vectors<D: Device>(out: &mut Vec<u8>, vectors: &[Vector]) -> Result<(), OutOfMemory>
+pub fn put_vectors<D: Device>(
+    device: &Loaded<D>,
+    out: &mut Vec<u8>,
+    vectors: &[Vector],
+) -> Result<(), OutOfMemory>
     requires { length vectors.now ≤ 9999 }
     ensures lines { OnOk result (out.new.items
         ≡ out.old.items ++ vector_lines 1 (all_chars D.table vectors.now)) }
     ensures places { OnOk result (All HasPlaces vectors.now) }
 {
     for (index, vector) in vectors.iter().enumerate() {
-        put_vector::<D>(out, index as u16 + 1, vector)?;
+        put_vector::<D>(device, out, index as u16 + 1, vector)?;
     }
     Ok(())
 }

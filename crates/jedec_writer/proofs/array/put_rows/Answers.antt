@@ -7,6 +7,5 @@ loop-row-init g c = no_rows g.D.Device.table.columns c.args.levels.now c.args.ou
 
 pub loop-row-preserved : goal.loop-row-preserved
 loop-row-preserved g c =
-    let columns = g.met.D.Device.columns_is in
     one_row_more g.D.Device.table.columns c.args.levels.now c.args.out.now.items c.loop-row.out.items c.put_levels_line.new.out.items c.loop-row.row c.loop-row.invariant
-    (c.in_ok-put_levels_line.ensures ∙ ap (λ (xs : List ℕ). c.loop-row.out.items ++ xs) (row_is g.D.Device.table.columns c.COLUMNS.result c.COLUMNS-in-loop-row.result c.from.result c.from-in-loop-row.result c.loop-row.row c.args.levels.now (c.COLUMNS.ensures ∙ columns) (c.COLUMNS-in-loop-row.ensures ∙ columns) c.from.ensures c.from-in-loop-row.ensures))
+    (c.in_ok-put_levels_line.ensures ∙ ap (λ (xs : List ℕ). c.loop-row.out.items ++ xs) (row_is g.D.Device.table.columns c.columns.result c.columns-in-loop-row.result c.from.result c.from-in-loop-row.result c.loop-row.row c.args.levels.now c.columns.ensures c.columns-in-loop-row.ensures c.from.ensures c.from-in-loop-row.ensures))

@@ -9,4 +9,4 @@ returns-clause-last g c =
     all ∙ four_parts t
 
 pub returns-clause-inside : goal.returns-clause-inside
-returns-clause-inside g c = rw (returns-clause-last g c) (control_inside g.D.Device.table g.met.D.Device.sound)
+returns-clause-inside g c = rw (returns-clause-last g c) (control_inside g.D.Device.table g.D.Device.sound)
