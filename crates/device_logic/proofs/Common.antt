@@ -39,7 +39,7 @@ pub use Rattle.pld_order.specs.Graphs.{HasLoop, HasNoLoop, HasNoPath, HasOrder, 
 pub use Rattle.pld_order.specs.Sets.{reads_of}
 pub use Rattle.device_logic.specs.Array.{CarryInRange, EnableInRange, IsArray, is_connected, is_live, is_whole, passes}
 pub use Rattle.device_logic.specs.CellReads.{IsCellOrder, cell_reads, data_reads, enable_reads, pairs_read, rest_reads, row_reads_cell}
-pub use Rattle.device_logic.specs.DeviceLookups.{Loaded, device_lookups}
+pub use Rattle.device_logic.specs.DeviceLookups.{OrderedFuses, device_lookups}
 pub use Rattle.device_logic.specs.Graphs.{HasCells, IsGraph, reads_as}
 pub use Rattle.device_logic.specs.PairCubes.{AsksBesides, IsPairCube}
 pub use Rattle.device_logic.specs.PairReads.{pair_reads}

@@ -4,7 +4,7 @@ use Rattle.device_logic.specs.Prelude.{Table, cell_at, stores, is_enabled, pin_l
 use Rattle.pld_machine.specs.declared.logic.Slot.TheVariants as slot
 
 -- fuses in a device, and the order in which its cells settle
-pub record Loaded : Type 0 where
+pub record OrderedFuses : Type 0 where
   pub fuses : List Bool
   pub order : List ℕ
 

@@ -7,19 +7,19 @@ ghost use Rattle.device_logic.specs.Array.{is_live};
 use crate::lookups::cell_of;
 use crate::rows::{is_connected, live_rows};
 use pld_base::OutOfMemory;
-use pld_device::{Device, FuseBit, Fuses, Kinds};
+use pld_device::{Device, FuseBit, Fuses, Kinds, Loaded};
 use std::alloc::Global;
-use std::marker::{Model, PhantomData};
+use std::marker::Model;
 
 /// The fuses of a device, with the rows that can be true; contracts see the fuses.
 #[derive(Drop)]
-pub struct FuseArray<D: Device> {
+pub struct FuseArray<'a, D: Device> {
     fuses: Vec<bool>,
     live: Vec<bool>,
-    device: PhantomData<D>,
+    device: &'a Loaded<D>,
 }
 
-impl<D: Device> Model for FuseArray<D> {
+impl<'a, D: Device> Model for FuseArray<'a, D> {
     ghost use Rattle.std.specs.Prelude.{List, Bool};
     ghost use Rattle.device_logic.specs.Array.{IsArray};
 
@@ -30,19 +30,28 @@ impl<D: Device> Model for FuseArray<D> {
     ghost invariant = { λ a. IsArray D.table a.fuses.items a.live.items };
 }
 
-impl<D: Device> FuseArray<D> {
+impl<'a, D: Device> FuseArray<'a, D> {
     /// The array with these fuses.
-    pub fn new(alloc: Global, fuses: &Fuses) -> Result<FuseArray<D>, OutOfMemory>
+    pub fn new(
+        alloc: Global,
+        device: &'a Loaded<D>,
+        fuses: &Fuses,
+    ) -> Result<FuseArray<'a, D>, OutOfMemory>
         requires { length fuses.now ≡ D.table.fuses }
         ensures { IfOk result (λ a. a ≡ fuses.now) }
     {
-        let live = live_rows::<D>(alloc, fuses.levels())?;
+        let live = live_rows::<D>(alloc, device, fuses.levels())?;
         let fuses = fuses.levels().to_vec(alloc)?;
         Ok(FuseArray {
             fuses,
             live,
-            device: PhantomData,
+            device,
         })
+    }
+
+    /// The device.
+    pub fn device(&self) -> &'a Loaded<D> {
+        self.device
     }
 
     /// Whether the row can be true, as far as its own fuses say.
@@ -60,7 +69,7 @@ impl<D: Device> FuseArray<D> {
         requires pair { pair < length D.table.pairs }
         ensures { result ≡ row_reads D.table self.now row pair }
     {
-        self.is_live(row) && is_connected::<D>(&self.fuses, row, pair)
+        self.is_live(row) && is_connected::<D>(self.device, &self.fuses, row, pair)
     }
 
     /// Whether a control fuse that is there has the level that it means.
@@ -79,10 +88,10 @@ impl<D: Device> FuseArray<D> {
         requires { cell < length D.table.cells }
         ensures { result ≡ stores D.table self.now cell }
     {
-        match cell_of::<D>(cell).kinds {
+        match cell_of::<D>(self.device, cell).kinds {
             Kinds::Combinational => false,
             Kinds::Registered => true,
-            Kinds::Either => self.says(D::registered_at(cell)),
+            Kinds::Either => self.says(self.device.registered_at(cell)),
         }
     }
 
@@ -91,6 +100,6 @@ impl<D: Device> FuseArray<D> {
         requires { cell < length D.table.cells }
         ensures { result ≡ is_inverted D.table self.now cell }
     {
-        self.says(D::inverted_at(cell))
+        self.says(self.device.inverted_at(cell))
     }
 }

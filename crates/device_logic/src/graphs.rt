@@ -34,7 +34,7 @@ enum Question {
 }
 
 /// The answer for one cell.
-fn holds<D: Device>(array: &FuseArray<D>, question: Question, cell: u8) -> bool
+fn holds<D: Device>(array: &FuseArray<'_, D>, question: Question, cell: u8) -> bool
     requires question { QuestionInRange D.table question }
     requires cell { cell < length D.table.cells }
     ensures { result ≡ holds D.table array.now question cell }
@@ -42,18 +42,18 @@ fn holds<D: Device>(array: &FuseArray<D>, question: Question, cell: u8) -> bool
     match question {
         Question::ReadBy(Reading::Waits, from) => cell_reads(array, from, cell),
         Question::ReadBy(Reading::Plain, from) => plain_reads(array, from, cell),
-        Question::ReadByReset => row_reads_if_any(array, D::RESET, cell),
+        Question::ReadByReset => row_reads_if_any(array, array.device().reset(), cell),
         Question::Register => array.stores(cell),
     }
 }
 
 /// The cells of which the answer is yes.
-fn cells<D: Device>(array: &FuseArray<D>, question: Question) -> VertexSet
+fn cells<D: Device>(array: &FuseArray<'_, D>, question: Question) -> VertexSet
     requires { QuestionInRange D.table question }
     ensures { HasCells D.table (holds D.table array.now question) result }
 {
     let mut cells = VertexSet::new();
-    for cell in 0..D::CELLS {
+    for cell in 0..array.device().cells() {
         if holds(array, question, cell) {
             cells.insert(cell);
         }
@@ -62,18 +62,18 @@ fn cells<D: Device>(array: &FuseArray<D>, question: Question) -> VertexSet
 }
 
 /// For each cell the cells that it reads.
-fn graph<D: Device>(array: &FuseArray<D>, reading: Reading) -> ArrayVec<VertexSet, 32>
+fn graph<D: Device>(array: &FuseArray<'_, D>, reading: Reading) -> ArrayVec<VertexSet, 32>
     ensures { IsGraph D.table (reads_as D.table array.now reading) result.items }
 {
     let mut sets = ArrayVec::new();
-    for cell in 0..D::CELLS {
+    for cell in 0..array.device().cells() {
         sets.push(cells(array, Question::ReadBy(reading, cell)));
     }
     sets
 }
 
 /// The cells in an order in which none waits for itself or a later one, or a loop.
-pub fn cell_order<D: Device>(array: &FuseArray<D>) -> Result<ArrayVec<u8, 256>, LoopFound>
+pub fn cell_order<D: Device>(array: &FuseArray<'_, D>) -> Result<ArrayVec<u8, 256>, LoopFound>
     ensures ok { IfOk result (λ order. IsCellOrder D.table array.now order.items) }
     ensures no_loop { IfOk result (λ _.
         HasNoLoop (length D.table.cells) (cell_reads D.table array.now)) }
@@ -84,7 +84,7 @@ pub fn cell_order<D: Device>(array: &FuseArray<D>) -> Result<ArrayVec<u8, 256>, 
 }
 
 /// The cells of a chain from the reset row to a register.
-pub fn reset_path<D: Device>(array: &FuseArray<D>) -> Option<ArrayVec<u8, 256>>
+pub fn reset_path<D: Device>(array: &FuseArray<'_, D>) -> Option<ArrayVec<u8, 256>>
     ensures found { IfSome result (λ path. IsResetPath D.table array.now path.items) }
     ensures once { IfSome result (λ path. IsDistinct eqb path.items) }
     ensures none { IfNone result (HasNoResetPath D.table array.now) }

@@ -15,17 +15,21 @@ use crate::logic::DeviceLogic;
 use crate::lookups::cell_of;
 use crate::masking::row_masks;
 use pld_base::OutOfMemory;
-use pld_device::{Device, Fuses};
+use pld_device::{Device, Fuses, Loaded};
 use std::alloc::Global;
 
 /// The pins of a list of cells.
-fn pins_of<D: Device>(alloc: Global, cells: &[u8]) -> Result<Vec<u8>, OutOfMemory>
+fn pins_of<D: Device>(
+    alloc: Global,
+    device: &Loaded<D>,
+    cells: &[u8],
+) -> Result<Vec<u8>, OutOfMemory>
     requires { All (λ c. c < length D.table.cells) cells.now }
     ensures { IfOk result (λ pins. pins.items ≡ pins_of D.table cells.now) }
 {
     let mut pins = Vec::new(alloc);
     for cell in cells {
-        pins.push(cell_of::<D>(*cell).pin)?;
+        pins.push(cell_of::<D>(device, *cell).pin)?;
     }
     Ok(pins)
 }
@@ -35,7 +39,11 @@ fn pins_of<D: Device>(alloc: Global, cells: &[u8]) -> Result<Vec<u8>, OutOfMemor
 /// Answers `DeviceLoop` if the cells have none, and else `DeviceResetReadsRegister` if the reset
 /// depends on a register; never `UnsupportedCondition`. Takes memory for the fuses, and a flag and a
 /// mask for each row, or for the pins of a fault.
-pub fn load<D: Device>(alloc: Global, fuses: &Fuses) -> Result<DeviceLogic<D>, SimFault>
+pub fn load<'a, D: Device>(
+    alloc: Global,
+    device: &'a Loaded<D>,
+    fuses: &Fuses,
+) -> Result<DeviceLogic<'a, D>, SimFault>
     requires { length fuses.now ≡ D.table.fuses }
     ensures fuses { IfOk result (λ l. l.fuses ≡ fuses.now) }
     ensures logic { IfOk result (λ l.
@@ -47,19 +55,19 @@ pub fn load<D: Device>(alloc: Global, fuses: &Fuses) -> Result<DeviceLogic<D>, S
     ensures determined { IfOk result (λ _. IsDetermined (device_logic D.table fuses.now)) }
     ensures refused { IfErr result (IsLoadFault D.table fuses.now) }
 {
-    let array = FuseArray::<D>::new(alloc, fuses)?;
+    let array = FuseArray::<D>::new(alloc, device, fuses)?;
     match cell_order(&array) {
         Err(found) => {
-            let pins = pins_of::<D>(alloc, found.vertices.as_slice())?;
+            let pins = pins_of::<D>(alloc, device, found.vertices.as_slice())?;
             Err(SimFault::DeviceLoop(pins))
         }
         Ok(order) => match reset_path(&array) {
             Some(path) => {
-                let pins = pins_of::<D>(alloc, path.as_slice())?;
+                let pins = pins_of::<D>(alloc, device, path.as_slice())?;
                 Err(SimFault::DeviceResetReadsRegister(pins))
             }
             None => {
-                let masks = row_masks::<D>(alloc, fuses)?;
+                let masks = row_masks::<D>(alloc, device, fuses)?;
                 Ok(DeviceLogic::new(array, masks, order))
             }
         },

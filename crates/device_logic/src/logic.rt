@@ -10,7 +10,7 @@ use crate::lookups::cell_of;
 use crate::row_mask::RowMask;
 use arrayvec::ArrayVec;
 use pld_base::Point;
-use pld_device::Device;
+use pld_device::{Device, Loaded};
 use pld_machine::{Logic, Slot};
 use std::marker::Model;
 
@@ -18,30 +18,30 @@ use std::marker::Model;
 ///
 /// Its look-ups take no memory. A row costs a test or two of its mask, which was made of its fuses once.
 #[derive(Drop)]
-pub struct DeviceLogic<D: Device> {
-    array: FuseArray<D>,
+pub struct DeviceLogic<'a, D: Device> {
+    array: FuseArray<'a, D>,
     masks: Vec<RowMask>,
     order: ArrayVec<u8, 256>,
 }
 
-impl<D: Device> Model for DeviceLogic<D> {
-    ghost use Rattle.device_logic.specs.DeviceLookups.{Loaded};
+impl<'a, D: Device> Model for DeviceLogic<'a, D> {
+    ghost use Rattle.device_logic.specs.DeviceLookups.{OrderedFuses};
     ghost use Rattle.device_logic.specs.Masked.{IsMaskedInOrder};
 
-    ghost Value = { Loaded };
+    ghost Value = { OrderedFuses };
 
     ghost view = { λ l. record { fuses = l.array; order = l.order.items } };
 
     ghost invariant = { λ l. IsMaskedInOrder D.table l.array l.masks.items l.order.items };
 }
 
-impl<D: Device> DeviceLogic<D> {
+impl<'a, D: Device> DeviceLogic<'a, D> {
     /// The logic of an array with the masks of its rows, its cells in this order.
     pub(crate) fn new(
-        array: FuseArray<D>,
+        array: FuseArray<'a, D>,
         masks: Vec<RowMask>,
         order: ArrayVec<u8, 256>,
-    ) -> DeviceLogic<D>
+    ) -> DeviceLogic<'a, D>
         requires masks { AreMasks D.table array masks.items }
         requires order { IsCellOrder D.table array order.items }
         ensures fuses { result.fuses ≡ array }
@@ -55,10 +55,15 @@ impl<D: Device> DeviceLogic<D> {
     }
 
     /// The array with the fuses.
-    pub fn array(&self) -> &FuseArray<D>
+    pub fn array(&self) -> &FuseArray<'a, D>
         ensures { result.now ≡ self.now.fuses }
     {
         &self.array
+    }
+
+    /// The device.
+    pub fn device(&self) -> &'a Loaded<D> {
+        self.array.device()
     }
 
     /// The mask of a row.
@@ -86,17 +91,17 @@ impl<D: Device> DeviceLogic<D> {
     }
 }
 
-impl<D: Device> Logic for DeviceLogic<D> {
+impl<'a, D: Device> Logic for DeviceLogic<'a, D> {
     ghost use Rattle.device_logic.specs.DeviceLookups.{device_lookups};
 
     ghost meaning = { λ l. device_lookups D.table l.fuses l.order };
 
     fn cells(&self) -> u8 {
-        D::CELLS
+        self.device().cells()
     }
 
     fn pin(&self, cell: u8) -> u8 {
-        cell_of::<D>(cell).pin
+        cell_of::<D>(self.device(), cell).pin
     }
 
     fn stores(&self, cell: u8) -> bool {
@@ -104,7 +109,7 @@ impl<D: Device> Logic for DeviceLogic<D> {
     }
 
     fn clock(&self) -> u8 {
-        D::CLOCK
+        self.device().clock()
     }
 
     fn slots(&self) -> u16 {
@@ -128,11 +133,11 @@ impl<D: Device> Logic for DeviceLogic<D> {
     }
 
     fn reset(&self, at: &Point, _cell: u8) -> bool {
-        self.row_if_any(at, D::RESET)
+        self.row_if_any(at, self.device().reset())
     }
 
     fn preset(&self, at: &Point, _cell: u8) -> bool {
-        self.row_if_any(at, D::PRESET)
+        self.row_if_any(at, self.device().preset())
     }
 
     fn next(&self, at: &Point, cell: u8) -> bool {

@@ -29,7 +29,7 @@ fn data_complements(flip: Flip, inverted: bool) -> bool
     }
 }
 
-impl<D: Device> DeviceLogic<D> {
+impl<'a, D: Device> DeviceLogic<'a, D> {
     /// Whether the row is true, if there is one.
     pub(crate) fn row_if_any(&self, at: &Point, row: Option<u16>) -> bool
         requires { IfSome row (λ r. r < D.table.rows) }
@@ -91,7 +91,7 @@ impl<D: Device> DeviceLogic<D> {
         requires { cell < length D.table.cells }
         ensures { result ≡ or_value D.table self.now.fuses (levels_of at.now) cell }
     {
-        let found = cell_of::<D>(cell);
+        let found = cell_of::<D>(self.device(), cell);
         self.some_row(at, found.first, found.room)
     }
 
@@ -114,7 +114,7 @@ impl<D: Device> DeviceLogic<D> {
     {
         let output = self.output_value(at, cell);
         if pin_complements(
-            D::FLIP,
+            self.device().flip(),
             self.array().stores(cell),
             self.array().is_inverted(cell),
         ) {
@@ -130,7 +130,7 @@ impl<D: Device> DeviceLogic<D> {
         ensures { result ≡ next_q D.table self.now.fuses (levels_of at.now) cell }
     {
         let value = self.or_value(at, cell);
-        if data_complements(D::FLIP, self.array().is_inverted(cell)) {
+        if data_complements(self.device().flip(), self.array().is_inverted(cell)) {
             !value
         } else {
             value
@@ -142,7 +142,7 @@ impl<D: Device> DeviceLogic<D> {
         requires { cell < length D.table.cells }
         ensures { result ≡ is_enabled D.table self.now.fuses (levels_of at.now) cell }
     {
-        match cell_of::<D>(cell).enable {
+        match cell_of::<D>(self.device(), cell).enable {
             Enable::Row(row) => self.row_value(at, row),
             Enable::PinLow(pin) => !level_at(at.pins, pin),
         }

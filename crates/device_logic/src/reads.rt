@@ -12,22 +12,22 @@ use crate::lookups::{carry_of, cell_of};
 use pld_device::{Device, Enable};
 
 /// Whether the row reads the pair, and the pair carries what the cell feeds back.
-fn pair_reads<D: Device>(array: &FuseArray<D>, row: u16, pair: u16, cell: u8) -> bool
+fn pair_reads<D: Device>(array: &FuseArray<'_, D>, row: u16, pair: u16, cell: u8) -> bool
     requires row { row < D.table.rows }
     requires pair { pair < length D.table.pairs }
     requires cell { cell < length D.table.cells }
     ensures { result ≡ pair_reads D.table array.now row cell pair }
 {
-    array.row_reads(row, pair) && carry_of::<D>(pair).is_cell(cell)
+    array.row_reads(row, pair) && carry_of::<D>(array.device(), pair).is_cell(cell)
 }
 
 /// Whether the row reads the cell.
-fn row_reads_cell<D: Device>(array: &FuseArray<D>, row: u16, cell: u8) -> bool
+fn row_reads_cell<D: Device>(array: &FuseArray<'_, D>, row: u16, cell: u8) -> bool
     requires row { row < D.table.rows }
     requires cell { cell < length D.table.cells }
     ensures { result ≡ row_reads_cell D.table array.now row cell }
 {
-    for pair in 0..D::COLUMNS / 2 {
+    for pair in 0..array.device().columns() / 2 {
         if pair_reads(array, row, pair, cell) {
             return true;
         }
@@ -36,7 +36,7 @@ fn row_reads_cell<D: Device>(array: &FuseArray<D>, row: u16, cell: u8) -> bool
 }
 
 /// Whether one of the rows from `first` on reads the cell.
-fn rows_read_cell<D: Device>(array: &FuseArray<D>, first: u16, room: u8, cell: u8) -> bool
+fn rows_read_cell<D: Device>(array: &FuseArray<'_, D>, first: u16, room: u8, cell: u8) -> bool
     requires rows { first + room ≤ D.table.rows }
     requires cell { cell < length D.table.cells }
     ensures { result ≡ list_any (λ row. row_reads_cell D.table array.now row cell)
@@ -51,7 +51,7 @@ fn rows_read_cell<D: Device>(array: &FuseArray<D>, first: u16, room: u8, cell: u
 }
 
 /// Whether what enables a cell can never do so.
-fn enables_never<D: Device>(array: &FuseArray<D>, enable: Enable) -> bool
+fn enables_never<D: Device>(array: &FuseArray<'_, D>, enable: Enable) -> bool
     requires { EnableInRange D.table enable }
     ensures { result ≡ enables_never D.table array.now enable }
 {
@@ -62,7 +62,7 @@ fn enables_never<D: Device>(array: &FuseArray<D>, enable: Enable) -> bool
 }
 
 /// Whether what enables a cell reads the other cell.
-fn enable_reads<D: Device>(array: &FuseArray<D>, enable: Enable, to: u8) -> bool
+fn enable_reads<D: Device>(array: &FuseArray<'_, D>, enable: Enable, to: u8) -> bool
     requires range { EnableInRange D.table enable }
     requires to { to < length D.table.cells }
     ensures { result ≡ enable_reads D.table array.now enable to }
@@ -74,28 +74,28 @@ fn enable_reads<D: Device>(array: &FuseArray<D>, enable: Enable, to: u8) -> bool
 }
 
 /// Whether the cell's data read the other one while it settles.
-fn data_reads<D: Device>(array: &FuseArray<D>, from: u8, to: u8) -> bool
+fn data_reads<D: Device>(array: &FuseArray<'_, D>, from: u8, to: u8) -> bool
     requires from { from < length D.table.cells }
     requires to { to < length D.table.cells }
     ensures { result ≡ data_reads D.table array.now from to }
 {
-    let cell = cell_of::<D>(from);
+    let cell = cell_of::<D>(array.device(), from);
     !array.stores(from) && rows_read_cell(array, cell.first, cell.room, to)
 }
 
 /// Whether the cell reads the other one while it settles, its level or its Q.
-fn rest_reads<D: Device>(array: &FuseArray<D>, from: u8, to: u8) -> bool
+fn rest_reads<D: Device>(array: &FuseArray<'_, D>, from: u8, to: u8) -> bool
     requires from { from < length D.table.cells }
     requires to { to < length D.table.cells }
     ensures { result ≡ rest_reads D.table array.now from to }
 {
-    let enable = cell_of::<D>(from).enable;
+    let enable = cell_of::<D>(array.device(), from).enable;
     !enables_never(array, enable)
         && (enable_reads(array, enable, to) || data_reads(array, from, to))
 }
 
 /// Whether the cell waits for the other one.
-pub fn cell_reads<D: Device>(array: &FuseArray<D>, from: u8, to: u8) -> bool
+pub fn cell_reads<D: Device>(array: &FuseArray<'_, D>, from: u8, to: u8) -> bool
     requires from { from < length D.table.cells }
     requires to { to < length D.table.cells }
     ensures { result ≡ cell_reads D.table array.now from to }
@@ -104,7 +104,7 @@ pub fn cell_reads<D: Device>(array: &FuseArray<D>, from: u8, to: u8) -> bool
 }
 
 /// Whether the cell, which is no register, reads the other one.
-pub fn plain_reads<D: Device>(array: &FuseArray<D>, from: u8, to: u8) -> bool
+pub fn plain_reads<D: Device>(array: &FuseArray<'_, D>, from: u8, to: u8) -> bool
     requires from { from < length D.table.cells }
     requires to { to < length D.table.cells }
     ensures { result ≡ plain_reads D.table array.now from to }
@@ -113,7 +113,7 @@ pub fn plain_reads<D: Device>(array: &FuseArray<D>, from: u8, to: u8) -> bool
 }
 
 /// Whether the row, if there is one, reads the cell.
-pub fn row_reads_if_any<D: Device>(array: &FuseArray<D>, row: Option<u16>, cell: u8) -> bool
+pub fn row_reads_if_any<D: Device>(array: &FuseArray<'_, D>, row: Option<u16>, cell: u8) -> bool
     requires row { IfSome row (λ r. r < D.table.rows) }
     requires cell { cell < length D.table.cells }
     ensures { result ≡ row_reads_if_any D.table array.now row cell }

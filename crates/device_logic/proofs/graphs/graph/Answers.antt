@@ -6,6 +6,6 @@ push-requires g c = (
   omega arith,
   (let low = c.loop-cell-test.true in
       let long = c.loop-cell.invariant.0 in
-      let few = g.met.D.Device.sound.sizes.few_cells in
-      omega (arith, low, long, few, c.CELLS-cell-end.ensures, g.met.D.Device.cells_is)),
+      let few = g.D.Device.sound.sizes.few_cells in
+      omega (arith, low, long, few, c.cells-cell-end.ensures)),
 )

@@ -17,7 +17,7 @@ returns-in_ok-masks-in-None-clause-logic g c = rw (c.new-in-None.ensures.fuses, 
 pub returns-in_ok-masks-in-None-clause-ordered : goal.returns-in_ok-masks-in-None-clause-ordered
 returns-in_ok-masks-in-None-clause-ordered g c =
     rw (c.new-in-None.ensures.fuses, c.new-in-None.ensures.order)
-    (device_ordered g.D.Device.table c.in_ok-array.array c.in-Ok.order.items g.met.D.Device.sound c.in-Ok.ensures.ok c.in-None.ensures.none)
+    (device_ordered g.D.Device.table c.in_ok-array.array c.in-Ok.order.items g.D.Device.sound c.in-Ok.ensures.ok c.in-None.ensures.none)
 
 pub returns-in_ok-masks-in-None-clause-no_path : goal.returns-in_ok-masks-in-None-clause-no_path
 returns-in_ok-masks-in-None-clause-no_path g c = subst (HasNoResetPath g.D.Device.table) c.in_ok-array.ensures c.in-None.ensures.none
@@ -26,4 +26,4 @@ pub returns-in_ok-masks-in-None-clause-determined : goal.returns-in_ok-masks-in-
 returns-in_ok-masks-in-None-clause-determined g c =
     subst (λ fuses. IsDetermined (device_logic g.D.Device.table fuses)) c.in_ok-array.ensures
     (determined g.D.Device.table c.in_ok-array.array c.in-Ok.order.items
-    (device_ordered g.D.Device.table c.in_ok-array.array c.in-Ok.order.items g.met.D.Device.sound c.in-Ok.ensures.ok c.in-None.ensures.none))
+    (device_ordered g.D.Device.table c.in_ok-array.array c.in-Ok.order.items g.D.Device.sound c.in-Ok.ensures.ok c.in-None.ensures.none))

@@ -10,6 +10,6 @@ loop-pair-preserved g c =
 pub returns : goal.returns
 returns g c =
     let t = g.D.Device.table in
-    let all : c.loop-pair.pair ≡ length t.pairs = omega (arith, g.met.D.Device.columns_is, g.met.D.Device.sound.sizes.columns_even) in
-    passes_row t g.met.D.Device.sound c.args.fuses.now c.args.row c.requires.size c.requires.row (holds c.loop-pair.mask)
+    let all : c.loop-pair.pair ≡ length t.pairs = omega (arith, g.D.Device.sound.sizes.columns_even) in
+    passes_row t g.D.Device.sound c.args.fuses.now c.args.row c.requires.size c.requires.row (holds c.loop-pair.mask)
     (subst (λ n. PassesBelow t c.args.fuses.now c.args.row n (holds c.loop-pair.mask)) all c.loop-pair.invariant) c.requires.live

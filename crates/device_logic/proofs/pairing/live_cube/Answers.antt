@@ -14,5 +14,5 @@ pub returns : goal.returns
 returns g c =
     let t = g.D.Device.table in
     let all : c.loop-pair.pair ≡ length t.pairs = omega (arith, c.loop-pair-test.false, c.pair_count-pair-end.ensures) in
-    live_cube t g.met.D.Device.sound c.args.fuses.now c.args.row c.requires.size c.requires.row c.loop-pair.cube
+    live_cube t g.D.Device.sound c.args.fuses.now c.args.row c.requires.size c.requires.row c.loop-pair.cube
     (subst (λ n. CubeBelow t c.args.fuses.now c.args.row n c.loop-pair.cube) all c.loop-pair.invariant) c.requires.live

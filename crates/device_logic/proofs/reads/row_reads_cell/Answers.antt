@@ -5,7 +5,7 @@ use Rattle.device_logic.proofs.reads.row_reads_cell.Goals as goal
 
 pub returns-then-pair_reads : goal.returns-then-pair_reads
 returns-then-pair_reads g c =
-    let low : c.loop-pair.pair < length g.D.Device.table.pairs = omega (arith, g.met.D.Device.columns_is, g.met.D.Device.sound.sizes.columns_even) in
+    let low : c.loop-pair.pair < length g.D.Device.table.pairs = omega (arith, g.D.Device.sound.sizes.columns_even) in
     sym (row_reads_cell-from g.D.Device.table c.args.array.now c.args.row c.args.cell c.loop-pair.pair low (sym c.pair_reads.ensures ∙ c.if-pair_reads.true))
 
 pub loop-pair-preserved : goal.loop-pair-preserved
@@ -15,4 +15,4 @@ pub returns : goal.returns
 returns g c =
     sym (
     row_reads_cell-none g.D.Device.table c.args.array.now c.args.row c.args.cell
-    (λ pair low. c.loop-pair.invariant pair (omega (arith, low, g.met.D.Device.columns_is, g.met.D.Device.sound.sizes.columns_even))))
+    (λ pair low. c.loop-pair.invariant pair (omega (arith, low, g.D.Device.sound.sizes.columns_even))))

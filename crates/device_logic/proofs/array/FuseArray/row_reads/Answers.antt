@@ -9,4 +9,4 @@ returns-then-is_live g c =
     let live : is_live g.D.Device.table c.args.self.now c.args.row ≡ true = sym c.is_live.ensures.live ∙ c.if-is_live.true in
     c.is_connected.ensures
     ∙ (ap (λ fuses. is_connected (row_fuses g.D.Device.table fuses c.args.row) c.args.pair) same
-    ∙ sym (rw live (row_connected g.D.Device.table c.args.self.now c.args.row g.met.D.Device.sound.sizes.columns_even g.met.D.Device.sound.sizes.array_fits c.is_live.ensures.size c.requires.row c.args.pair c.requires.pair)))
+    ∙ sym (rw live (row_connected g.D.Device.table c.args.self.now c.args.row g.D.Device.sound.sizes.columns_even g.D.Device.sound.sizes.array_fits c.is_live.ensures.size c.requires.row c.args.pair c.requires.pair)))

@@ -1,5 +1,5 @@
 use Rattle.std.proofs.Common.{ap, ◌∙◌}
-use Rattle.device_logic.proofs.Common.{levels_of, row_value, Loaded, holds, RowMask}
+use Rattle.device_logic.proofs.Common.{levels_of, row_value, OrderedFuses, holds, RowMask}
 use Rattle.device_logic.proofs.MaskedRows.{is_point}
 use Rattle.device_logic.proofs.logic.DeviceLogic.holds_at.Goals as goal
 
@@ -9,4 +9,4 @@ returns g c =
     c.holds.ensures
     ∙ (ap (λ (m : RowMask). holds m at) c.index.ensures
     ∙ (c.self.invariant.masked.each c.args.row c.index.result.now c.requires at (is_point c.args.at.now)
-    ∙ ap (λ (l : Loaded). row_value g.D.Device.table l.fuses at c.args.row) c.self.view_is))
+    ∙ ap (λ (l : OrderedFuses). row_value g.D.Device.table l.fuses at c.args.row) c.self.view_is))

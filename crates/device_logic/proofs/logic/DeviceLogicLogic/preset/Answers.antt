@@ -3,4 +3,4 @@ use Rattle.device_logic.proofs.Ranges.{preset_if_any}
 use Rattle.device_logic.proofs.logic.DeviceLogicLogic.preset.Goals as goal
 
 pub row_if_any-requires : goal.row_if_any-requires
-row_if_any-requires g c = rw (c.PRESET.ensures ∙ g.met.D.Device.preset_is) (preset_if_any g.D.Device.table g.met.D.Device.sound)
+row_if_any-requires g c = rw c.preset.ensures (preset_if_any g.D.Device.table g.D.Device.sound)
