@@ -10,7 +10,7 @@ use crate::running::{has_register, point_of};
 use device_logic::{SimFault, load};
 use jedec_reader::FuseFile;
 use pld_base::{ListOf, OutOfMemory, Trace, Vector};
-use pld_device::Device;
+use pld_device::{Device, Loaded};
 use pld_machine::{Logic, trace};
 use std::alloc::Global;
 
@@ -54,14 +54,15 @@ fn trace_vectors<L: Logic>(
 /// Characters that are not simulated drive nothing here.
 pub fn traces<D: Device>(
     alloc: Global,
+    device: &Loaded<D>,
     file: &FuseFile,
     most: usize,
 ) -> Result<ListOf<Trace>, SimFault>
     requires { length file.now.fuses ≡ D.table.fuses }
     ensures { IfOk result (λ list. IsTraced (device_logic D.table file.now.fuses) file.now.default_level (take most (contents D.table file.now).vectors) list) }
 {
-    let logic = load::<D>(alloc, &file.fuses)?;
+    let logic = load::<D>(alloc, device, &file.fuses)?;
     let vectors = first_vectors(file.vectors.as_slice(), most);
-    let list = trace_vectors(alloc, &logic, D::PINS, file.default_level, vectors)?;
+    let list = trace_vectors(alloc, &logic, device.pins(), file.default_level, vectors)?;
     Ok(ListOf::from_vec(list))
 }

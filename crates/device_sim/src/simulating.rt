@@ -10,7 +10,7 @@ use crate::running::run_vectors;
 use device_logic::{SimFault, load};
 use jedec_reader::FuseFile;
 use pld_base::ListOf;
-use pld_device::Device;
+use pld_device::{Device, Loaded};
 use std::alloc::Global;
 
 /// Runs the vectors of a fuse file on the device with its fuses.
@@ -23,7 +23,11 @@ use std::alloc::Global;
 /// `UnsupportedCondition` is the first character that is not simulated. It precedes `DeviceLoop`, and
 /// that before `DeviceResetReadsRegister`. The loaded device and the mismatches take memory, and
 /// nothing else does.
-pub fn simulate<D: Device>(alloc: Global, file: &FuseFile) -> Result<Report, SimFault>
+pub fn simulate<D: Device>(
+    alloc: Global,
+    device: &Loaded<D>,
+    file: &FuseFile,
+) -> Result<Report, SimFault>
     requires size { length file.now.fuses ≡ D.table.fuses }
     requires few { length file.now.vectors < 2 ^ 32 }
     ensures simulated { IfOk result (λ r. IsSimulated D.table (contents D.table file.now) r) }
@@ -31,11 +35,11 @@ pub fn simulate<D: Device>(alloc: Global, file: &FuseFile) -> Result<Report, Sim
     ensures refused { IfErr result (IsSimFault D.table (contents D.table file.now)) }
 {
     let vectors = file.vectors.as_slice();
-    if let Some((vector, pin)) = first_unsupported(vectors, D::PINS) {
+    if let Some((vector, pin)) = first_unsupported(vectors, device.pins()) {
         return Err(SimFault::UnsupportedCondition { vector, pin });
     }
-    let logic = load::<D>(alloc, &file.fuses)?;
-    let list = run_vectors(alloc, &logic, D::PINS, file.default_level, vectors)?;
+    let logic = load::<D>(alloc, device, &file.fuses)?;
+    let list = run_vectors(alloc, &logic, device.pins(), file.default_level, vectors)?;
     Ok(Report {
         vectors: vectors.len() as u32,
         list: ListOf::from_vec(list),
