@@ -9,7 +9,7 @@ pub use Rattle.std.specs.List.{All, list_any, range_with_len}
 pub use Rattle.covers.specs.declared.cube.Cube.{Cube}
 pub use Rattle.device_logic.proofs.Ranges.{preset_if_any, preset_in, reset_if_any, reset_in}
 pub use Rattle.device_logic.proofs.Runs.{any_at, any_none, any_same, one_of}
-pub use Rattle.device_logic.specs.DeviceLookups.{Loaded, device_lookups}
+pub use Rattle.device_logic.specs.DeviceLookups.{OrderedFuses, device_lookups}
 pub use Rattle.device_logic.specs.PairCubes.{IsPairCube}
 pub use Rattle.device_logic.specs.RowMasks.{HoldsWith, IsMask, holds}
 pub use Rattle.device_logic.specs.declared.row_mask.RowMask.{RowMask}

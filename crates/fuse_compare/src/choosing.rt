@@ -26,21 +26,21 @@ pub struct Choice {
 }
 
 /// Whether the pin is read or enables, with either list.
-fn either_knows_pin<D: Device>(a: &FuseArray<D>, b: &FuseArray<D>, pin: u8) -> bool
+fn either_knows_pin<D: Device>(a: &FuseArray<'_, D>, b: &FuseArray<'_, D>, pin: u8) -> bool
     ensures { result ≡ knows_pin D.table a.now b.now pin }
 {
     knows_pin(a, pin) || knows_pin(b, pin)
 }
 
 /// Whether the register's Q is read, with either list.
-fn either_knows_q<D: Device>(a: &FuseArray<D>, b: &FuseArray<D>, cell: u8) -> bool
+fn either_knows_q<D: Device>(a: &FuseArray<'_, D>, b: &FuseArray<'_, D>, cell: u8) -> bool
     ensures { result ≡ knows_q D.table a.now b.now cell }
 {
     knows_q(a, cell) || knows_q(b, cell)
 }
 
 /// Whether the cell is a register, with either list.
-fn either_stores<D: Device>(a: &FuseArray<D>, b: &FuseArray<D>, cell: u8) -> bool
+fn either_stores<D: Device>(a: &FuseArray<'_, D>, b: &FuseArray<'_, D>, cell: u8) -> bool
     requires { cell < length D.table.cells }
     ensures { result ≡ (stores D.table a.now cell || stores D.table b.now cell) }
 {
@@ -50,8 +50,8 @@ fn either_stores<D: Device>(a: &FuseArray<D>, b: &FuseArray<D>, cell: u8) -> boo
 /// The pins that a row reads or that enable, with either list.
 fn known_pins<D: Device>(
     alloc: Global,
-    a: &FuseArray<D>,
-    b: &FuseArray<D>,
+    a: &FuseArray<'_, D>,
+    b: &FuseArray<'_, D>,
 ) -> Result<Vec<Variable>, OutOfMemory>
     ensures { IfOk result (λ vars. HasKnownPins D.table a.now b.now 32 vars.items) }
 {
@@ -67,15 +67,15 @@ fn known_pins<D: Device>(
 /// These pins, and the Qs that a row reads, with either list.
 fn with_known_qs<D: Device>(
     pins: Vec<Variable>,
-    a: &FuseArray<D>,
-    b: &FuseArray<D>,
+    a: &FuseArray<'_, D>,
+    b: &FuseArray<'_, D>,
 ) -> Result<Vec<Variable>, OutOfMemory>
     requires { HasKnownPins D.table a.now b.now 32 pins.items }
     ensures { IfOk result (λ vars.
         HasKnownQs D.table a.now b.now (length D.table.cells) vars.items) }
 {
     let mut vars = pins;
-    for cell in 0..D::CELLS {
+    for cell in 0..a.device().cells() {
         if either_knows_q(a, b, cell) {
             vars.push(Variable::Q(cell))?;
         }
@@ -84,13 +84,13 @@ fn with_known_qs<D: Device>(
 }
 
 /// Whether the same cells are registers with both lists.
-fn has_same_registers<D: Device>(a: &FuseArray<D>, b: &FuseArray<D>) -> bool
+fn has_same_registers<D: Device>(a: &FuseArray<'_, D>, b: &FuseArray<'_, D>) -> bool
     ensures same { result ≡ true
         → (c : ℕ) → c < length D.table.cells → stores D.table a.now c ≡ stores D.table b.now c }
     ensures other { result ≡ false
         → (c : ℕ) × (c < length D.table.cells) × (stores D.table a.now c ≢ stores D.table b.now c) }
 {
-    for cell in 0..D::CELLS {
+    for cell in 0..a.device().cells() {
         if a.stores(cell) != b.stores(cell) {
             return false;
         }
@@ -99,11 +99,11 @@ fn has_same_registers<D: Device>(a: &FuseArray<D>, b: &FuseArray<D>) -> bool
 }
 
 /// All registers of either list at 1.
-fn registers<D: Device>(a: &FuseArray<D>, b: &FuseArray<D>) -> u32
+fn registers<D: Device>(a: &FuseArray<'_, D>, b: &FuseArray<'_, D>) -> u32
     ensures { HoldsRegisters D.table a.now b.now (length D.table.cells) (bits 32 result) }
 {
     let mut stored = 0;
-    for cell in 0..D::CELLS {
+    for cell in 0..a.device().cells() {
         if either_stores(a, b, cell) {
             stored = with_level(stored, cell, true);
         }
@@ -114,8 +114,8 @@ fn registers<D: Device>(a: &FuseArray<D>, b: &FuseArray<D>) -> u32
 /// The variables for two fuse lists, and what is stored besides.
 pub fn choose<D: Device>(
     alloc: Global,
-    a: &FuseArray<D>,
-    b: &FuseArray<D>,
+    a: &FuseArray<'_, D>,
+    b: &FuseArray<'_, D>,
 ) -> Result<Choice, OutOfMemory>
     ensures chosen { IfOk result (λ choice.
         AreChosen D.table a.now b.now choice.vars.items (bits 32 choice.fixed)) }

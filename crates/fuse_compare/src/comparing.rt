@@ -11,7 +11,7 @@ use crate::knowing::cut_of;
 use crate::masked::MaskedLogic;
 use crate::searching::{Search, compared};
 use device_logic::SimFault;
-use pld_device::{Device, Fuses};
+use pld_device::{Device, Fuses, Loaded};
 use std::alloc::Global;
 
 /// A difference between the device with the fuses `a` and with the fuses `b`, or None if they behave
@@ -22,6 +22,7 @@ use std::alloc::Global;
 /// can double with each pin and register that a row reads.
 pub fn compare<D: Device>(
     alloc: Global,
+    device: &Loaded<D>,
     a: &Fuses,
     b: &Fuses,
 ) -> Result<Option<Difference>, SimFault>
@@ -35,8 +36,8 @@ pub fn compare<D: Device>(
     ensures loaded { IfOk result (λ _. CanBeCompared D.table a.now b.now) }
     ensures refused { IfErr result (IsCompareFault D.table a.now b.now) }
 {
-    let first = MaskedLogic::<D>::load(alloc, a)?;
-    let second = MaskedLogic::<D>::load(alloc, b)?;
+    let first = MaskedLogic::<D>::load(alloc, device, a)?;
+    let second = MaskedLogic::<D>::load(alloc, device, b)?;
     let choice = choose(alloc, first.array(), second.array())?;
     let cut = cut_of(alloc, &first, &second)?;
     let search = Search {

@@ -14,13 +14,13 @@ use crate::masked::MaskedLogic;
 use covers::{Cube, CubePool, Range, covers_cube};
 use device_logic::pair_count;
 use pld_base::OutOfMemory;
-use pld_device::Device;
+use pld_device::{Device, Loaded};
 use std::alloc::Global;
 
 /// The rows of a group as a cover, with the room that `has_cube` works in.
 pub fn group_cover<D: Device>(
     alloc: Global,
-    logic: &MaskedLogic<D>,
+    logic: &MaskedLogic<'_, D>,
     rows: Group,
 ) -> Result<CubePool, OutOfMemory>
     requires { InArray D.table rows }
@@ -35,7 +35,7 @@ pub fn group_cover<D: Device>(
 }
 
 /// Whether the cover has each point of the cube. Takes no memory.
-pub fn has_cube<D: Device>(cover: &mut CubePool, cube: Cube) -> bool
+pub fn has_cube<D: Device>(device: &Loaded<D>, cover: &mut CubePool, cube: Cube) -> bool
     requires cover { AllAskBelow (length D.table.pairs) cover.old.cubes }
     requires cube { AsksBelow (length D.table.pairs) cube }
     requires spare { 24 * length cover.old.cubes + 24 ≤ cover.old.spare }
@@ -46,5 +46,5 @@ pub fn has_cube<D: Device>(cover: &mut CubePool, cube: Cube) -> bool
         from: 0,
         to: cover.len(),
     };
-    covers_cube(cover, all, cube, pair_count::<D>())
+    covers_cube(cover, all, cube, pair_count::<D>(device))
 }

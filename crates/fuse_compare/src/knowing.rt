@@ -15,7 +15,7 @@ use pld_device::{Device, Enable};
 use std::alloc::Global;
 
 /// Whether what enables a cell may do so.
-fn may_enable<D: Device>(logic: &MaskedLogic<D>, enable: Enable) -> bool
+fn may_enable<D: Device>(logic: &MaskedLogic<'_, D>, enable: Enable) -> bool
     requires { EnableInRange D.table enable }
     ensures { result ≡ false → (at : Levels) → IsPoint at
         → enabled_by D.table logic.now.fuses at enable ≡ false }
@@ -27,20 +27,20 @@ fn may_enable<D: Device>(logic: &MaskedLogic<D>, enable: Enable) -> bool
 }
 
 /// Whether the cell is on the pin and may drive it.
-fn may_drive<D: Device>(logic: &MaskedLogic<D>, cell: u8, pin: u8) -> bool
+fn may_drive<D: Device>(logic: &MaskedLogic<'_, D>, cell: u8, pin: u8) -> bool
     requires { cell < length D.table.cells }
     ensures { result ≡ false → NeverDrives D.table logic.now.fuses cell pin }
 {
-    let found = cell_of::<D>(cell);
+    let found = cell_of::<D>(logic.device(), cell);
     found.pin == pin && may_enable(logic, found.enable)
 }
 
 /// Whether some cell may drive the pin.
-fn is_driven<D: Device>(logic: &MaskedLogic<D>, pin: u8) -> bool
+fn is_driven<D: Device>(logic: &MaskedLogic<'_, D>, pin: u8) -> bool
     ensures { result ≡ false → (c : ℕ) → c < length D.table.cells
         → NeverDrives D.table logic.now.fuses c pin }
 {
-    for cell in 0..D::CELLS {
+    for cell in 0..logic.device().cells() {
         if may_drive(logic, cell, pin) {
             return true;
         }
@@ -49,7 +49,7 @@ fn is_driven<D: Device>(logic: &MaskedLogic<D>, pin: u8) -> bool
 }
 
 /// The pins that no cell ever drives.
-fn free_pins<D: Device>(logic: &MaskedLogic<D>) -> u32
+fn free_pins<D: Device>(logic: &MaskedLogic<'_, D>) -> u32
     ensures { AreFreePins (device_lookups D.table logic.now.fuses logic.now.order) (bits 32 result) }
 {
     let mut pins = 0;
@@ -62,24 +62,24 @@ fn free_pins<D: Device>(logic: &MaskedLogic<D>) -> u32
 }
 
 /// Whether the device may be reset.
-fn may_reset<D: Device>(logic: &MaskedLogic<D>) -> bool
+fn may_reset<D: Device>(logic: &MaskedLogic<'_, D>) -> bool
     ensures { result ≡ false → NeverResets D.table logic.now.fuses }
 {
-    match D::RESET {
+    match logic.device().reset() {
         None => false,
         Some(row) => !logic.mask(row).is_empty(),
     }
 }
 
 /// The registers that are never reset.
-fn kept_qs<D: Device>(logic: &MaskedLogic<D>) -> u32
+fn kept_qs<D: Device>(logic: &MaskedLogic<'_, D>) -> u32
     ensures { AreKeptQs (device_lookups D.table logic.now.fuses logic.now.order) (bits 32 result) }
 {
     let mut cells = 0;
     if may_reset(logic) {
         return cells;
     }
-    for cell in 0..D::CELLS {
+    for cell in 0..logic.device().cells() {
         if logic.array().stores(cell) {
             cells = with_level(cells, cell, true);
         }
@@ -91,8 +91,8 @@ fn kept_qs<D: Device>(logic: &MaskedLogic<D>) -> u32
 /// everywhere.
 fn own_masks<D: Device>(
     alloc: Global,
-    a: &MaskedLogic<D>,
-    b: &MaskedLogic<D>,
+    a: &MaskedLogic<'_, D>,
+    b: &MaskedLogic<'_, D>,
 ) -> Result<Vec<RowMask>, OutOfMemory>
     ensures { IfOk result (λ own. DifferWithin (device_lookups D.table a.now.fuses a.now.order)
         (device_lookups D.table b.now.fuses b.now.order) own.items) }
@@ -108,8 +108,8 @@ fn own_masks<D: Device>(
 /// What is known of two loaded devices.
 pub fn cut_of<D: Device>(
     alloc: Global,
-    a: &MaskedLogic<D>,
-    b: &MaskedLogic<D>,
+    a: &MaskedLogic<'_, D>,
+    b: &MaskedLogic<'_, D>,
 ) -> Result<Cut, OutOfMemory>
     ensures { IfOk result (λ cut. IsCut (device_lookups D.table a.now.fuses a.now.order)
         (device_lookups D.table b.now.fuses b.now.order) cut) }

@@ -8,7 +8,7 @@ ghost use Rattle.fuse_compare.specs.Compared.{CanBeLoaded};
 use covers::Cube;
 use device_logic::{DeviceLogic, FuseArray, RowMask, SimFault, pair_cubes};
 use pld_base::Point;
-use pld_device::{Device, Fuses};
+use pld_device::{Device, Fuses, Loaded};
 use pld_machine::{Logic, Slot};
 use std::alloc::Global;
 use std::marker::Model;
@@ -16,25 +16,29 @@ use std::marker::Model;
 /// A device with its fuses, as a logic, and what its rows ask of the column pairs; contracts see its fuses and the order of
 /// its cells.
 #[derive(Drop)]
-pub struct MaskedLogic<D: Device> {
-    logic: DeviceLogic<D>,
+pub struct MaskedLogic<'a, D: Device> {
+    logic: DeviceLogic<'a, D>,
     cubes: Vec<Cube>,
 }
 
-impl<D: Device> Model for MaskedLogic<D> {
-    ghost use Rattle.device_logic.specs.DeviceLookups.{Loaded};
+impl<'a, D: Device> Model for MaskedLogic<'a, D> {
+    ghost use Rattle.device_logic.specs.DeviceLookups.{OrderedFuses};
     ghost use Rattle.device_logic.specs.PairCubes.{ArePairCubes};
 
-    ghost Value = { Loaded };
+    ghost Value = { OrderedFuses };
 
     ghost view = { λ l. l.logic };
 
     ghost invariant = { λ l. ArePairCubes D.table l.logic.fuses l.cubes.items };
 }
 
-impl<D: Device> MaskedLogic<D> {
+impl<'a, D: Device> MaskedLogic<'a, D> {
     /// The device with these fuses; refused as `device_logic::load` refuses them.
-    pub fn load(alloc: Global, fuses: &Fuses) -> Result<MaskedLogic<D>, SimFault>
+    pub fn load(
+        alloc: Global,
+        device: &'a Loaded<D>,
+        fuses: &Fuses,
+    ) -> Result<MaskedLogic<'a, D>, SimFault>
         requires { length fuses.now ≡ D.table.fuses }
         ensures fuses { IfOk result (λ l. l.fuses ≡ fuses.now) }
         ensures logic { IfOk result (λ l.
@@ -44,13 +48,18 @@ impl<D: Device> MaskedLogic<D> {
         ensures determined { IfOk result (λ _. IsDetermined (device_logic D.table fuses.now)) }
         ensures refused { IfErr result (IsLoadFault D.table fuses.now) }
     {
-        let logic = device_logic::load::<D>(alloc, fuses)?;
-        let cubes = pair_cubes::<D>(alloc, fuses)?;
+        let logic = device_logic::load::<D>(alloc, device, fuses)?;
+        let cubes = pair_cubes::<D>(alloc, device, fuses)?;
         Ok(MaskedLogic { logic, cubes })
     }
 
+    /// The device.
+    pub fn device(&self) -> &'a Loaded<D> {
+        self.logic.device()
+    }
+
     /// The array with the fuses.
-    pub fn array(&self) -> &FuseArray<D>
+    pub fn array(&self) -> &FuseArray<'a, D>
         ensures { result.now ≡ self.now.fuses }
     {
         self.logic.array()
@@ -73,7 +82,7 @@ impl<D: Device> MaskedLogic<D> {
     }
 }
 
-impl<D: Device> Logic for MaskedLogic<D> {
+impl<'a, D: Device> Logic for MaskedLogic<'a, D> {
     ghost use Rattle.device_logic.specs.DeviceLookups.{device_lookups};
 
     ghost meaning = { λ l. device_lookups D.table l.fuses l.order };

@@ -20,8 +20,8 @@ use std::alloc::Global;
 fn with_own<D: Device>(
     alloc: Global,
     own: Vec<RowMask>,
-    a: &MaskedLogic<D>,
-    b: &MaskedLogic<D>,
+    a: &MaskedLogic<'_, D>,
+    b: &MaskedLogic<'_, D>,
     rows: Group,
 ) -> Result<Vec<RowMask>, OutOfMemory>
     requires same { StoreSame D.table a.now.fuses b.now.fuses }
@@ -32,7 +32,7 @@ fn with_own<D: Device>(
     let mut cover = group_cover(alloc, b, rows)?;
     let mut more = own;
     for row in rows.first..rows.first + u16::from(rows.room) {
-        if !has_cube::<D>(&mut cover, a.cube(row)) {
+        if !has_cube::<D>(a.device(), &mut cover, a.cube(row)) {
             more.push(a.mask(row))?;
         }
     }
@@ -43,8 +43,8 @@ fn with_own<D: Device>(
 fn with_rows<D: Device>(
     alloc: Global,
     own: Vec<RowMask>,
-    a: &MaskedLogic<D>,
-    b: &MaskedLogic<D>,
+    a: &MaskedLogic<'_, D>,
+    b: &MaskedLogic<'_, D>,
     rows: Group,
 ) -> Result<Vec<RowMask>, OutOfMemory>
     requires same { StoreSame D.table a.now.fuses b.now.fuses }
@@ -60,8 +60,8 @@ fn with_rows<D: Device>(
 fn with_row_if_any<D: Device>(
     alloc: Global,
     own: Vec<RowMask>,
-    a: &MaskedLogic<D>,
-    b: &MaskedLogic<D>,
+    a: &MaskedLogic<'_, D>,
+    b: &MaskedLogic<'_, D>,
     row: Option<u16>,
 ) -> Result<Vec<RowMask>, OutOfMemory>
     requires same { StoreSame D.table a.now.fuses b.now.fuses }
@@ -79,8 +79,8 @@ fn with_row_if_any<D: Device>(
 fn with_enable<D: Device>(
     alloc: Global,
     own: Vec<RowMask>,
-    a: &MaskedLogic<D>,
-    b: &MaskedLogic<D>,
+    a: &MaskedLogic<'_, D>,
+    b: &MaskedLogic<'_, D>,
     enable: Enable,
 ) -> Result<Vec<RowMask>, OutOfMemory>
     requires same { StoreSame D.table a.now.fuses b.now.fuses }
@@ -98,8 +98,8 @@ fn with_enable<D: Device>(
 fn with_cell<D: Device>(
     alloc: Global,
     own: Vec<RowMask>,
-    a: &MaskedLogic<D>,
-    b: &MaskedLogic<D>,
+    a: &MaskedLogic<'_, D>,
+    b: &MaskedLogic<'_, D>,
     cell: u8,
 ) -> Result<Vec<RowMask>, OutOfMemory>
     requires same { StoreSame D.table a.now.fuses b.now.fuses }
@@ -107,7 +107,7 @@ fn with_cell<D: Device>(
     ensures { IfOk result (λ more.
         MakesCell D.table a.now.fuses b.now.fuses cell own.items more.items) }
 {
-    let found = cell_of::<D>(cell);
+    let found = cell_of::<D>(a.device(), cell);
     let rows = Group {
         first: found.first,
         room: found.room,
@@ -119,26 +119,26 @@ fn with_cell<D: Device>(
 /// The masks of all rows that either device has alone.
 pub fn own_rows<D: Device>(
     alloc: Global,
-    a: &MaskedLogic<D>,
-    b: &MaskedLogic<D>,
+    a: &MaskedLogic<'_, D>,
+    b: &MaskedLogic<'_, D>,
 ) -> Result<Vec<RowMask>, OutOfMemory>
     requires { StoreSame D.table a.now.fuses b.now.fuses }
     ensures { IfOk result (λ own. AreOwn D.table a.now.fuses b.now.fuses own.items) }
 {
     let mut own = Vec::new(alloc);
-    for cell in 0..D::CELLS {
+    for cell in 0..a.device().cells() {
         own = with_cell(alloc, own, a, b, cell)?;
     }
-    let with_reset = with_row_if_any(alloc, own, a, b, D::RESET)?;
-    with_row_if_any(alloc, with_reset, a, b, D::PRESET)
+    let with_reset = with_row_if_any(alloc, own, a, b, a.device().reset())?;
+    with_row_if_any(alloc, with_reset, a, b, a.device().preset())
 }
 
 /// Whether each cell is of the same kind and polarity in both.
-pub fn has_same_kinds<D: Device>(a: &MaskedLogic<D>, b: &MaskedLogic<D>) -> bool
+pub fn has_same_kinds<D: Device>(a: &MaskedLogic<'_, D>, b: &MaskedLogic<'_, D>) -> bool
     ensures { result ≡ true → (c : ℕ) → c < length D.table.cells
         → SameKind D.table a.now.fuses b.now.fuses c }
 {
-    for cell in 0..D::CELLS {
+    for cell in 0..a.device().cells() {
         if a.array().stores(cell) != b.array().stores(cell)
             || a.array().is_inverted(cell) != b.array().is_inverted(cell)
         {

@@ -14,7 +14,7 @@ loop-cell-preserved g c =
       | then-either_stores w ↦
           rw (w.stored-is, w.with_level-stored.ensures)
           (register_in t c.args.a.now c.args.b.now c.loop-cell.cell (bits 32 c.loop-cell.stored) (length-bits 32 c.loop-cell.stored)
-          (omega (arith, c.loop-cell-test.true, c.CELLS-cell-end.ensures, g.met.D.Device.cells_is, g.met.D.Device.sound.sizes.few_cells))
+          (omega (arith, c.loop-cell-test.true, c.cells-cell-end.ensures, g.D.Device.sound.sizes.few_cells))
           c.loop-cell.invariant (sym c.either_stores.ensures ∙ w.if-either_stores.true))
       | else-either_stores w ↦
           rw w.stored-is (register_out t c.args.a.now c.args.b.now c.loop-cell.cell (bits 32 c.loop-cell.stored) c.loop-cell.invariant (sym c.either_stores.ensures ∙ w.if-either_stores.false))

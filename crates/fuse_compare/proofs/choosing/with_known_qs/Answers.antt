@@ -12,7 +12,7 @@ loop-cell-preserved g c =
     elim c.if-either_knows_q.branch [
       | then-either_knows_q+in_ok-push w ↦
           rw (w.vars-is, w.in_ok-push.ensures.items)
-          (q_in t c.args.a.now c.args.b.now c.loop-cell.cell c.loop-cell.vars.items (omega (arith, c.loop-cell-test.true, c.CELLS-cell-end.ensures, g.met.D.Device.cells_is, g.met.D.Device.sound.sizes.few_cells))
+          (q_in t c.args.a.now c.args.b.now c.loop-cell.cell c.loop-cell.vars.items (omega (arith, c.loop-cell-test.true, c.cells-cell-end.ensures, g.D.Device.sound.sizes.few_cells))
           c.loop-cell.invariant (sym c.either_knows_q.ensures ∙ w.if-either_knows_q.true))
       | else-either_knows_q w ↦
           rw w.vars-is (q_out t c.args.a.now c.args.b.now c.loop-cell.cell c.loop-cell.vars.items c.loop-cell.invariant (sym c.either_knows_q.ensures ∙ w.if-either_knows_q.false))

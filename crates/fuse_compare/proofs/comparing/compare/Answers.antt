@@ -10,7 +10,7 @@ ok_none found answer is none = cc
 pub compared-requires : goal.compared-requires
 compared-requires g c =
     let t = g.D.Device.table in
-    let laws = g.met.D.Device.sound in
+    let laws = g.D.Device.sound in
     let first = c.in_ok-first.first in
     let second = c.in_ok-second.second in
     let vars = c.in_ok-choice.choice.vars.items in
@@ -32,10 +32,10 @@ returns-clause-plain g c =
     let second = c.array-2.ensures ∙ c.in_ok-second.ensures.fuses in
     let known : AreKnown t c.args.a.now c.args.b.now vars = rw (← first, ← second) c.in_ok-choice.ensures.known in
     let registers : HoldsRegisters t c.args.a.now c.args.b.now (length t.cells) fixed = rw (← first, ← second) c.in_ok-choice.ensures.fixed in
-    plain_found t g.met.D.Device.sound c.args.a.now c.args.b.now c.deref.result.now vars c.deref.ensures.value fixed known registers c.compared.result c.compared.ensures.state
+    plain_found t g.D.Device.sound c.args.a.now c.args.b.now c.deref.result.now vars c.deref.ensures.value fixed known registers c.compared.result c.compared.ensures.state
 
 pub returns-clause-runs : goal.returns-clause-runs
 returns-clause-runs g c = λ none.
-    runs_found g.D.Device.table g.met.D.Device.sound c.args.a.now c.args.b.now c.compared.result
+    runs_found g.D.Device.table g.D.Device.sound c.args.a.now c.args.b.now c.compared.result
     (rw (← c.in_ok-first.ensures.logic, ← c.in_ok-second.ensures.logic) c.compared.ensures.found)
     c.in_ok-second.ensures.determined (ok_none c.compared.result (Ok c.compared.result) refl none)

@@ -14,10 +14,10 @@ loop-cell-preserved g c = λ d low.
     ]
 
 pub with_row_if_any-requires-clause-within : goal.with_row_if_any-requires-clause-within
-with_row_if_any-requires-clause-within g c = rw (c.RESET.ensures ∙ g.met.D.Device.reset_is) (reset_if_any g.D.Device.table g.met.D.Device.sound)
+with_row_if_any-requires-clause-within g c = rw c.reset.ensures (reset_if_any g.D.Device.table g.D.Device.sound)
 
 pub with_row_if_any-requires-2-clause-within : goal.with_row_if_any-requires-2-clause-within
-with_row_if_any-requires-2-clause-within g c = rw (c.PRESET.ensures ∙ g.met.D.Device.preset_is) (preset_if_any g.D.Device.table g.met.D.Device.sound)
+with_row_if_any-requires-2-clause-within g c = rw c.preset.ensures (preset_if_any g.D.Device.table g.D.Device.sound)
 
 pub returns : goal.returns
 returns g c =
@@ -27,11 +27,11 @@ returns g c =
     let own = c.loop-cell.own.items in
     let mid = c.in_ok-with_reset.with_reset.items in
     let cells : (d : ℕ) → d < length t.cells → SameCell t a b own d =
-    λ d low. c.loop-cell.invariant d (omega (arith, low, c.loop-cell-test.false, c.CELLS-cell-end.ensures, g.met.D.Device.cells_is)) in
+    λ d low. c.loop-cell.invariant d (omega (arith, low, c.loop-cell-test.false, c.cells-cell-end.ensures)) in
     let reset : MakesSame (λ at. row_if_any t a at t.reset) (λ at. row_if_any t b at t.reset) own mid =
-    subst (λ row. MakesSame (λ at. row_if_any t a at row) (λ at. row_if_any t b at row) own mid) (c.RESET.ensures ∙ g.met.D.Device.reset_is) c.in_ok-with_reset.ensures in
-    IfOk-weaker c.with_row_if_any-2.result (λ more. MakesSame (λ at. row_if_any t a at c.PRESET.result) (λ at. row_if_any t b at c.PRESET.result) mid more.items)
+    subst (λ row. MakesSame (λ at. row_if_any t a at row) (λ at. row_if_any t b at row) own mid) c.reset.ensures c.in_ok-with_reset.ensures in
+    IfOk-weaker c.with_row_if_any-2.result (λ more. MakesSame (λ at. row_if_any t a at c.preset.result) (λ at. row_if_any t b at c.preset.result) mid more.items)
     (λ more. AreOwn t a b more.items)
     (λ more is. all_own t a b own mid more.items cells reset
-    (subst (λ row. MakesSame (λ at. row_if_any t a at row) (λ at. row_if_any t b at row) mid more.items) (c.PRESET.ensures ∙ g.met.D.Device.preset_is) is))
+    (subst (λ row. MakesSame (λ at. row_if_any t a at row) (λ at. row_if_any t b at row) mid more.items) c.preset.ensures is))
     c.with_row_if_any-2.ensures

@@ -39,7 +39,7 @@ loop-row-preserved g c =
       | else-not-has_cube w ↦ record {
         below = rw w.more-is
             (covers_passed t a b rows c.loop-row.row own more invariant.below
-            (covered_row t g.met.D.Device.sound a b c.requires.same rows c.loop-row.row c.loop-row.cover.cubes c.cube.result invariant.cover c.cube.ensures
+            (covered_row t g.D.Device.sound a b c.requires.same rows c.loop-row.row c.loop-row.cover.cubes c.cube.result invariant.cover c.cube.ensures
             (c.has_cube.ensures.answer.0 w.if-not-has_cube.false)));
         cover = cover;
         spare = spare;

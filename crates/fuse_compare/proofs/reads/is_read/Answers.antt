@@ -5,7 +5,7 @@ use Rattle.fuse_compare.proofs.reads.is_read.Goals as goal
 pub returns-then-row_reads : goal.returns-then-row_reads
 returns-then-row_reads g c =
     let t = g.D.Device.table in
-    sym (any_at (row_reads_some t c.args.array.now (carries t c.args.array.now c.args.variable)) 0 t.rows c.loop-row.row (omega arith) (omega (arith, g.met.D.Device.rows_is)) (sym c.row_reads.ensures ∙ c.if-row_reads.true))
+    sym (any_at (row_reads_some t c.args.array.now (carries t c.args.array.now c.args.variable)) 0 t.rows c.loop-row.row (omega arith) (omega (arith)) (sym c.row_reads.ensures ∙ c.if-row_reads.true))
 
 pub loop-row-preserved : goal.loop-row-preserved
 loop-row-preserved g c =
@@ -17,4 +17,4 @@ returns g c =
     let t = g.D.Device.table in
     sym (
     any_none (row_reads_some t c.args.array.now (carries t c.args.array.now c.args.variable)) 0 t.rows
-    (λ row first low. c.loop-row.invariant row (omega (arith, low, g.met.D.Device.rows_is))))
+    (λ row first low. c.loop-row.invariant row (omega (arith, low))))

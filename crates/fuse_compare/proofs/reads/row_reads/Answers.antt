@@ -5,7 +5,7 @@ use Rattle.fuse_compare.proofs.reads.row_reads.Goals as goal
 pub returns-then-reads_at : goal.returns-then-reads_at
 returns-then-reads_at g c =
     let t = g.D.Device.table in
-    let low : c.loop-pair.pair < length t.pairs = omega (arith, g.met.D.Device.columns_is, g.met.D.Device.sound.sizes.columns_even) in
+    let low : c.loop-pair.pair < length t.pairs = omega (arith, g.D.Device.sound.sizes.columns_even) in
     sym (any_at (reads_at t c.args.array.now (carries t c.args.array.now c.args.variable) c.args.row) 0 (length t.pairs) c.loop-pair.pair (omega arith) (omega (arith, low)) (sym c.reads_at.ensures ∙ c.if-reads_at.true))
 
 pub loop-pair-preserved : goal.loop-pair-preserved
@@ -18,4 +18,4 @@ returns g c =
     let t = g.D.Device.table in
     sym (
     any_none (reads_at t c.args.array.now (carries t c.args.array.now c.args.variable) c.args.row) 0 (length t.pairs)
-    (λ pair first low. c.loop-pair.invariant pair (omega (arith, low, g.met.D.Device.columns_is, g.met.D.Device.sound.sizes.columns_even))))
+    (λ pair first low. c.loop-pair.invariant pair (omega (arith, low, g.D.Device.sound.sizes.columns_even))))
