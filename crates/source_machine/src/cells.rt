@@ -8,16 +8,16 @@ ghost use Rattle.source_machine.specs.AnyAs0.{level_with_any_0, next_with_any_0}
 use crate::values::{as_named, control_value, value};
 use bit_expr::{CellWanted, Function, Netlist};
 use pld_base::{Point, level_at};
-use pld_device::{Cell, Device, Enable, Kinds};
+use pld_device::{Cell, Device, Enable, Kinds, Loaded};
 
 /// The cell of a number.
-pub(crate) fn cell_of<D: Device>(index: u8) -> Cell
+pub(crate) fn cell_of<D: Device>(device: &Loaded<D>, index: u8) -> Cell
     requires { index < length D.table.cells }
     ensures found { result ≡ cell_at D.table index }
     ensures pin { result.pin < 32 }
     ensures enable { EnableInRange D.table result.enable }
 {
-    D::cell(index)
+    device.cell(index)
 }
 
 /// What is asked of a cell; None if it is assigned nothing.
@@ -46,24 +46,24 @@ pub(crate) fn node_function(net: &Netlist, node: u8) -> Function
 }
 
 /// Whether the cell is a register.
-pub(crate) fn stores<D: Device>(net: &Netlist, cell: u8) -> bool
+pub(crate) fn stores<D: Device>(device: &Loaded<D>, net: &Netlist, cell: u8) -> bool
     requires inside { All (IsCellIn (length (arena net.now.exprs))) net.now.cells }
     requires cell { cell < length D.table.cells }
     ensures { result ≡ netlist_stores D.table (plain_netlist net.now) cell }
 {
     match cell_wanted(net, cell) {
-        None => cell_of::<D>(cell).kinds == Kinds::Registered,
+        None => cell_of::<D>(device, cell).kinds == Kinds::Registered,
         Some(wanted) => wanted.registered,
     }
 }
 
 /// Whether the cell drives its pin.
-pub(crate) fn enable<D: Device>(net: &Netlist, cell: u8, at: &Point) -> bool
+pub(crate) fn enable<D: Device>(device: &Loaded<D>, net: &Netlist, cell: u8, at: &Point) -> bool
     requires inside { All (IsCellIn (length (arena net.now.exprs))) net.now.cells }
     requires cell { cell < length D.table.cells }
     ensures { result ≡ drives (levels_of at.now) (wanted_at (plain_netlist net.now) cell) (cell_at D.table cell).enable }
 {
-    match cell_of::<D>(cell).enable {
+    match cell_of::<D>(device, cell).enable {
         Enable::PinLow(pin) => !level_at(at.pins, pin),
         Enable::Row(_) => match cell_wanted(net, cell) {
             None => false,

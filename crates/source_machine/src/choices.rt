@@ -7,7 +7,7 @@ ghost use Rattle.source_machine.specs.Choices.{AreChosen, chosen};
 use crate::cells::cell_wanted;
 use bit_expr::Netlist;
 use pld_base::{Point, level_at, with_level};
-use pld_device::Device;
+use pld_device::{Device, Loaded};
 
 /// Whether the cell is a free register that inverts by its bit.
 fn is_chosen<D: Device>(net: &Netlist, inverted: u32, cell: u8) -> bool
@@ -22,12 +22,12 @@ fn is_chosen<D: Device>(net: &Netlist, inverted: u32, cell: u8) -> bool
 }
 
 /// Bit c says that cell c is such a register.
-pub(crate) fn chosen_cells<D: Device>(net: &Netlist, inverted: u32) -> u32
+pub(crate) fn chosen_cells<D: Device>(device: &Loaded<D>, net: &Netlist, inverted: u32) -> u32
     requires { All (IsCellIn (length (arena net.now.exprs))) net.now.cells }
     ensures { AreChosen D.table (plain_netlist net.now) inverted result }
 {
     let mut chosen = 0;
-    for cell in 0..D::CELLS {
+    for cell in 0..device.cells() {
         let on = is_chosen::<D>(net, inverted, cell);
         chosen = with_level(chosen, cell, on);
     }

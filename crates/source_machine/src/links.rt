@@ -10,7 +10,7 @@ use arrayvec::ArrayVec;
 use bit_expr::{CellWanted, Exprs, Leaf, Netlist, Reads};
 use gathering::{Link, both, control_reads, function_reads, nothing, read_order};
 use pld_base::OutOfMemory;
-use pld_device::Device;
+use pld_device::{Device, Loaded};
 use std::alloc::Global;
 
 /// What an assigned cell reads while it settles; a register reads by its enable alone.
@@ -27,17 +27,17 @@ fn wanted_reads(exprs: &Exprs, wanted: &CellWanted) -> Reads
 }
 
 /// A cell; nothing waits for a register.
-fn cell_link<D: Device>(net: &Netlist, cell: u8) -> Link
+fn cell_link<D: Device>(device: &Loaded<D>, net: &Netlist, cell: u8) -> Link
     requires sound { IsSoundNetlist D.table net.now }
     requires cell { cell < length D.table.cells }
     ensures { IsLinkOf D.table (plain_netlist net.now) cell result }
 {
-    let stored = stores::<D>(net, cell);
+    let stored = stores::<D>(device, net, cell);
     Link {
         leaf: if stored {
             None
         } else {
-            Some(Leaf::Pin(cell_of::<D>(cell).pin))
+            Some(Leaf::Pin(cell_of::<D>(device, cell).pin))
         },
         reads: match cell_wanted(net, cell) {
             None => nothing(),
@@ -61,13 +61,17 @@ fn node_link<D: Device>(net: &Netlist, node: u8) -> Link
 }
 
 /// All signals.
-fn signal_links<D: Device>(alloc: Global, net: &Netlist) -> Result<Vec<Link>, OutOfMemory>
+fn signal_links<D: Device>(
+    alloc: Global,
+    device: &Loaded<D>,
+    net: &Netlist,
+) -> Result<Vec<Link>, OutOfMemory>
     requires { IsSoundNetlist D.table net.now }
     ensures { IfOk result (λ links. AreSignalLinks D.table (plain_netlist net.now) links.items) }
 {
     let mut links = Vec::new(alloc);
-    for cell in 0..D::CELLS {
-        links.push(cell_link::<D>(net, cell))?;
+    for cell in 0..device.cells() {
+        links.push(cell_link::<D>(device, net, cell))?;
     }
     for node in 0..net.nodes.as_slice().len() {
         links.push(node_link::<D>(net, node as u8))?;
@@ -78,12 +82,13 @@ fn signal_links<D: Device>(alloc: Global, net: &Netlist) -> Result<Vec<Link>, Ou
 /// The signals in an order in which each waits for earlier ones alone.
 pub(crate) fn signal_order<D: Device>(
     alloc: Global,
+    device: &Loaded<D>,
     net: &Netlist,
 ) -> Result<ArrayVec<u8, 256>, OutOfMemory>
     requires { IsSoundNetlist D.table net.now }
     ensures { IfOk result (λ order.
         IsSignalOrder D.table (plain_netlist net.now) order.items) }
 {
-    let links = signal_links::<D>(alloc, net)?;
+    let links = signal_links::<D>(alloc, device, net)?;
     read_order(alloc, &links)
 }

@@ -16,10 +16,10 @@ use crate::values::value;
 use arrayvec::ArrayVec;
 use bit_expr::Netlist;
 use pld_base::{OutOfMemory, Point, level_at};
-use pld_device::Device;
+use pld_device::{Device, Loaded};
 use pld_machine::{Logic, Slot};
 use std::alloc::Global;
-use std::marker::{Model, PhantomData};
+use std::marker::Model;
 
 /// A netlist with any as 0 under a choice, as a logic; contracts see the netlist, the order of its signals, and which of its
 /// cells store the complement.
@@ -31,7 +31,7 @@ pub struct SourceLogic<'a, D: Device> {
     order: ArrayVec<u8, 256>,
     /// Bit c says that cell c stores the complement of what the netlist says of it.
     complemented: u32,
-    device: PhantomData<D>,
+    device: &'a Loaded<D>,
 }
 
 impl<'a, D: Device> Model for SourceLogic<'a, D> {
@@ -49,6 +49,7 @@ impl<'a, D: Device> SourceLogic<'a, D> {
     /// invert, so that it stores the complement; other bits have no effect. Takes memory for a link of each signal.
     pub fn new(
         alloc: Global,
+        device: &'a Loaded<D>,
         net: &'a Netlist,
         inverted: u32,
     ) -> Result<SourceLogic<'a, D>, OutOfMemory>
@@ -74,13 +75,13 @@ impl<'a, D: Device> SourceLogic<'a, D> {
         ensures determined { IfOk result (λ _.
             IsDetermined (netlist_as_chosen D.table (plain_netlist net.now) inverted)) }
     {
-        let order = signal_order::<D>(alloc, net)?;
-        let complemented = chosen_cells::<D>(net, inverted);
+        let order = signal_order::<D>(alloc, device, net)?;
+        let complemented = chosen_cells::<D>(device, net, inverted);
         Ok(SourceLogic {
             net,
             order,
             complemented,
-            device: PhantomData,
+            device,
         })
     }
 }
@@ -91,19 +92,19 @@ impl<'a, D: Device> Logic for SourceLogic<'a, D> {
     ghost meaning = { λ l. ordered_lookups D.table l };
 
     fn cells(&self) -> u8 {
-        D::CELLS
+        self.device.cells()
     }
 
     fn pin(&self, cell: u8) -> u8 {
-        cells::cell_of::<D>(cell).pin
+        cells::cell_of::<D>(self.device, cell).pin
     }
 
     fn stores(&self, cell: u8) -> bool {
-        cells::stores::<D>(self.net, cell)
+        cells::stores::<D>(self.device, self.net, cell)
     }
 
     fn clock(&self) -> u8 {
-        D::CLOCK
+        self.device.clock()
     }
 
     fn slots(&self) -> u16 {
@@ -112,15 +113,20 @@ impl<'a, D: Device> Logic for SourceLogic<'a, D> {
 
     fn slot(&self, index: u16) -> Slot {
         let signal = self.order.as_slice()[usize::from(index)];
-        if signal < D::CELLS {
+        if signal < self.device.cells() {
             Slot::Cell(signal)
         } else {
-            Slot::Node(signal - D::CELLS)
+            Slot::Node(signal - self.device.cells())
         }
     }
 
     fn enable(&self, at: &Point, cell: u8) -> bool {
-        cells::enable::<D>(self.net, cell, &as_named_point(at, self.complemented))
+        cells::enable::<D>(
+            self.device,
+            self.net,
+            cell,
+            &as_named_point(at, self.complemented),
+        )
     }
 
     fn level(&self, at: &Point, cell: u8) -> bool {

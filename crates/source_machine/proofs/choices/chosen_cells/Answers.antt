@@ -9,10 +9,10 @@ loop-cell-init g c = none_yet _
 pub loop-cell-preserved : goal.loop-cell-preserved
 loop-cell-preserved g c =
     one_more (chosen g.D.Device.table (plain_netlist c.args.net.now) c.args.inverted) c.loop-cell.cell (bits 32 c.loop-cell.chosen) (bits 32 c.with_level-chosen.result) c.is_chosen-on.result
-    (omega (arith, c.loop-cell-test.true, c.CELLS-cell-end.ensures, g.met.D.Device.cells_is, length-bits 32 c.loop-cell.chosen, g.met.D.Device.sound.sizes.few_cells))
+    (omega (arith, c.loop-cell-test.true, c.cells-cell-end.ensures, length-bits 32 c.loop-cell.chosen, g.D.Device.sound.sizes.few_cells))
     c.loop-cell.invariant c.with_level-chosen.ensures c.is_chosen-on.ensures
 
 pub returns : goal.returns
 returns g c =
     all_counted g.D.Device.table (plain_netlist c.args.net.now) c.args.inverted c.loop-cell.chosen c.loop-cell.cell
-    (omega (arith, c.loop-cell-test.false, c.CELLS-cell-end.ensures, g.met.D.Device.cells_is)) c.loop-cell.invariant
+    (omega (arith, c.loop-cell-test.false, c.cells-cell-end.ensures)) c.loop-cell.invariant

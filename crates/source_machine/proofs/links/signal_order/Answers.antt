@@ -8,24 +8,24 @@ pub read_order-requires-clause-few : goal.read_order-requires-clause-few
 read_order-requires-clause-few g c =
     let t = g.D.Device.table in
     let net = plain_netlist c.args.net.now in
-    few_links t g.met.D.Device.sound net c.requires.sound c.deref.result.now (subst (AreSignalLinks t net) (sym c.deref.ensures.value) c.in_ok-links.ensures)
+    few_links t g.D.Device.sound net c.requires.sound c.deref.result.now (subst (AreSignalLinks t net) (sym c.deref.ensures.value) c.in_ok-links.ensures)
 
 pub read_order-requires-clause-leaves : goal.read_order-requires-clause-leaves
 read_order-requires-clause-leaves g c =
     let t = g.D.Device.table in
     let net = plain_netlist c.args.net.now in
-    leaves t g.met.D.Device.sound net c.requires.sound c.deref.result.now (subst (AreSignalLinks t net) (sym c.deref.ensures.value) c.in_ok-links.ensures)
+    leaves t g.D.Device.sound net c.requires.sound c.deref.result.now (subst (AreSignalLinks t net) (sym c.deref.ensures.value) c.in_ok-links.ensures)
 
 pub read_order-requires-clause-no_loop : goal.read_order-requires-clause-no_loop
 read_order-requires-clause-no_loop g c =
     let t = g.D.Device.table in
     let net = plain_netlist c.args.net.now in
-    no_chain t g.met.D.Device.sound net c.requires.sound c.deref.result.now (subst (AreSignalLinks t net) (sym c.deref.ensures.value) c.in_ok-links.ensures)
+    no_chain t g.D.Device.sound net c.requires.sound c.deref.result.now (subst (AreSignalLinks t net) (sym c.deref.ensures.value) c.in_ok-links.ensures)
 
 pub returns : goal.returns
 returns g c =
     let t = g.D.Device.table in
     let net = plain_netlist c.args.net.now in
     IfOk-weaker c.read_order.result _ _
-    (λ order is. order_waits t g.met.D.Device.sound net c.requires.sound c.deref.result.now (subst (AreSignalLinks t net) (sym c.deref.ensures.value) c.in_ok-links.ensures) order.items is)
+    (λ order is. order_waits t g.D.Device.sound net c.requires.sound c.deref.result.now (subst (AreSignalLinks t net) (sym c.deref.ensures.value) c.in_ok-links.ensures) order.items is)
     c.read_order.ensures

@@ -8,5 +8,5 @@ node_function-function-requires-clause-node g c =
     let t = g.D.Device.table in
     let net = c.self.inside.net.now in
     subst (λ n. c.args.node < n) (length-map net.nodes (plain_function (arena net.exprs)))
-    (node_within t g.met.D.Device.sound (plain_netlist net) c.self.inside.order.items c.self.invariant.in_order c.args.node
+    (node_within t g.D.Device.sound (plain_netlist net) c.self.inside.order.items c.self.invariant.in_order c.args.node
     (subst (λ s. IsTrue (sets_node (netlist_lookups t (plain_netlist s.net) s.order).slots c.args.node)) (sym c.self.view_is) c.requires))
