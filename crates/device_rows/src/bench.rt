@@ -1,7 +1,7 @@
 //! A small device of no maker with a register and two gates, on which vectors are run.
 
 use pld_base::DeviceName;
-use pld_device::{Carry, Cell, Chip, Enable, Flip, FuseBit, Kinds, Part};
+use pld_device::{Carry, Cell, Chip, Device, Enable, Flip, FuseBit, Kinds, Loaded, Part, load};
 
 /// The small device, as a type without values of its own: cell 0, a register, on pin 5, and cells 1 and
 /// 2 on pins 6 and 7, each with an enable row and a data row, and columns for pins 2 and 3 and for cell
@@ -9,35 +9,44 @@ use pld_device::{Carry, Cell, Chip, Enable, Flip, FuseBit, Kinds, Part};
 #[derive(Clone, Copy, PartialEq, Eq)]
 pub struct Bench;
 
-impl Part for Bench {
-    ghost use Rattle.std.specs.Prelude.{refl};
-    ghost use Rattle.pld_device.specs.Table.{chip_of};
+impl Device for Bench {
     ghost use Rattle.device_rows.specs.BenchTable.{bench, bench_sound};
-
-    const CHIP: Chip = Chip {
-        name: DeviceName::GAL22V10,
-        pins: 10,
-        ground_pin: 9,
-        fuses: 39,
-        short: 39,
-        columns: 6,
-        rows: 6,
-        cells: 3,
-        clock: 1,
-        reset: None,
-        preset: None,
-        flip: Flip::AfterRegister,
-    };
-
-    ghost CHIP = { chip_of bench };
 
     ghost table = { bench };
 
-    ghost chip_is = { refl };
-
     ghost sound = { bench_sound };
+}
 
-    fn carries(pair: u16) -> Carry {
+/// The device.
+pub fn bench_device() -> Loaded<Bench> {
+    load::<Bench, Bench>(&Bench)
+}
+
+impl Part for Bench {
+    ghost use Rattle.device_rows.specs.BenchTable.{bench, bench_sound};
+
+    ghost table = { λ p. bench };
+
+    ghost sound = { λ p. bench_sound };
+
+    fn chip(&self) -> Chip {
+        Chip {
+            name: DeviceName::GAL22V10,
+            pins: 10,
+            ground_pin: 9,
+            fuses: 39,
+            short: 39,
+            columns: 6,
+            rows: 6,
+            cells: 3,
+            clock: 1,
+            reset: None,
+            preset: None,
+            flip: Flip::AfterRegister,
+        }
+    }
+
+    fn carries(&self, pair: u16) -> Carry {
         match pair {
             0 => Carry::Pin(2),
             1 => Carry::Pin(3),
@@ -45,7 +54,7 @@ impl Part for Bench {
         }
     }
 
-    fn cell(index: u8) -> Cell {
+    fn cell(&self, index: u8) -> Cell {
         let row = u16::from(index) * 2;
         let kinds = match index {
             0 => Kinds::Registered,
@@ -60,22 +69,22 @@ impl Part for Bench {
         }
     }
 
-    fn inverted_at(cell: u8) -> Option<FuseBit> {
+    fn inverted_at(&self, cell: u8) -> Option<FuseBit> {
         Some(FuseBit {
             fuse: 36 + u16::from(cell),
             level: false,
         })
     }
 
-    fn registered_at(_cell: u8) -> Option<FuseBit> {
+    fn registered_at(&self, _cell: u8) -> Option<FuseBit> {
         None
     }
 
-    fn row_switch(_row: u16) -> Option<u16> {
+    fn row_switch(&self, _row: u16) -> Option<u16> {
         None
     }
 
-    fn fixed(_index: u16) -> Option<FuseBit> {
+    fn fixed(&self, _index: u16) -> Option<FuseBit> {
         None
     }
 }

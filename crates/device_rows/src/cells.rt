@@ -1,7 +1,7 @@
 //! What devices say of their cells, pairs and rows, as text.
 
 use crate::numbers::put_number;
-use pld_device::{Carry, Device, Enable, FuseBit, Kinds};
+use pld_device::{Carry, Device, Enable, FuseBit, Kinds, Loaded};
 use test_rows::Found;
 
 /// Appends what enables a cell.
@@ -40,11 +40,11 @@ fn put_bit(bit: Option<FuseBit>, found: &mut Found) {
 }
 
 /// Appends a cell and its control fuses.
-pub fn put_cell<D: Device>(index: u8, found: &mut Found) {
-    if index >= D::CELLS {
+pub fn put_cell<D: Device>(device: &Loaded<D>, index: u8, found: &mut Found) {
+    if index >= device.cells() {
         return found.text("none");
     }
-    let cell = D::cell(index);
+    let cell = device.cell(index);
     found.text("pin ");
     found.number(usize::from(cell.pin));
     found.text(", ");
@@ -56,32 +56,32 @@ pub fn put_cell<D: Device>(index: u8, found: &mut Found) {
     found.text(", ");
     found.text(kinds_word(cell.kinds));
     found.text(", ");
-    put_bit(D::inverted_at(index), found);
+    put_bit(device.inverted_at(index), found);
     found.text(", ");
-    put_bit(D::registered_at(index), found);
+    put_bit(device.registered_at(index), found);
 }
 
 /// Appends whether pin 11 enables a cell while it is 0.
-pub fn put_low_pin<D: Device>(index: u8, found: &mut Found) {
-    if index >= D::CELLS {
+pub fn put_low_pin<D: Device>(device: &Loaded<D>, index: u8, found: &mut Found) {
+    if index >= device.cells() {
         return found.text("none");
     }
-    let is_enabled = D::cell(index).enable == Enable::PinLow(11);
+    let is_enabled = device.cell(index).enable == Enable::PinLow(11);
     found.text(if is_enabled { "yes" } else { "no" });
 }
 
 /// What a pair carries, None past the last one.
-fn carry_of<D: Device>(pair: u16) -> Option<Carry> {
-    if pair < D::COLUMNS / 2 {
-        Some(D::carries(pair))
+fn carry_of<D: Device>(device: &Loaded<D>, pair: u16) -> Option<Carry> {
+    if pair < device.columns() / 2 {
+        Some(device.carries(pair))
     } else {
         None
     }
 }
 
 /// Appends what a pair carries.
-pub fn put_pair<D: Device>(pair: u16, found: &mut Found) {
-    match carry_of::<D>(pair) {
+pub fn put_pair<D: Device>(device: &Loaded<D>, pair: u16, found: &mut Found) {
+    match carry_of::<D>(device, pair) {
         Some(Carry::Pin(pin)) => {
             found.text("pin ");
             found.number(usize::from(pin));
@@ -95,20 +95,22 @@ pub fn put_pair<D: Device>(pair: u16, found: &mut Found) {
 }
 
 /// Appends the pin that a pair carries, or the pin of the cell that it carries.
-pub fn put_pair_pin<D: Device>(pair: u16, found: &mut Found) {
-    match carry_of::<D>(pair) {
+pub fn put_pair_pin<D: Device>(device: &Loaded<D>, pair: u16, found: &mut Found) {
+    match carry_of::<D>(device, pair) {
         Some(Carry::Pin(pin)) => found.number(usize::from(pin)),
-        Some(Carry::Cell(cell)) if cell < D::CELLS => found.number(usize::from(D::cell(cell).pin)),
+        Some(Carry::Cell(cell)) if cell < device.cells() => found.number(usize::from(
+            device.cell(cell).pin,
+        )),
         _ => found.text("none"),
     }
 }
 
 /// Appends the fuse that switches a row on.
-pub fn put_switch<D: Device>(row: u16, found: &mut Found) {
-    put_number(D::row_switch(row), found);
+pub fn put_switch<D: Device>(device: &Loaded<D>, row: u16, found: &mut Found) {
+    put_number(device.row_switch(row), found);
 }
 
 /// Appends a fuse whose level is the same in every design.
-pub fn put_fixed<D: Device>(index: u16, found: &mut Found) {
-    put_bit(D::fixed(index), found);
+pub fn put_fixed<D: Device>(device: &Loaded<D>, index: u16, found: &mut Found) {
+    put_bit(device.fixed(index), found);
 }

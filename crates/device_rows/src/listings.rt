@@ -1,10 +1,10 @@
 //! Fuses of the sample device are listed.
 
+use crate::sample::sample_device;
 use crate::texts::fuses_of;
 use abel_tree::{Attributes, Declared, Meaning, Names};
 use fuse_listing::listing;
 use pld_base::{DeviceName, ListOf, NameText, OutOfMemory, Place};
-use pld_device::Sample;
 use std::alloc::Global;
 use test_rows::{Found, Report, Row, Section};
 
@@ -40,7 +40,7 @@ fn names_of(alloc: Global, text: &str) -> Result<Names, OutOfMemory> {
 /// Appends the listing of fuses in names.
 fn put_listing(alloc: Global, names: &str, fuses: &str, found: &mut Found) {
     match (names_of(alloc, names), fuses_of(alloc, fuses, 60)) {
-        (Ok(names), Some(fuses)) => match listing::<Sample>(alloc, &names, &names, &fuses) {
+        (Ok(names), Some(fuses)) => match listing(alloc, &sample_device(), &names, &names, &fuses) {
             Ok(list) => found.put(&list),
             Err(_) => found.text("no memory"),
         },

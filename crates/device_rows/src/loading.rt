@@ -5,11 +5,11 @@ ghost use Rattle.device_logic.specs.DeviceLookups.{device_lookups};
 ghost use Rattle.device_logic.specs.TrioTable.{trio};
 
 use crate::asked::{Ask, ask_rows};
+use crate::sample::sample_device;
 use crate::texts::{bits_of, fields_of, fuses_of, joined, put_levels, put_numbers};
-use crate::trio::Trio;
+use crate::trio::{Trio, trio_device};
 use device_logic::{DeviceLogic, SimFault, load};
 use pld_base::level_at;
-use pld_device::Sample;
 use pld_machine::{Logic, Slot, rest};
 use std::alloc::Global;
 use test_rows::{Found, Report, Row, Section};
@@ -36,7 +36,7 @@ pub fn put_fault(fault: &SimFault, found: &mut Found) {
 }
 
 /// Appends the cells in the order of their slots.
-fn put_order(logic: &DeviceLogic<Trio>, found: &mut Found) {
+fn put_order(logic: &DeviceLogic<'_, Trio>, found: &mut Found) {
     found.text("order");
     for index in 0..logic.slots() {
         match logic.slot(index) {
@@ -50,7 +50,7 @@ fn put_order(logic: &DeviceLogic<Trio>, found: &mut Found) {
 }
 
 /// Appends the levels of pins 9, 8 and 7 at rest, with these pins at 1 from outside.
-fn put_rest(logic: &DeviceLogic<Trio>, high: &str, found: &mut Found)
+fn put_rest(logic: &DeviceLogic<'_, Trio>, high: &str, found: &mut Found)
     requires { IsOrdered (device_lookups trio logic.now.fuses logic.now.order) }
 {
     let pins = rest(logic, bits_of(high), 0).pins;
@@ -69,7 +69,8 @@ impl<'a> Ask for ThreeCells<'a> {
         let Some(fuses) = fuses_of(alloc, self.fuses, 90) else {
             return found.text("not as many fuses");
         };
-        match load::<Trio>(alloc, &fuses) {
+        let device = trio_device();
+        match load(alloc, &device, &fuses) {
             Ok(logic) => match input.strip_prefix("high") {
                 Some(high) => put_rest(&logic, high, found),
                 None => put_order(&logic, found),
@@ -105,7 +106,8 @@ impl Ask for Resets {
         let Some(fuses) = fuses_of(alloc, fuses, 60) else {
             return found.text("not as many fuses");
         };
-        match load::<Sample>(alloc, &fuses) {
+        let device = sample_device();
+        match load(alloc, &device, &fuses) {
             Ok(_logic) => found.text("loaded"),
             Err(fault) => put_fault(&fault, found),
         }

@@ -1,18 +1,23 @@
 //! What devices say of their cells, pairs and rows.
 
+ghost use Rattle.std.specs.Prelude.{◌≡◌};
+ghost use Rattle.devices.specs.Devices.{table_of};
+
 use crate::asked::{Ask, ask_rows};
 use crate::cells::{put_cell, put_fixed, put_low_pin, put_pair, put_pair_pin, put_switch};
-use crate::numbers::Numbers;
-use devices::on_device;
+use crate::numbers::put_named;
+use crate::sample::sample_device;
+use devices::loaded;
 use pld_base::DeviceName;
-use pld_device::{Device, Sample};
+use pld_device::{Device, Loaded, Sample};
 use std::alloc::Global;
-use std::marker::PhantomData;
+use std::marker::Brand;
 use test_rows::{Found, Report, Section};
 
-/// What is asked of a device at a number.
+/// What is asked of a device: a number by its name, or an entry at a number.
 #[derive(Clone, Copy)]
 enum Question {
+    Named,
     Cell,
     LowPin,
     Pair,
@@ -24,6 +29,7 @@ enum Question {
 /// The question of a section's name.
 fn question_of(name: &str) -> Option<Question> {
     let questions = [
+        ("numbers", Question::Named),
         ("cells", Question::Cell),
         ("pin 11 at the cells", Question::LowPin),
         ("pairs", Question::Pair),
@@ -39,73 +45,91 @@ fn question_of(name: &str) -> Option<Question> {
     None
 }
 
-/// Appends the answer at a number.
-fn put_answer<D: Device>(question: Question, number: u8, found: &mut Found) {
-    match question {
-        Question::Cell => put_cell::<D>(number, found),
-        Question::LowPin => put_low_pin::<D>(number, found),
-        Question::Pair => put_pair::<D>(u16::from(number), found),
-        Question::PairPin => put_pair_pin::<D>(u16::from(number), found),
-        Question::Switch => put_switch::<D>(u16::from(number), found),
-        Question::Fixed => put_fixed::<D>(u16::from(number), found),
+/// A question to a device, at one number or at several.
+#[derive(Drop)]
+struct LookUp<'a, D: Device> {
+    device: &'a Loaded<D>,
+    question: Question,
+}
+
+impl<'a, D: Device> LookUp<'a, D> {
+    /// Appends the answer at a word, which is a number but for `Named`.
+    fn put_answer(&self, word: &str, found: &mut Found) {
+        let number = match word.parse::<u8>() {
+            Ok(number) => number,
+            Err(_) => return self.put_named(word, found),
+        };
+        match self.question {
+            Question::Named => found.text("no name"),
+            Question::Cell => put_cell::<D>(self.device, number, found),
+            Question::LowPin => put_low_pin::<D>(self.device, number, found),
+            Question::Pair => put_pair::<D>(self.device, u16::from(number), found),
+            Question::PairPin => put_pair_pin::<D>(self.device, u16::from(number), found),
+            Question::Switch => put_switch::<D>(self.device, u16::from(number), found),
+            Question::Fixed => put_fixed::<D>(self.device, u16::from(number), found),
+        }
+    }
+
+    /// Appends what the device says to a word that is no number.
+    fn put_named(&self, word: &str, found: &mut Found) {
+        match self.question {
+            Question::Named => put_named::<D>(self.device, word, found),
+            _ => found.text("no number"),
+        }
     }
 }
 
-/// A question at one number or at several.
-#[derive(Drop)]
-struct LookUp<D: Device> {
-    question: Question,
-    device: PhantomData<D>,
-}
-
-impl<D: Device> Ask for LookUp<D> {
+impl<'a, D: Device> Ask for LookUp<'a, D> {
     fn answer(&mut self, _alloc: Global, input: &str, found: &mut Found) {
         for (place, word) in input.split_whitespace().enumerate() {
             if place != 0 {
                 found.text("; ");
             }
-            match word.parse::<u8>() {
-                Ok(number) => put_answer::<D>(self.question, number, found),
-                Err(_) => found.text("no number"),
-            }
+            self.put_answer(word, found);
         }
     }
 }
 
-/// Asks a device what a section's name says.
-fn ask_device<D: Device>(
+/// Asks the device of a name.
+fn ask_named<D: Device>(
     alloc: Global,
-    name: &str,
+    name: DeviceName,
+    question: Question,
     section: &Section<'_>,
     report: &mut Report<'_>,
-) -> bool {
-    let rows = section.rows.as_slice();
-    let device = PhantomData;
-    if name == "numbers" {
-        let mut numbers = Numbers::<D> { device };
-        ask_rows(alloc, rows, &mut numbers, report);
-        return true;
-    }
-    match question_of(name) {
-        Some(question) => {
-            let mut look_up = LookUp::<D> { question, device };
-            ask_rows(alloc, rows, &mut look_up, report);
-            true
-        }
-        None => false,
-    }
+)
+    requires table { table_of name ≡ D.table }
+{
+    let device = loaded::<D>(name);
+    let mut look_up = LookUp::<D> {
+        device: &device,
+        question,
+    };
+    ask_rows(alloc, section.rows.as_slice(), &mut look_up, report);
 }
 
 /// Asks the device that a section's name ends with.
 pub fn ask_devices(alloc: Global, section: &Section<'_>, report: &mut Report<'_>) -> bool {
-    let Some((name, device)) = section.name.split_once(" of the ") else {
+    let Some((words, device)) = section.name.split_once(" of the ") else {
+        return false;
+    };
+    let Some(question) = question_of(words) else {
         return false;
     };
     if device == "sample device" {
-        return ask_device::<Sample>(alloc, name, section, report);
+        let device = sample_device();
+        let mut look_up = LookUp::<Sample> {
+            device: &device,
+            question,
+        };
+        ask_rows(alloc, section.rows.as_slice(), &mut look_up, report);
+        return true;
     }
     match DeviceName::named(device.as_bytes()) {
-        Some(device) => on_device!(device, ask_device(alloc, name, section, report)),
+        Some(name) => {
+            ask_named::<Brand>(alloc, name, question, section, report);
+            true
+        }
         None => false,
     }
 }

@@ -18,6 +18,7 @@ mod numbers;
 mod pins;
 mod reading;
 mod real_files;
+mod sample;
 mod shift_register;
 mod shifting;
 mod simulating;

@@ -1,16 +1,7 @@
 //! The numbers of devices.
 
-use crate::asked::Ask;
-use pld_device::Device;
-use std::alloc::Global;
-use std::marker::PhantomData;
+use pld_device::{Device, Loaded};
 use test_rows::Found;
-
-/// The numbers of a device, each by a word for it.
-#[derive(Drop)]
-pub struct Numbers<D: Device> {
-    pub device: PhantomData<D>,
-}
 
 /// Appends a number that there may be.
 pub fn put_number(number: Option<u16>, found: &mut Found) {
@@ -20,28 +11,27 @@ pub fn put_number(number: Option<u16>, found: &mut Found) {
     }
 }
 
-impl<D: Device> Ask for Numbers<D> {
-    fn answer(&mut self, _alloc: Global, input: &str, found: &mut Found) {
-        if input == "name" {
-            let name = D::NAME;
-            found.text(name.text());
-        }
-        let numbers = [
-            ("pins", Some(u16::from(D::PINS))),
-            ("ground", Some(u16::from(D::GROUND))),
-            ("columns", Some(D::COLUMNS)),
-            ("rows", Some(D::ROWS)),
-            ("fuses", Some(D::FUSES)),
-            ("short", Some(D::SHORT)),
-            ("cells", Some(u16::from(D::CELLS))),
-            ("clock", Some(u16::from(D::CLOCK))),
-            ("reset", D::RESET),
-            ("preset", D::PRESET),
-        ];
-        for (word, number) in numbers {
-            if word == input {
-                put_number(number, found);
-            }
+/// Appends the number of a device that a word names, or its name.
+pub fn put_named<D: Device>(device: &Loaded<D>, word: &str, found: &mut Found) {
+    if word == "name" {
+        let name = device.name();
+        found.text(name.text());
+    }
+    let numbers = [
+        ("pins", Some(u16::from(device.pins()))),
+        ("ground", Some(u16::from(device.ground()))),
+        ("columns", Some(device.columns())),
+        ("rows", Some(device.rows())),
+        ("fuses", Some(device.fuses())),
+        ("short", Some(device.short())),
+        ("cells", Some(u16::from(device.cells()))),
+        ("clock", Some(u16::from(device.clock()))),
+        ("reset", device.reset()),
+        ("preset", device.preset()),
+    ];
+    for (name, number) in numbers {
+        if name == word {
+            put_number(number, found);
         }
     }
 }

@@ -2,16 +2,16 @@
 
 use crate::asked::{Ask, ask_rows};
 use crate::file_texts::{put_fault, put_file};
+use crate::sample::sample_device;
 use crate::texts::joined;
 use jedec_reader::read;
-use pld_device::Sample;
 use std::alloc::Global;
 use test_rows::{Found, Report, Row, Section, unescaped};
 
 /// Appends what the reader answers on the bytes of a text with escapes.
 fn put_read(alloc: Global, text: &str, found: &mut Found) {
     match unescaped(alloc, text) {
-        Some(bytes) if bytes.len() <= 1_000_000 => match read::<Sample>(alloc, &bytes) {
+        Some(bytes) if bytes.len() <= 1_000_000 => match read(alloc, &sample_device(), &bytes) {
             Ok(file) => put_file(&file, found),
             Err(fault) => put_fault(&fault, found),
         },

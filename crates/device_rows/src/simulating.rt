@@ -3,16 +3,16 @@
 ghost use Rattle.std.specs.Prelude.{◌≡◌, ◌<◌, ◌^◌, length};
 
 use crate::asked::{Ask, ask_rows};
-use crate::bench::Bench;
+use crate::bench::bench_device;
 use crate::loading::put_fault;
+use crate::sample::sample_device;
 use crate::texts::{fields_of, fuses_of};
-use crate::turned::Turned;
+use crate::turned::turned_device;
 use device_sim::{Mismatch, simulate};
 use jedec_reader::FuseFile;
 use pld_base::{ListOf, Vector};
-use pld_device::{Device, Sample};
+use pld_device::{Device, Loaded};
 use std::alloc::{AllocError, Global};
-use std::marker::PhantomData;
 use test_rows::{Found, Report, Section};
 
 /// A vector with these characters from pin 1 on, and `N` past them.
@@ -55,11 +55,11 @@ fn put_mismatch(it: &Mismatch, found: &mut Found) {
 }
 
 /// Appends what results from the vectors of a file.
-fn put_outcome<D: Device>(alloc: Global, file: &FuseFile, found: &mut Found)
+fn put_outcome<D: Device>(alloc: Global, device: &Loaded<D>, file: &FuseFile, found: &mut Found)
     requires size { length file.now.fuses ≡ D.table.fuses }
     requires few { length file.now.vectors < 2 ^ 32 }
 {
-    match simulate::<D>(alloc, file) {
+    match simulate::<D>(alloc, device, file) {
         Ok(report) => {
             found.number(report.vectors as usize);
             found.text(" vectors;");
@@ -74,14 +74,14 @@ fn put_outcome<D: Device>(alloc: Global, file: &FuseFile, found: &mut Found)
 /// A device with these fuses.
 #[derive(Drop)]
 struct Simulated<'a, D: Device> {
+    device: &'a Loaded<D>,
     fuses: &'a str,
-    device: PhantomData<D>,
 }
 
 impl<'a, D: Device> Ask for Simulated<'a, D> {
     fn answer(&mut self, alloc: Global, input: &str, found: &mut Found) {
         let [_what, default_level, vectors, ..] = fields_of(input);
-        let size = usize::from(D::FUSES);
+        let size = usize::from(self.device.fuses());
         let Some(fuses) = fuses_of(alloc, self.fuses, size) else {
             return found.text("not as many fuses");
         };
@@ -93,24 +93,29 @@ impl<'a, D: Device> Ask for Simulated<'a, D> {
         }
         let file = FuseFile {
             fuses,
-            listed: D::FUSES,
+            listed: self.device.fuses(),
             vectors: ListOf::from_vec(vectors),
             default_level: default_level == "1",
         };
-        put_outcome::<D>(alloc, &file, found)
+        put_outcome::<D>(alloc, self.device, &file, found)
     }
 }
 
 /// Asks the rows of each block, after what its cells take and its fuses.
-fn ask_blocks<D: Device>(alloc: Global, section: &Section<'_>, report: &mut Report<'_>) {
+fn ask_blocks<D: Device>(
+    alloc: Global,
+    device: &Loaded<D>,
+    section: &Section<'_>,
+    report: &mut Report<'_>,
+) {
     let Ok(blocks) = section.blocks(alloc) else {
         return report.unread(0);
     };
     for block in &blocks {
         if let [_what, fuses, rows @ ..] = block.as_slice() {
             let mut simulated = Simulated::<D> {
+                device,
                 fuses: fuses.text,
-                device: PhantomData,
             };
             ask_rows(alloc, rows, &mut simulated, report);
         }
@@ -120,11 +125,11 @@ fn ask_blocks<D: Device>(alloc: Global, section: &Section<'_>, report: &mut Repo
 /// Runs the vectors of a section on the device that its name says.
 pub fn ask_vectors(alloc: Global, section: &Section<'_>, report: &mut Report<'_>) -> bool {
     if section.name == "vectors on a register and two gates" {
-        ask_blocks::<Bench>(alloc, section, report);
+        ask_blocks(alloc, &bench_device(), section, report);
     } else if section.name == "vectors on the sample device" {
-        ask_blocks::<Sample>(alloc, section, report);
+        ask_blocks(alloc, &sample_device(), section, report);
     } else if section.name == "vectors on a device that complements before its registers" {
-        ask_blocks::<Turned>(alloc, section, report);
+        ask_blocks(alloc, &turned_device(), section, report);
     } else {
         return false;
     }

@@ -8,11 +8,12 @@ ghost use Rattle.jedec_file.specs.FileText.{ETX, asterisk};
 ghost use Rattle.jedec_file.specs.TestVectors.{chars_of};
 ghost use Rattle.pld_device.specs.SampleTable.{sample};
 
+use crate::sample::sample_device;
 use crate::simulating::vectors_of;
 use crate::texts::{fuses_of, joined};
 use jedec_writer::{fuse_sum, write};
 use pld_base::Vector;
-use pld_device::{Fuses, Sample};
+use pld_device::Fuses;
 use std::alloc::Global;
 use test_rows::{Found, Report, Row, Section, unescaped};
 
@@ -85,7 +86,7 @@ fn put_file(alloc: Global, name: &[u8], fuses: &Fuses, vectors: &[Vector], found
         && !has_opened_past_lines(fuses)
         && are_test_vectors(vectors)
     {
-        match write::<Sample>(alloc, name, fuses, vectors) {
+        match write(alloc, &sample_device(), name, fuses, vectors) {
             Ok(file) => found.put(&file),
             Err(_) => found.text("no memory"),
         }
