@@ -44,7 +44,7 @@ impl<'a, D: Device> DeviceLogic<'a, D> {
     ) -> DeviceLogic<'a, D>
         requires masks { AreMasks D.table array masks.items }
         requires order { IsCellOrder D.table array order.items }
-        ensures fuses { result.fuses ≡ array }
+        ensures fuses { result.fuses ≡ array.entry }
         ensures order { result.order ≡ order.items }
     {
         DeviceLogic {
