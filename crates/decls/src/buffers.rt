@@ -10,25 +10,25 @@ ghost use Rattle.decls.specs.NameRefusals.{always_inverts};
 
 use crate::saying::all_in;
 use abel_tree::{Decl, Module, Section};
-use pld_device::{Device, Flip};
+use pld_device::{Device, Flip, Loaded};
 
 /// Whether the device has registers and always complements them at their pins.
-pub fn always_inverts<D: Device>() -> bool
+pub fn always_inverts<D: Device>(device: &Loaded<D>) -> bool
     ensures { result ≡ always_inverts D.table }
 {
-    let always = match D::FLIP {
+    let always = match device.flip() {
         Flip::Always => true,
         Flip::AfterRegister => false,
         Flip::BeforeRegister => true,
     };
-    D::CLOCK != 0 && always
+    device.clock() != 0 && always
 }
 
 /// Whether registers wait for what is assigned: the device always inverts, and some string says `buffer`.
-pub(crate) fn registers_wait<D: Device>(source: &Module) -> bool
+pub(crate) fn registers_wait<D: Device>(device: &Loaded<D>, source: &Module) -> bool
     ensures { result ≡ registers_wait D.table (view_module source.now) }
 {
-    always_inverts::<D>() && module_says_buffer(source)
+    always_inverts::<D>(device) && module_says_buffer(source)
 }
 
 /// Whether some string of a module says `buffer`.

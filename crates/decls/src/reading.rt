@@ -21,7 +21,7 @@ use bitflags::Flags;
 use indexmap::IndexMap;
 use name_uses::ModuleParts;
 use pld_base::{NameText, OutOfMemory, Place};
-use pld_device::Device;
+use pld_device::{Device, Loaded};
 use std::alloc::Global;
 
 /// What the declarations and the uses of a module amount to.
@@ -136,6 +136,7 @@ fn list_of(alloc: Global, names: IndexMap<Vec<u8>, Known>) -> Result<Vec<Declare
 /// registers wait, of which one may be refused before it.
 pub fn read_names<D: Device>(
     alloc: Global,
+    device: &Loaded<D>,
     source: &ModuleParts<'_>,
 ) -> Result<NamesRead, OutOfMemory>
     ensures list { IfOk result (λ r. wants_names (registers_wait D.table (view_module source.now)) r.fault ≡ true → map view_declared r.list.items
@@ -146,8 +147,8 @@ pub fn read_names<D: Device>(
         ≡ first_refusal name_order (read_refusals D.table (view_module source.now))) }
     ensures wait { IfOk result (λ r. r.registers_wait ≡ registers_wait D.table (view_module source.now)) }
 {
-    let wait = registers_wait::<D>(source.module());
-    let table = names_read::<D>(alloc, source, wait)?;
+    let wait = registers_wait::<D>(device, source.module());
+    let table = names_read::<D>(alloc, device, source, wait)?;
     let buffered = table.buffered(alloc, table.waiting.as_slice())?;
     let NameTable {
         pins: _,

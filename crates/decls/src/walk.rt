@@ -16,7 +16,7 @@ use abel_tree::{Decl, Section};
 use indexmap::IndexMap;
 use name_uses::{ModuleParts, SectionParts};
 use pld_base::OutOfMemory;
-use pld_device::Device;
+use pld_device::{Device, Loaded};
 use std::alloc::Global;
 
 impl Pass {
@@ -127,13 +127,14 @@ fn empty_table(alloc: Global, pins: u8, ground: u8) -> NameTable
 /// A pass over a module for a device.
 fn pass_over<D: Device>(
     alloc: Global,
+    device: &Loaded<D>,
     source: &ModuleParts<'_>,
     skips: bool,
 ) -> Result<Pass, OutOfMemory>
     ensures { IfOk result (λ d. Follows (way D.table skips) d (module_steps D.table (view_module source.now))) }
 {
     let mut pass = Pass {
-        table: empty_table(alloc, D::PINS, D::GROUND),
+        table: empty_table(alloc, device.pins(), device.ground()),
         skips,
         skipped: false,
         lost: false,
@@ -147,6 +148,7 @@ fn pass_over<D: Device>(
 /// refusal too where registers wait.
 pub(crate) fn names_read<D: Device>(
     alloc: Global,
+    device: &Loaded<D>,
     source: &ModuleParts<'_>,
     wait: bool,
 ) -> Result<NameTable, OutOfMemory>
@@ -155,12 +157,12 @@ pub(crate) fn names_read<D: Device>(
     ensures fault { IfOk result (λ d. d.fault
         ≡ first_refusal name_order (read_refusals D.table (view_module source.now))) }
 {
-    let pass = pass_over::<D>(alloc, source, !wait)?;
+    let pass = pass_over::<D>(alloc, device, source, !wait)?;
     if !pass.lost {
         return Ok(pass.table);
     }
 
     // Places of a source grow, so that nothing is lost. In a tree with other places nothing is left out.
-    let pass = pass_over::<D>(alloc, source, false)?;
+    let pass = pass_over::<D>(alloc, device, source, false)?;
     Ok(pass.table)
 }

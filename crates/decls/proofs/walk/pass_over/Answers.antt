@@ -8,4 +8,4 @@ pub returns : goal.returns
 returns g c =
     let t = g.D.Device.table in
     c.in_ok-read_module.ensures (way t c.args.skips)
-    (starts t c.args.skips _ (c.empty_table.ensures t (c.PINS.ensures ∙ g.met.D.Device.pins_is) (c.GROUND.ensures ∙ g.met.D.Device.ground_is)))
+    (starts t c.args.skips _ (c.empty_table.ensures t (c.pins.ensures) (c.ground.ensures)))
