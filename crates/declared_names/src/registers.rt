@@ -10,7 +10,7 @@ use crate::kinds::is_signal;
 use abel_tree::{Attributes, Declared};
 use bitflags::Flags;
 use decls::{Buffered, NameFault, always_inverts, first_of};
-use pld_device::Device;
+use pld_device::{Device, Loaded};
 
 /// Whether the name of a number is a register.
 fn is_register(list: &[Declared], number: usize) -> bool
@@ -26,13 +26,14 @@ fn is_register(list: &[Declared], number: usize) -> bool
 
 /// The first refusal, counting the registers among these names that the device can't buffer.
 pub(crate) fn first_refused<D: Device>(
+    device: &Loaded<D>,
     fault: Option<NameFault>,
     list: &[Declared],
     names: &[Buffered],
 ) -> Option<NameFault>
     ensures { (fs : List NameFault) → fault ≡ first_refusal name_order fs → result ≡ first_refusal name_order (fs ++ refused_for D.table (map view_declared list.now) names.now) }
 {
-    if always_inverts::<D>() {
+    if always_inverts::<D>(device) {
         let mut first = fault;
         for name in names {
             if is_register(list, name.number) {

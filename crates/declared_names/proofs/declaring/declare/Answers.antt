@@ -16,19 +16,19 @@ returns g c =
     ] in
     let read = map view_declared c.in_ok-list.field-0.list.items in
     let settled = map view_declared c.in_ok-list-2.list.items in
-    let flip = c.FLIP.ensures ∙ g.met.D.Device.flip_is in
-    let kinds : settled ≡ with_assigned c.FLIP.result m.sections read = c.in_ok-list-2.ensures in
-    let first : c.first_refused-refused.result ≡ first_name_refusal t m = first_same t m c.FLIP.result read settled c.as_slice-2.result.now c.in_ok-list.field-0.fault c.first_refused-refused.result flip (c.in_ok-list.ensures.list wanted) kinds (c.as_slice-2.ensures.value ∙ c.in_ok-list.ensures.buffered wanted) c.in_ok-list.ensures.fault
+    let flip = c.flip.ensures in
+    let kinds : settled ≡ with_assigned c.flip.result m.sections read = c.in_ok-list-2.ensures in
+    let first : c.first_refused-refused.result ≡ first_name_refusal t m = first_same t m c.flip.result read settled c.as_slice-2.result.now c.in_ok-list.field-0.fault c.first_refused-refused.result flip (c.in_ok-list.ensures.list wanted) kinds (c.as_slice-2.ensures.value ∙ c.in_ok-list.ensures.buffered wanted) c.in_ok-list.ensures.fault
     (λ fs e. c.first_refused-refused.ensures fs e ∙ ap (λ ds. first_refusal name_order (fs ++ refused_for t (map view_declared ds) c.as_slice-2.result.now)) c.as_slice.ensures.value) in
     let none = none_refused name_order (name_refusals t m) (sym c.in-None.is ∙ first) in
-    let names = ap (map view_declared) c.from_vec.ensures ∙ settled_same t m none c.FLIP.result read settled flip (c.in_ok-list.ensures.list wanted) kinds in
+    let names = ap (map view_declared) c.from_vec.ensures ∙ settled_same t m none c.flip.result read settled flip (c.in_ok-list.ensures.list wanted) kinds in
     record {
       names = names;
       accepted = none;
-      sound = names_sound t m none (record { list = c.from_vec.result; device = c.NAME.result }) names (c.NAME.ensures ∙ g.met.D.Device.name_is);
-      apart = names_apart t m none (record { list = c.from_vec.result; device = c.NAME.result }) names;
-      buffers = names_allowed t m none (record { list = c.from_vec.result; device = c.NAME.result }) names;
-      named = names_known t m none (record { list = c.from_vec.result; device = c.NAME.result }) names;
+      sound = names_sound t m none (record { list = c.from_vec.result; device = c.name.result }) names (c.name.ensures);
+      apart = names_apart t m none (record { list = c.from_vec.result; device = c.name.result }) names;
+      buffers = names_allowed t m none (record { list = c.from_vec.result; device = c.name.result }) names;
+      named = names_known t m none (record { list = c.from_vec.result; device = c.name.result }) names;
       refused = tt;
     }
 
@@ -40,7 +40,7 @@ returns-in-Some-refused-clause-refused g c =
       | then-not-registers_wait+in_default w ↦ ap (wants_names (registers_wait t m)) w.in_default.is
       | else-not-registers_wait w ↦ ap (λ b. wants_names b c.in_ok-list.field-0.fault) (sym c.in_ok-list.ensures.wait ∙ w.if-not-registers_wait.false) ∙ or-true (not (is_some c.in_ok-list.field-0.fault))
     ] in
-    let first : c.first_refused-refused.result ≡ first_name_refusal t m = first_same t m c.FLIP.result _ (map view_declared c.in_ok-list-2.list.items) c.as_slice-2.result.now c.in_ok-list.field-0.fault c.first_refused-refused.result (c.FLIP.ensures ∙ g.met.D.Device.flip_is) (c.in_ok-list.ensures.list wanted) c.in_ok-list-2.ensures (c.as_slice-2.ensures.value ∙ c.in_ok-list.ensures.buffered wanted) c.in_ok-list.ensures.fault
+    let first : c.first_refused-refused.result ≡ first_name_refusal t m = first_same t m c.flip.result _ (map view_declared c.in_ok-list-2.list.items) c.as_slice-2.result.now c.in_ok-list.field-0.fault c.first_refused-refused.result (c.flip.ensures) (c.in_ok-list.ensures.list wanted) c.in_ok-list-2.ensures (c.as_slice-2.ensures.value ∙ c.in_ok-list.ensures.buffered wanted) c.in_ok-list.ensures.fault
     (λ fs e. c.first_refused-refused.ensures fs e ∙ ap (λ ds. first_refusal name_order (fs ++ refused_for t (map view_declared ds) c.as_slice-2.result.now)) c.as_slice.ensures.value) in
     inr (sym first ∙ c.in-Some-refused.is)
 
