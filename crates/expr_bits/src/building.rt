@@ -6,6 +6,7 @@ ghost use Rattle.expr_bits.specs.{Makes, Part, IsPart, AreStacked, Standing, top
 ghost use Rattle.expr_bits.specs.declared.forms.Form.TheVariants as form;
 
 use crate::forms::{Bits, Form, number_bits, one_bit};
+use crate::on_device::OnDevice;
 use crate::reading::read;
 use crate::sets::{empty_set, with_member};
 use crate::value_operators::{both, under};
@@ -13,7 +14,6 @@ use crate::work::Step;
 use bit_expr::{ExprFault, ExprId, Exprs};
 use pld_base::{ListOf, OutOfMemory};
 use pld_device::Device;
-use set_expr::Scope;
 use std::alloc::Global;
 
 /// Takes the value on top; the number 0 if there isn't one.
@@ -56,20 +56,20 @@ fn taken_set(alloc: Global, values: &mut Vec<Bits>) -> Bits
 /// What a step makes of the values on top, which it takes.
 pub(crate) fn build<D: Device>(
     alloc: Global,
-    scope: &Scope<'_>,
+    on: &OnDevice<'_, D>,
     exprs: &mut Exprs,
     step: Step,
     values: &mut Vec<Bits>,
 ) -> Result<Bits, ExprFault>
     requires values { Standing (arena exprs.old) values.old.items }
     ensures made { (ps : List Part) → AreStacked (arena exprs.old) values.old.items ps
-        → Makes IsPart exprs.old exprs.new result (made_by (context_for D.table scope.now) step ps) }
+        → Makes IsPart exprs.old exprs.new result (made_by (context_for D.table on.now.scope.now) step ps) }
     ensures left { OnOk result ((ns : List ANode) (ps : List Part) → AreStacked (arena ns) values.old.items ps → AreStacked (arena ns) values.new.items (left_by step ps)) }
 {
     match step {
         Step::Number(number) => Ok(number_bits(alloc, number)),
         Step::Unknown => Ok(one_bit(alloc, ExprId(0), true)?),
-        Step::Read(signal, extension) => read::<D>(alloc, scope, exprs, signal, extension),
+        Step::Read(signal, extension) => read::<D>(alloc, on, exprs, signal, extension),
         Step::Under(sign) => {
             let inner = taken(alloc, values);
             under(alloc, exprs, sign, inner)

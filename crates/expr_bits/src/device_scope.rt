@@ -6,6 +6,7 @@ ghost use Rattle.expr_bits.specs.{MakesBits, reads_signal, AreRows};
 
 use crate::forms::Bits;
 use crate::keeping::rows_of;
+use crate::on_device::OnDevice;
 use crate::rows::{Row, expr_reads};
 use crate::shaping::shaped;
 use crate::walking::walk;
@@ -13,10 +14,10 @@ use crate::work::{Outer, Work};
 use abel_tree::Expr;
 use bit_expr::{ExprFault, Exprs};
 use pld_base::{ListOf, OutOfMemory};
-use pld_device::Device;
+use pld_device::{Device, Loaded};
 use set_expr::{Scope, Shaped};
 use std::alloc::Global;
-use std::marker::{Model, PhantomData};
+use std::marker::Model;
 
 /// The names of a source on a device, with what each of them reads there and the bits of constants that make no node,
 /// learnt once for all its expressions. A contract sees the names.
@@ -24,7 +25,7 @@ use std::marker::{Model, PhantomData};
 pub struct DeviceScope<'a, D: Device> {
     scope: Scope<'a>,
     rows: ListOf<Row>,
-    device: PhantomData<D>,
+    device: &'a Loaded<D>,
 }
 
 impl<'a, D: Device> Model for DeviceScope<'a, D> {
@@ -47,14 +48,18 @@ impl<'a, D: Device> Model for DeviceScope<'a, D> {
 
 impl<'a, D: Device> DeviceScope<'a, D> {
     /// The names of a scope on the device.
-    pub fn new(alloc: Global, scope: Scope<'a>) -> Result<DeviceScope<'a, D>, OutOfMemory>
+    pub fn new(
+        alloc: Global,
+        device: &'a Loaded<D>,
+        scope: Scope<'a>,
+    ) -> Result<DeviceScope<'a, D>, OutOfMemory>
         ensures { IfOk result (λ s. s ≡ scope.entry) }
     {
-        let rows = rows_of::<D>(alloc, &scope)?;
+        let rows = rows_of::<D>(alloc, device, &scope)?;
         Ok(DeviceScope {
             scope,
             rows: ListOf::from_vec(rows),
-            device: PhantomData,
+            device,
         })
     }
 
@@ -63,6 +68,11 @@ impl<'a, D: Device> DeviceScope<'a, D> {
         ensures { result.now ≡ self.now }
     {
         &self.scope
+    }
+
+    /// The device.
+    pub fn device(&self) -> &'a Loaded<D> {
+        self.device
     }
 
     /// What is kept of the names.
@@ -92,7 +102,11 @@ impl<'a, D: Device> DeviceScope<'a, D> {
             extension: None,
             count: rows.len(),
         };
-        let bits = walk::<D>(alloc, &self.scope, rows, Work::Whole(expr, outer), exprs)?;
+        let on = OnDevice {
+            device: self.device,
+            scope: &self.scope,
+        };
+        let bits = walk::<D>(alloc, &on, rows, Work::Whole(expr, outer), exprs)?;
         let shaped = shaped(alloc, &bits)?;
         Ok(shaped)
     }

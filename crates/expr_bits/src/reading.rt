@@ -6,10 +6,11 @@ ghost use Rattle.abel_meaning.specs.Terms as term;
 ghost use Rattle.expr_bits.specs.{Makes, ShowsOne, IsPart, HasLeaf, view_reading, term_part};
 
 use crate::forms::{Bits, one_bit};
+use crate::on_device::OnDevice;
 use crate::sources::{Reading, source_of};
 use abel_tree::Extension;
 use bit_expr::{ExprFault, ExprId, Exprs, Node};
-use pld_device::Device;
+use pld_device::{Device, Loaded};
 use set_expr::Scope;
 use std::alloc::Global;
 
@@ -33,6 +34,7 @@ fn source_bit(exprs: &mut Exprs, reading: Option<Reading>) -> Result<ExprId, Exp
 
 /// What the name of a number reads; 0 if there is no such name.
 pub(crate) fn signal_source<D: Device>(
+    device: &Loaded<D>,
     scope: &Scope<'_>,
     signal: u32,
     extension: Option<Extension>,
@@ -42,7 +44,7 @@ pub(crate) fn signal_source<D: Device>(
 {
     scope.are_placed();
     match scope.list().get(signal as usize) {
-        Some(declared) => source_of::<D>(declared, extension),
+        Some(declared) => source_of::<D>(device, declared, extension),
         None => None,
     }
 }
@@ -50,6 +52,7 @@ pub(crate) fn signal_source<D: Device>(
 /// The bit that a signal of this number reads under its extension: the source's leaf, with a Not if it reads the complement.
 /// A number that no name has reads 0, and so does a signal without a source.
 pub fn read_signal<D: Device>(
+    device: &Loaded<D>,
     scope: &Scope<'_>,
     exprs: &mut Exprs,
     signal: u32,
@@ -57,21 +60,21 @@ pub fn read_signal<D: Device>(
 ) -> Result<ExprId, ExprFault>
     ensures { (d : Context) → IsContextOf D.table scope.now d → Makes ShowsOne exprs.old exprs.new result (make_source (source_of d signal extension)) }
 {
-    let reading = signal_source::<D>(scope, signal, extension);
+    let reading = signal_source::<D>(device, scope, signal, extension);
     source_bit(exprs, reading)
 }
 
 /// The bits of what a signal reads.
 pub(crate) fn read<D: Device>(
     alloc: Global,
-    scope: &Scope<'_>,
+    on: &OnDevice<'_, D>,
     exprs: &mut Exprs,
     signal: u32,
     extension: Option<Extension>,
 ) -> Result<Bits, ExprFault>
-    ensures { (d : Context) → IsContextOf D.table scope.now d → Makes IsPart exprs.old exprs.new result (term_part d (term.Read signal extension)) }
+    ensures { (d : Context) → IsContextOf D.table on.now.scope.now d → Makes IsPart exprs.old exprs.new result (term_part d (term.Read signal extension)) }
 {
-    let bit = read_signal::<D>(scope, exprs, signal, extension)?;
+    let bit = read_signal::<D>(on.device, on.scope, exprs, signal, extension)?;
     let bits = one_bit(alloc, bit, false)?;
     Ok(bits)
 }

@@ -7,7 +7,7 @@ ghost use Rattle.set_expr.specs.Scopes.{IsPlacedKind};
 
 use abel_tree::{Declared, Extension, Meaning};
 use bit_expr::Leaf;
-use pld_device::{Device, cell_on};
+use pld_device::{Device, Loaded, cell_on};
 
 /// A leaf, or the complement of what it carries.
 #[derive(Clone, Copy, PartialEq, Eq)]
@@ -68,6 +68,7 @@ fn node_source(node: u8, extension: Option<Extension>) -> Option<Reading>
 
 /// A signal on a pin.
 fn on_pin<D: Device>(
+    device: &Loaded<D>,
     declared: &Declared,
     pin: u8,
     negated: bool,
@@ -79,7 +80,7 @@ fn on_pin<D: Device>(
     if !declared.is_stored() {
         return pin_source(pin, negated, extension);
     }
-    match cell_on::<D>(pin) {
+    match cell_on::<D>(device, pin) {
         Some(cell) => cell_source(negated, declared.follows_q(), cell, extension),
         None => None,
     }
@@ -87,6 +88,7 @@ fn on_pin<D: Device>(
 
 /// What a declared name reads, bare or with an extension; nothing if it is 0. Takes no memory.
 pub(crate) fn source_of<D: Device>(
+    device: &Loaded<D>,
     declared: &Declared,
     extension: Option<Extension>,
 ) -> Option<Reading>
@@ -94,7 +96,7 @@ pub(crate) fn source_of<D: Device>(
     ensures leaf { IsPlacedKind (view_declared declared.now).kind → HasLeaf result }
 {
     match &declared.meaning {
-        Meaning::Pin { pin, negated } => on_pin::<D>(declared, *pin, *negated, extension),
+        Meaning::Pin { pin, negated } => on_pin::<D>(device, declared, *pin, *negated, extension),
         Meaning::Node(number) => node_source(*number, extension),
         Meaning::Constant(_) => None,
         Meaning::DeviceName => None,

@@ -14,7 +14,7 @@ returns-in-Number-clause-made g c ps a =
 
 pub returns-in_ok-one_bit-in-Unknown-clause-made : goal.returns-in_ok-one_bit-in-Unknown-clause-made
 returns-in_ok-one_bit-in-Unknown-clause-made g c ps a =
-    let d = context_for g.D.Device.table c.args.scope.now in
+    let d = context_for g.D.Device.table c.args.on.now.scope.now in
     let old = c.args.exprs.now in
     rw c.in-Unknown.is
     (nothing_made IsPart old c.in_ok-one_bit-in-Unknown.field-0 (term_part d term.X).what
@@ -23,7 +23,7 @@ returns-in_ok-one_bit-in-Unknown-clause-made g c ps a =
 pub returns-in-Read-clause-made : goal.returns-in-Read-clause-made
 returns-in-Read-clause-made g c ps a =
     let t = g.D.Device.table in
-    let n = c.args.scope.now in
+    let n = c.args.on.now.scope.now in
     rw c.in-Read.is (c.read.ensures (context_for t n) (is_context t n))
 
 pub returns-in-Empty-clause-made : goal.returns-in-Empty-clause-made

@@ -10,8 +10,8 @@ use Rattle.expr_bits.proofs.walking.walk.Goals as goal
 
 pub turns-init : goal.turns-init
 turns-init g c =
-    let x = task_of (entries_of c.args.scope.now) c.args.whole in
-    rw (c.in_ok-push.ensures.items, c.new-work.ensures.items) (walking_start (context_for g.D.Device.table c.args.scope.now) c.args.exprs.now c.new-values.result x c.new-values.ensures.items)
+    let x = task_of (entries_of c.args.on.now.scope.now) c.args.whole in
+    rw (c.in_ok-push.ensures.items, c.new-work.ensures.items) (walking_start (context_for g.D.Device.table c.args.on.now.scope.now) c.args.exprs.now c.new-values.result x c.new-values.ensures.items)
 
 pub build-requires : goal.build-requires
 build-requires g c = record { values = record { parts = c.turns.invariant.part.what; are = c.turns.invariant.is.shows } }
@@ -23,8 +23,8 @@ taken_first d es {old} {now} {vs} {ws} left {w} v x e f g =
 
 pub returns-in_err-bits-in-Do : goal.returns-in_err-bits-in-Do
 returns-in_err-bits-in-Do g c t h =
-    let es = entries_of c.args.scope.now in
-    let d = context_for g.D.Device.table c.args.scope.now in
+    let es = entries_of c.args.on.now.scope.now in
+    let d = context_for g.D.Device.table c.args.on.now.scope.now in
     let old = c.args.exprs.now in
     let now = c.turns.exprs in
     let left = c.pop.new.self.items in
@@ -38,7 +38,7 @@ returns-in_err-bits-in-Do g c t h =
 
 pub returns-in_err-push-in-Do : goal.returns-in_err-push-in-Do
 returns-in_err-push-in-Do g c t h =
-    let d = context_for g.D.Device.table c.args.scope.now in
+    let d = context_for g.D.Device.table c.args.on.now.scope.now in
     let made = c.in_ok-bits-in-Do.ensures.made c.turns.invariant.part.what c.turns.invariant.is.shows in
     let p = err_from_is_err_and c.from_residual-in_err-push-in-Do.result c.from_residual-in_err-push-in-Do.ensures.1 in
     let e : c.from_residual-in_err-push-in-Do.result ≡ Err fault.OutOfMemory = p.1 ∙ ap Err p.2 in
@@ -47,8 +47,8 @@ returns-in_err-push-in-Do g c t h =
 
 pub returns : goal.returns
 returns g c t h =
-    let es = entries_of c.args.scope.now in
-    let d = context_for g.D.Device.table c.args.scope.now in
+    let es = entries_of c.args.on.now.scope.now in
+    let d = context_for g.D.Device.table c.args.on.now.scope.now in
     let old = c.args.exprs.now in
     let tasks = tasks_of es c.turns.work.items in
     let here : Walking d old c.turns.exprs c.turns.values tasks (Push t) = subst (λ x. Walking d old c.turns.exprs c.turns.values tasks x) h c.turns.invariant in
@@ -60,8 +60,8 @@ returns g c t h =
 
 pub turns-preserved-in-Whole : goal.turns-preserved-in-Whole
 turns-preserved-in-Whole g c =
-    let es = entries_of c.args.scope.now in
-    let d = context_for g.D.Device.table c.args.scope.now in
+    let es = entries_of c.args.on.now.scope.now in
+    let d = context_for g.D.Device.table c.args.on.now.scope.now in
     let left = c.pop.new.self.items in
     let next = work.Whole c.in-Whole.expr c.in-Whole.outer in
     walking_as d _ _ _ (task_of es next ∷ tasks_of es left) (tasks_of es c.in_ok-work-in-Whole.work.items) _
@@ -69,13 +69,13 @@ turns-preserved-in-Whole g c =
 
 pub turns-smaller-in-Whole : goal.turns-smaller-in-Whole
 turns-smaller-in-Whole g c =
-    let es = entries_of c.args.scope.now in
+    let es = entries_of c.args.on.now.scope.now in
     omega (arith, weight_taken es c.pop.new.self.items (work.Whole c.in-Whole.expr c.in-Whole.outer) c.in-Some.ensures.items c.in-Whole.is, c.in_ok-work-in-Whole.ensures.weight)
 
 pub turns-preserved-in-Members : goal.turns-preserved-in-Members
 turns-preserved-in-Members g c =
-    let es = entries_of c.args.scope.now in
-    let d = context_for g.D.Device.table c.args.scope.now in
+    let es = entries_of c.args.on.now.scope.now in
+    let d = context_for g.D.Device.table c.args.on.now.scope.now in
     let left = c.pop.new.self.items in
     let next = work.Members c.in-Members.members c.in-Members.outer in
     walking_as d _ _ _ (task_of es next ∷ tasks_of es left) (tasks_of es c.in_ok-work-in-Members.work.items) _
@@ -83,13 +83,13 @@ turns-preserved-in-Members g c =
 
 pub turns-smaller-in-Members : goal.turns-smaller-in-Members
 turns-smaller-in-Members g c =
-    let es = entries_of c.args.scope.now in
+    let es = entries_of c.args.on.now.scope.now in
     omega (arith, weight_taken es c.pop.new.self.items (work.Members c.in-Members.members c.in-Members.outer) c.in-Some.ensures.items c.in-Members.is, c.in_ok-work-in-Members.ensures.weight)
 
 pub turns-preserved-in_ok-push-in-Some-bits_at : goal.turns-preserved-in_ok-push-in-Some-bits_at
 turns-preserved-in_ok-push-in-Some-bits_at g c =
-    let es = entries_of c.args.scope.now in
-    let d = context_for g.D.Device.table c.args.scope.now in
+    let es = entries_of c.args.on.now.scope.now in
+    let d = context_for g.D.Device.table c.args.on.now.scope.now in
     let left = c.pop.new.self.items in
     let t = named_term es c.in-Named.number c.in-Named.extension in
     let here : Walking d c.args.exprs.now c.turns.exprs c.turns.values (Push t ∷ tasks_of es left) (task_of es c.args.whole) =
@@ -100,13 +100,13 @@ turns-preserved-in_ok-push-in-Some-bits_at g c =
 
 pub turns-smaller-in_ok-push-in-Some-bits_at : goal.turns-smaller-in_ok-push-in-Some-bits_at
 turns-smaller-in_ok-push-in-Some-bits_at g c =
-    let es = entries_of c.args.scope.now in
+    let es = entries_of c.args.on.now.scope.now in
     omega (arith, weight_taken es c.pop.new.self.items (work.Named c.in-Named.number c.in-Named.extension) c.in-Some.ensures.items c.in-Named.is)
 
 pub turns-preserved-in_ok-push-in-None : goal.turns-preserved-in_ok-push-in-None
 turns-preserved-in_ok-push-in-None g c =
-    let es = entries_of c.args.scope.now in
-    let d = context_for g.D.Device.table c.args.scope.now in
+    let es = entries_of c.args.on.now.scope.now in
+    let d = context_for g.D.Device.table c.args.on.now.scope.now in
     let left = c.pop.new.self.items in
     let t = named_term es c.in-Named.number c.in-Named.extension in
     walking_as d _ _ _ (Push t ∷ tasks_of es left) (tasks_of es c.push-in-None.new.self.items) _
@@ -115,7 +115,7 @@ turns-preserved-in_ok-push-in-None g c =
 
 pub turns-smaller-in_ok-push-in-None : goal.turns-smaller-in_ok-push-in-None
 turns-smaller-in_ok-push-in-None g c =
-    let es = entries_of c.args.scope.now in
+    let es = entries_of c.args.on.now.scope.now in
     omega (
       arith,
       weight_taken es c.pop.new.self.items (work.Named c.in-Named.number c.in-Named.extension) c.in-Some.ensures.items c.in-Named.is,
@@ -125,8 +125,8 @@ turns-smaller-in_ok-push-in-None g c =
 
 pub turns-preserved : goal.turns-preserved
 turns-preserved g c =
-    let es = entries_of c.args.scope.now in
-    let d = context_for g.D.Device.table c.args.scope.now in
+    let es = entries_of c.args.on.now.scope.now in
+    let d = context_for g.D.Device.table c.args.on.now.scope.now in
     let left = c.pop.new.self.items in
     let step = c.in-Do.step in
     let here : Walking d c.args.exprs.now c.turns.exprs c.turns.values (Do step ∷ tasks_of es left) (task_of es c.args.whole) =
@@ -137,5 +137,5 @@ turns-preserved g c =
 
 pub turns-smaller : goal.turns-smaller
 turns-smaller g c =
-    let es = entries_of c.args.scope.now in
+    let es = entries_of c.args.on.now.scope.now in
     omega (arith, weight_taken es c.pop.new.self.items (work.Do c.in-Do.step) c.in-Some.ensures.items c.in-Do.is)
