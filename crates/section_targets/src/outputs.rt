@@ -10,15 +10,15 @@ use crate::assigned::Assigned;
 use crate::manner::{Manner, Way};
 use abel_tree::{Declared, Extension, Meaning, earlier};
 use pld_base::{OutOfMemory, Place};
-use pld_device::{Device, cell_on};
+use pld_device::{Device, Loaded, cell_on};
 use set_expr::{Scope, SectionFault};
 
 /// A node, or the pin of a cell.
-fn is_assignable<D: Device>(meaning: &Meaning) -> bool
+fn is_assignable<D: Device>(device: &Loaded<D>, meaning: &Meaning) -> bool
     ensures { result ≡ is_output_kind D.table (view_meaning meaning.now) }
 {
     match meaning {
-        Meaning::Pin { pin, negated: _ } => cell_on::<D>(*pin).is_some(),
+        Meaning::Pin { pin, negated: _ } => cell_on::<D>(device, *pin).is_some(),
         Meaning::Node(_) => true,
         Meaning::Constant(_) => false,
         Meaning::DeviceName => false,
@@ -26,10 +26,14 @@ fn is_assignable<D: Device>(meaning: &Meaning) -> bool
 }
 
 /// Whether the signal, or what the extension names of it, is an output; `.Q`, `.FB` and `.PIN` are no targets.
-fn may_take<D: Device>(declared: &Declared, extension: Option<Extension>) -> bool
+fn may_take<D: Device>(
+    device: &Loaded<D>,
+    declared: &Declared,
+    extension: Option<Extension>,
+) -> bool
     ensures { result ≡ is_output D.table (view_declared declared.now) extension }
 {
-    is_assignable::<D>(&declared.meaning)
+    is_assignable::<D>(device, &declared.meaning)
         && !matches!(
             extension,
             Some(Extension::Q | Extension::Fb | Extension::Pin)
@@ -50,6 +54,7 @@ fn opposes_kind(declared: &Declared, manner: Manner) -> bool
 
 /// What is refused of one signal of a target: as no output, which is first at its place, or as assigned in two ways.
 fn refuse_aim<D: Device>(
+    device: &Loaded<D>,
     before: &Assigned,
     declared: &Declared,
     place: Place,
@@ -57,7 +62,7 @@ fn refuse_aim<D: Device>(
 ) -> Option<SectionFault>
     ensures { result ≡ first_refusal section_order (no_output D.table (view_declared declared.now) place manner ++ mixed before.now (view_declared declared.now) place manner) }
 {
-    if !may_take::<D>(declared, manner.extension) {
+    if !may_take::<D>(device, declared, manner.extension) {
         return Some(SectionFault::NotAnOutput(place, Some(manner.signal)));
     }
     if manner.differs_from(before.first(manner)) || opposes_kind(declared, manner) {
@@ -69,6 +74,7 @@ fn refuse_aim<D: Device>(
 /// Checks the signals of a target that are assigned in this way against what was assigned before, and notes how they
 /// are assigned. The first refusal by place occurs.
 pub fn check_aims<D: Device>(
+    device: &Loaded<D>,
     scope: &Scope<'_>,
     way: Way,
     aims: &[Aim],
@@ -92,7 +98,10 @@ pub fn check_aims<D: Device>(
             clocked: way.clocked,
         };
         let declared = &scope.list()[aim.signal as usize];
-        fault = earlier(fault, refuse_aim::<D>(before, declared, aim.place, manner));
+        fault = earlier(
+            fault,
+            refuse_aim::<D>(device, before, declared, aim.place, manner),
+        );
         before.note(manner)?;
     }
     Ok(fault)

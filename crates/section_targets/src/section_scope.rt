@@ -15,7 +15,7 @@ use abel_tree::Expr;
 use bit_expr::{ExprFault, Exprs};
 use expr_bits::DeviceScope;
 use pld_base::{ListOf, OutOfMemory, Place};
-use pld_device::Device;
+use pld_device::{Device, Loaded};
 use set_expr::{Scope, Shaped};
 use std::alloc::Global;
 use std::marker::Model;
@@ -45,11 +45,15 @@ impl<'a, D: Device> Model for SectionScope<'a, D> {
 
 impl<'a, D: Device> SectionScope<'a, D> {
     /// The names of a scope on the device, each with its signals.
-    pub fn new(alloc: Global, scope: Scope<'a>) -> Result<SectionScope<'a, D>, OutOfMemory>
+    pub fn new(
+        alloc: Global,
+        device: &'a Loaded<D>,
+        scope: Scope<'a>,
+    ) -> Result<SectionScope<'a, D>, OutOfMemory>
         ensures { IfOk result (λ s. s ≡ scope.entry) }
     {
         let named = target_names(alloc, &scope)?;
-        let names = DeviceScope::new(alloc, scope)?;
+        let names = DeviceScope::new(alloc, device, scope)?;
         Ok(SectionScope { names, named })
     }
 
@@ -58,6 +62,11 @@ impl<'a, D: Device> SectionScope<'a, D> {
         ensures { result.now ≡ self.now }
     {
         self.names.scope()
+    }
+
+    /// The device.
+    pub fn device(&self) -> &'a Loaded<D> {
+        self.names.device()
     }
 
     /// The names with the signals that each represents.
