@@ -37,7 +37,7 @@ pub(crate) fn check_assign<D: Device>(
                 complement: assign.complement,
                 clocked: is_clocked(assign.sign),
             };
-            let mixed = check_aims::<D>(names, way, aims, before)?;
+            let mixed = check_aims::<D>(scope.device(), names, way, aims, before)?;
             Ok(earlier(refused, mixed))
         }
     }
