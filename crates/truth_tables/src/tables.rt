@@ -9,7 +9,7 @@ use crate::headings::push_outputs;
 use crate::rows::{Headed, walk_row};
 use abel_tree::{Table, earlier};
 use pld_base::{ListOf, OutOfMemory};
-use pld_device::Device;
+use pld_device::{Device, Loaded};
 use section_targets::{Aim, Assigned, SectionScope, Walked, Way, check_aims};
 use set_expr::{Guard, Scope, SectionFault};
 use std::alloc::{AllocError, Global};
@@ -46,6 +46,7 @@ fn assigned_aims(
 /// the outputs. How they are assigned is noted. Calls go as deep as the nestings of sets and parentheses.
 pub(crate) fn read_header<D: Device>(
     alloc: Global,
+    device: &Loaded<D>,
     scope: &Scope<'_>,
     table: &Table,
     before: &mut Assigned,
@@ -62,7 +63,7 @@ pub(crate) fn read_header<D: Device>(
         complement: false,
         clocked: table.clocked,
     };
-    let mixed = check_aims::<D>(scope, way, aims.as_slice(), before)?;
+    let mixed = check_aims::<D>(device, scope, way, aims.as_slice(), before)?;
     let fault = earlier(refused, mixed);
     Ok(Header {
         outputs: ListOf::from_vec(outputs),
@@ -118,7 +119,7 @@ pub fn walk_table<D: Device>(
     ensures stands { StandsTable D.table scope.now guard table.now out.old out.new }
 {
     let names = scope.scope();
-    let header = read_header::<D>(alloc, names, table, &mut out.before)?;
+    let header = read_header::<D>(alloc, scope.device(), names, table, &mut out.before)?;
     match header.fault {
         Some(fault) => {
             out.refuse(Some(fault));
