@@ -19,7 +19,7 @@ fn bare_bit<D: Device>(
 ) -> Result<ExprId, SectionFault>
     ensures { MakesBit unit (bare_read (context_for D.table scope.now) signal) exprs.old exprs.new result }
 {
-    match read_signal::<D>(scope.scope(), exprs, signal, None) {
+    match read_signal::<D>(scope.device(), scope.scope(), exprs, signal, None) {
         Ok(id) => Ok(id),
         Err(ExprFault::NodeLimit) => Err(SectionFault::NodeLimit(unit)),
         Err(ExprFault::OutOfMemory) => Err(SectionFault::OutOfMemory),

@@ -29,7 +29,13 @@ pub(crate) fn check_registers<D: Device>(
                 complement: false,
                 clocked: true,
             };
-            let mixed = check_aims::<D>(scope.scope(), way, side.aims.as_slice(), before)?;
+            let mixed = check_aims::<D>(
+                scope.device(),
+                scope.scope(),
+                way,
+                side.aims.as_slice(),
+                before,
+            )?;
             Ok(Side {
                 aims: side.aims,
                 fault: mixed,
