@@ -50,7 +50,7 @@ pub fn all_sections<D: Device>(
     ensures chars { IfOk result (λ found. All (IsTestVector D.table) found.vectors.items) }
 {
     let given = contributions::<D>(alloc, scope, source);
-    let tested = all_vectors::<D>(alloc, scope.scope(), source);
+    let tested = all_vectors::<D>(alloc, scope.device(), scope.scope(), source);
     match given {
         Ok(contributions) => Ok(SourceSections {
             contributions,

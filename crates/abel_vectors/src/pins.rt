@@ -9,7 +9,7 @@ ghost use Rattle.abel_vectors.specs.VectorRefusals as refused;
 use crate::given::first_at;
 use abel_tree::Meaning;
 use pld_base::Vector;
-use pld_device::Device;
+use pld_device::{Device, Loaded};
 use set_expr::Scope;
 
 /// The pin of a name that means this, and whether the name is its complement; None if it is no pin's.
@@ -36,23 +36,23 @@ pub(crate) fn pin_at(scope: &Scope<'_>, signal: Option<u32>) -> Option<(u8, bool
 }
 
 /// The character of a pin: the first that is given to it, else its plain one.
-fn pin_char<D: Device>(list: &[(u8, u8)], pin: u8) -> u8
+fn pin_char<D: Device>(device: &Loaded<D>, list: &[(u8, u8)], pin: u8) -> u8
     ensures { result ≡ meant.char_or_plain D.table pin (found_at list.now pin) }
 {
     match first_at(list, pin) {
         Some(char) => char,
-        None if pin == D::GROUND || pin == D::PINS => b'N',
+        None if pin == device.ground() || pin == device.pins() => b'N',
         None => b'X',
     }
 }
 
 /// The vector in which these characters are given; past the device's last pin it has N.
-pub(crate) fn vector_of<D: Device>(list: &[(u8, u8)]) -> Vector
+pub(crate) fn vector_of<D: Device>(device: &Loaded<D>, list: &[(u8, u8)]) -> Vector
     ensures { chars_of D.table result ≡ map (λ (pin : ℕ). meant.char_or_plain D.table pin (found_at list.now pin)) (range_with_len 1 D.table.pins) }
 {
     let mut chars = [b'N'; 24];
-    for index in 0..D::PINS {
-        chars[usize::from(index)] = pin_char::<D>(list, index + 1);
+    for index in 0..device.pins() {
+        chars[usize::from(index)] = pin_char::<D>(device, list, index + 1);
     }
     Vector { chars }
 }

@@ -9,9 +9,10 @@ use crate::finding::{Found, both};
 use crate::given::{disagree, side_chars, tests_pulse};
 use crate::pins::vector_of;
 use abel_tree::{VectorRow, Vectors, earlier};
+use expr_bits::OnDevice;
 use pld_base::{OutOfMemory, Place, Vector};
 use pld_device::Device;
-use set_expr::{Scope, SectionFault};
+use set_expr::SectionFault;
 use std::alloc::Global;
 use truth_tables::{Entry, Mark, read_entry};
 
@@ -26,20 +27,20 @@ pub(crate) struct Header<'a> {
 /// The vector of a row whose entries meet the header; None if their marks are no vector's.
 fn row_vector<D: Device>(
     alloc: Global,
-    scope: &Scope<'_>,
+    on: &OnDevice<'_, D>,
     header: &Header<'_>,
     driven: &[Mark],
     tested: &[Mark],
 ) -> Result<Option<Vector>, OutOfMemory>
-    ensures { IfOk result (λ vector. IsRowVector (context_for D.table scope.now) header.now.driven.now driven.now header.now.tested.now tested.now vector) }
+    ensures { IfOk result (λ vector. IsRowVector (context_for D.table on.now.scope.now) header.now.driven.now driven.now header.now.tested.now tested.now vector) }
 {
-    let mut list = side_chars(alloc, scope, Role::Driven, header.driven, driven)?;
-    let mut behind = side_chars(alloc, scope, Role::Tested, header.tested, tested)?;
+    let mut list = side_chars(alloc, on.scope, Role::Driven, header.driven, driven)?;
+    let mut behind = side_chars(alloc, on.scope, Role::Tested, header.tested, tested)?;
     list.append(&mut behind)?;
     if tests_pulse(header.tested, tested) || disagree(list.as_slice()) {
         Ok(None)
     } else {
-        Ok(Some(vector_of::<D>(list.as_slice())))
+        Ok(Some(vector_of::<D>(on.device, list.as_slice())))
     }
 }
 
@@ -57,25 +58,19 @@ fn marks_in(entry: Entry) -> Result<Vec<Mark>, SectionFault>
 /// A row: its vector, or its first refusal.
 fn read_row<D: Device>(
     alloc: Global,
-    scope: &Scope<'_>,
+    on: &OnDevice<'_, D>,
     header: &Header<'_>,
     row: &VectorRow,
 ) -> Result<Result<Vector, SectionFault>, OutOfMemory>
-    requires { NamesPins (context_for D.table scope.now) header.now }
-    ensures { IfOk result (λ read. IsRowRead (context_for D.table scope.now) header.now (view_vector_row row.now) read) }
+    requires { NamesPins (context_for D.table on.now.scope.now) header.now }
+    ensures { IfOk result (λ read. IsRowRead (context_for D.table on.now.scope.now) header.now (view_vector_row row.now) read) }
 {
     let bad = SectionFault::BadVector(row.place);
-    let driven = read_entry(alloc, scope, bad, &header.section.inputs, &row.inputs)?;
-    let tested = read_entry(alloc, scope, bad, &header.section.outputs, &row.outputs)?;
+    let driven = read_entry(alloc, on.scope, bad, &header.section.inputs, &row.inputs)?;
+    let tested = read_entry(alloc, on.scope, bad, &header.section.outputs, &row.outputs)?;
     match both(marks_in(driven), marks_in(tested)) {
         Ok((driven, tested)) => {
-            let vector = row_vector::<D>(
-                alloc,
-                scope,
-                header,
-                driven.as_slice(),
-                tested.as_slice(),
-            )?;
+            let vector = row_vector::<D>(alloc, on, header, driven.as_slice(), tested.as_slice())?;
             Ok(vector.ok_or(bad))
         }
         Err(fault) => Ok(Err(fault)),
@@ -97,20 +92,20 @@ fn refuse_room(room: usize, index: usize, place: Place) -> Option<SectionFault>
 /// them.
 pub(crate) fn read_rows<D: Device>(
     alloc: Global,
-    scope: &Scope<'_>,
+    on: &OnDevice<'_, D>,
     header: &Header<'_>,
     room: usize,
     found: &mut Found,
 ) -> Result<(), OutOfMemory>
-    requires { NamesPins (context_for D.table scope.now) header.now }
-    ensures { OnOk result ((before : ℕ) → room ≡ 9999 - before → FindsRows (context_for D.table scope.now) before header.now (map view_vector_row header.now.section.now.rows) found.old found.new) }
+    requires { NamesPins (context_for D.table on.now.scope.now) header.now }
+    ensures { OnOk result ((before : ℕ) → room ≡ 9999 - before → FindsRows (context_for D.table on.now.scope.now) before header.now (map view_vector_row header.now.section.now.rows) found.old found.new) }
 {
     let rows = header.section.rows.as_slice();
     for index in 0..rows.len() {
         let row = &rows[index];
         let full = refuse_room(room, index, row.place);
         found.fault = earlier(found.fault, full);
-        let read = read_row::<D>(alloc, scope, header, row)?;
+        let read = read_row::<D>(alloc, on, header, row)?;
         found.add(read)?;
     }
     Ok(())

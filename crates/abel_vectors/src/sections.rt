@@ -8,8 +8,9 @@ use crate::finding::{Found, both};
 use crate::headers::read_side;
 use crate::rows::{Header, read_rows};
 use abel_tree::{Module, Section, Vectors};
+use expr_bits::OnDevice;
 use pld_base::{OutOfMemory, Vector};
-use pld_device::Device;
+use pld_device::{Device, Loaded};
 use set_expr::{Scope, SectionFault};
 use std::alloc::Global;
 
@@ -19,15 +20,15 @@ const MOST: usize = 9_999;
 /// A section of vectors that has room for so many: both sides of its header, and then its rows.
 fn read_section<D: Device>(
     alloc: Global,
-    scope: &Scope<'_>,
+    on: &OnDevice<'_, D>,
     section: &Vectors,
     room: usize,
     found: &mut Found,
 ) -> Result<(), OutOfMemory>
-    ensures { OnOk result ((before : ℕ) → room ≡ 9999 - before → Finds D.table (vectors_refused (context_for D.table scope.now) before (view_vectors section.now)) (section_vectors (context_for D.table scope.now) (view_vectors section.now)) found.old found.new) }
+    ensures { OnOk result ((before : ℕ) → room ≡ 9999 - before → Finds D.table (vectors_refused (context_for D.table on.now.scope.now) before (view_vectors section.now)) (section_vectors (context_for D.table on.now.scope.now) (view_vectors section.now)) found.old found.new) }
 {
-    let inputs = read_side(alloc, scope, section.place, &section.inputs)?;
-    let outputs = read_side(alloc, scope, section.place, &section.outputs)?;
+    let inputs = read_side(alloc, on.scope, section.place, &section.inputs)?;
+    let outputs = read_side(alloc, on.scope, section.place, &section.outputs)?;
     match both(inputs, outputs) {
         Ok((driven, tested)) => {
             let header = Header {
@@ -35,7 +36,7 @@ fn read_section<D: Device>(
                 driven: driven.as_slice(),
                 tested: tested.as_slice(),
             };
-            read_rows::<D>(alloc, scope, &header, room, found)
+            read_rows::<D>(alloc, on, &header, room, found)
         }
         Err(fault) => {
             found.refuse(fault);
@@ -47,16 +48,16 @@ fn read_section<D: Device>(
 /// Any section, with room for so many vectors; the room after it.
 fn add_section<D: Device>(
     alloc: Global,
-    scope: &Scope<'_>,
+    on: &OnDevice<'_, D>,
     section: &Section,
     room: usize,
     found: &mut Found,
 ) -> Result<usize, OutOfMemory>
-    ensures { IfOk result (λ left. (before : ℕ) → room ≡ 9999 - before → FindsSection (context_for D.table scope.now) before (view_section section.now) left found.old found.new) }
+    ensures { IfOk result (λ left. (before : ℕ) → room ≡ 9999 - before → FindsSection (context_for D.table on.now.scope.now) before (view_section section.now) left found.old found.new) }
 {
     match section {
         Section::Vectors(section) => {
-            read_section::<D>(alloc, scope, section, room, found)?;
+            read_section::<D>(alloc, on, section, room, found)?;
             Ok(room.saturating_sub(section.rows.as_slice().len()))
         }
         _ => Ok(room),
@@ -68,6 +69,7 @@ fn add_section<D: Device>(
 /// of the header and the rows with the sets that constants represent.
 pub fn vectors<D: Device>(
     alloc: Global,
+    device: &Loaded<D>,
     scope: &Scope<'_>,
     section: &Section,
     before: u32,
@@ -80,7 +82,8 @@ pub fn vectors<D: Device>(
     ensures chars { IfOk result (λ list. All (IsTestVector D.table) list.items) }
 {
     let mut found = Found::new(alloc);
-    add_section::<D>(alloc, scope, section, MOST - before as usize, &mut found)?;
+    let on = OnDevice { device, scope };
+    add_section::<D>(alloc, &on, section, MOST - before as usize, &mut found)?;
     found.answer()
 }
 
@@ -88,6 +91,7 @@ pub fn vectors<D: Device>(
 /// refused; else the first refusal by place. All sections are gone over, since any may have it.
 pub(crate) fn all_vectors<D: Device>(
     alloc: Global,
+    device: &Loaded<D>,
     scope: &Scope<'_>,
     source: &Module,
 ) -> Result<Vec<Vector>, SectionFault>
@@ -98,8 +102,9 @@ pub(crate) fn all_vectors<D: Device>(
 {
     let mut found = Found::new(alloc);
     let mut room = MOST;
+    let on = OnDevice { device, scope };
     for section in source.sections.as_slice() {
-        room = add_section::<D>(alloc, scope, section, room, &mut found)?;
+        room = add_section::<D>(alloc, &on, section, room, &mut found)?;
     }
     found.answer()
 }

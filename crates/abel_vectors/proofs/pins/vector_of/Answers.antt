@@ -8,5 +8,5 @@ pub returns : goal.returns
 returns g c =
     let t = g.D.Device.table in
     all_placed (λ pin. char_or_plain t pin (found_at c.args.list.now pin)) c.loop-index.chars t.pins
-    (omega (arith, g.met.D.Device.sound.sizes.pins_high, c.loop-index.invariant.pins))
-    (λ k lt. c.loop-index.invariant.placed k (omega (arith, g.met.D.Device.pins_is, c.PINS-index-end.ensures, c.loop-index-test.false)))
+    (omega (arith, g.D.Device.sound.sizes.pins_high, c.loop-index.invariant.pins))
+    (λ k lt. c.loop-index.invariant.placed k (omega (arith, c.pins-index-end.ensures, c.loop-index-test.false)))

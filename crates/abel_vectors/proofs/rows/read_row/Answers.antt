@@ -7,8 +7,8 @@ use Rattle.abel_vectors.proofs.rows.read_row.Goals as goal
 
 pub returns-in_ok-vector-in-Ok : goal.returns-in_ok-vector-in-Ok
 returns-in_ok-vector-in-Ok g c =
-    let d = context_for g.D.Device.table c.args.scope.now in
-    let over : IsOver c.args.scope.now d = record { names = refl; known = refl } in
+    let d = context_for g.D.Device.table c.args.on.now.scope.now in
+    let over : IsOver c.args.on.now.scope.now d = record { names = refl; known = refl } in
     let h = c.args.header.now in
     let r = view_vector_row c.args.row.now in
     let i = header_term d h.section.now.inputs in
@@ -23,8 +23,8 @@ returns-in_ok-vector-in-Ok g c =
 
 pub returns-in-Err : goal.returns-in-Err
 returns-in-Err g c =
-    let d = context_for g.D.Device.table c.args.scope.now in
-    let over : IsOver c.args.scope.now d = record { names = refl; known = refl } in
+    let d = context_for g.D.Device.table c.args.on.now.scope.now in
+    let over : IsOver c.args.on.now.scope.now d = record { names = refl; known = refl } in
     let h = c.args.header.now in
     let r = view_vector_row c.args.row.now in
     let i = header_term d h.section.now.inputs in

@@ -11,7 +11,7 @@ loop-index-preserved g c before e later others =
     let i = c.loop-index.index in
     let x = c.index-rows-index.result in
     c.loop-index.invariant before e later
-    (rows_behind (context_for g.D.Device.table c.args.scope.now) c.args.header.now (i + before) (i + 1 + before) (view_vector_row x) (map view_vector_row (drop i rows)) (map view_vector_row (drop (i + 1) rows))
+    (rows_behind (context_for g.D.Device.table c.args.on.now.scope.now) c.args.header.now (i + before) (i + 1 + before) (view_vector_row x) (map view_vector_row (drop i rows)) (map view_vector_row (drop (i + 1) rows))
     c.refuse_room-full.result c.loop-index.found _ c.add.new.self later
     (at_drop_more (map view_vector_row) rows i x c.loop-index-test.true ∙ ap (λ y. view_vector_row y ∷ map view_vector_row (drop (i + 1) rows)) (sym c.index-rows-index.is))
     (omega arith) (c.refuse_room-full.ensures before e) c.earlier-found.ensures refl
@@ -19,7 +19,7 @@ loop-index-preserved g c before e later others =
 
 pub returns : goal.returns
 returns g c before e =
-    let d = context_for g.D.Device.table c.args.scope.now in
+    let d = context_for g.D.Device.table c.args.on.now.scope.now in
     let rows = c.as_slice-rows.result.now in
     let found = c.loop-index.found in
     subst (λ xs. FindsRows d before c.args.header.now (map view_vector_row xs) c.args.found.now found) c.as_slice-rows.ensures

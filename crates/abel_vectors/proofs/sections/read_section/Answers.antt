@@ -12,8 +12,8 @@ met_clear (x ∷ xs) r b e = absurd cc
 
 pub read_rows-requires : goal.read_rows-requires
 read_rows-requires g c =
-    let d = context_for g.D.Device.table c.args.scope.now in
-    let over : IsOver c.args.scope.now d = record { names = refl; known = refl } in
+    let d = context_for g.D.Device.table c.args.on.now.scope.now in
+    let over : IsOver c.args.on.now.scope.now d = record { names = refl; known = refl } in
     let v = c.args.section.now in
     let sides = both_read (side_refused d v.place (view v.inputs)) (side_refused d v.place (view v.outputs)) _ _ c.in_ok-inputs.inputs c.in_ok-outputs.outputs (Ok (c.in-Ok.driven, c.in-Ok.tested))
     (c.in_ok-inputs.ensures d over) (c.in_ok-outputs.ensures d over)
@@ -29,8 +29,8 @@ read_rows-requires g c =
 
 pub returns-in-Ok : goal.returns-in-Ok
 returns-in-Ok g c =
-    let d = context_for g.D.Device.table c.args.scope.now in
-    let over : IsOver c.args.scope.now d = record { names = refl; known = refl } in
+    let d = context_for g.D.Device.table c.args.on.now.scope.now in
+    let over : IsOver c.args.on.now.scope.now d = record { names = refl; known = refl } in
     let v = c.args.section.now in
     let sides = both_read (side_refused d v.place (view v.inputs)) (side_refused d v.place (view v.outputs)) _ _ c.in_ok-inputs.inputs c.in_ok-outputs.outputs (Ok (c.in-Ok.driven, c.in-Ok.tested))
     (c.in_ok-inputs.ensures d over) (c.in_ok-outputs.ensures d over)
@@ -44,8 +44,8 @@ returns-in-Ok g c =
 
 pub returns-in-Err : goal.returns-in-Err
 returns-in-Err g c n room =
-    let d = context_for g.D.Device.table c.args.scope.now in
-    let over : IsOver c.args.scope.now d = record { names = refl; known = refl } in
+    let d = context_for g.D.Device.table c.args.on.now.scope.now in
+    let over : IsOver c.args.on.now.scope.now d = record { names = refl; known = refl } in
     let v = c.args.section.now in
     c.refuse.ensures d.device _ (section_vectors d (view_vectors v))
     (first_alone (header_refused d v.place (view v.inputs) (view v.outputs)) (rows_refused d n (header_term d v.inputs) (header_term d v.outputs) (map view_vector_row v.rows)) c.in-Err.fault
