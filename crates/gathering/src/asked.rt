@@ -11,7 +11,7 @@ use crate::signal::{Totals, sum_up};
 use abel_tree::{Declared, Meaning};
 use bit_expr::{CellWanted, Control, Exprs, Function};
 use pld_base::OutOfMemory;
-use pld_device::{Device, Enable};
+use pld_device::{Device, Enable, Loaded};
 use set_expr::Contribution;
 use std::alloc::Global;
 
@@ -25,9 +25,10 @@ pub(crate) struct Asked {
     pub(crate) links: Vec<Link>,
 }
 
-/// A declared name with its number.
-#[derive(Clone, Copy)]
-pub(crate) struct Named<'a> {
+/// A declared name with its number, and the device that it is for.
+#[derive(Drop)]
+pub(crate) struct Named<'a, D: Device> {
+    pub(crate) device: &'a Loaded<D>,
     pub(crate) number: u32,
     pub(crate) declared: &'a Declared,
 }
@@ -50,7 +51,13 @@ fn control_if(stored: bool, control: Option<Control>) -> Option<Control>
 }
 
 /// What a signal asks of its cell.
-fn asked_cell<D: Device>(cell: u8, name: u32, declared: &Declared, totals: &Totals) -> CellWanted
+fn asked_cell<D: Device>(
+    device: &Loaded<D>,
+    cell: u8,
+    name: u32,
+    declared: &Declared,
+    totals: &Totals,
+) -> CellWanted
     requires { cell < length D.table.cells }
     ensures { result ≡ asked_cell D.table cell name (view_declared declared.now) totals.now }
 {
@@ -65,7 +72,7 @@ fn asked_cell<D: Device>(cell: u8, name: u32, declared: &Declared, totals: &Tota
         negated: matches!(declared.meaning, Meaning::Pin { negated: true, .. }),
         raw: stored && totals.raw,
         function: totals.function,
-        enable: by_row(D::cell(cell).enable, totals.controls.enable),
+        enable: by_row(device.cell(cell).enable, totals.controls.enable),
         reset: control_if(stored, totals.controls.reset),
         preset: control_if(stored, totals.controls.preset),
     }
@@ -76,7 +83,7 @@ pub(crate) fn ask<D: Device>(
     alloc: Global,
     exprs: &mut Exprs,
     list: &[Contribution],
-    named: &Named<'_>,
+    named: &Named<'_, D>,
     asked: &mut Asked,
 ) -> Result<(), OutOfMemory>
     requires { AllLieIn (length (arena exprs.old)) list.now }
@@ -88,17 +95,23 @@ pub(crate) fn ask<D: Device>(
 {
     let name = named.number;
     let declared = named.declared;
-    let cell = cell_of::<D>(declared);
+    let cell = cell_of::<D>(named.device, declared);
     if cell.is_none() && !is_node(&declared.meaning) {
         return Ok(());
     }
     let totals = sum_up(alloc, exprs, list, name)?;
-    asked.links.push(link_of::<D>(exprs, declared, &totals))?;
+    asked
+        .links
+        .push(link_of::<D>(named.device, exprs, declared, &totals))?;
     asked.signals.push(name)?;
     match cell {
-        Some(cell) => asked
-            .cells
-            .push(asked_cell::<D>(cell, name, declared, &totals))?,
+        Some(cell) => asked.cells.push(asked_cell::<D>(
+            named.device,
+            cell,
+            name,
+            declared,
+            &totals,
+        ))?,
         None => asked.nodes.push(totals.function)?,
     }
     Ok(())

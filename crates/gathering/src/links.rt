@@ -9,7 +9,7 @@ use crate::reads::{both, control_reads, function_reads, nothing};
 use crate::signal::Totals;
 use abel_tree::{Declared, Meaning};
 use bit_expr::{Exprs, Leaf};
-use pld_device::{Device, cell_on};
+use pld_device::{Device, Loaded, cell_on};
 
 /// Whether it is a node or a combinational signal with data, which settles by what it reads.
 fn settles(declared: &Declared) -> bool
@@ -23,13 +23,13 @@ fn settles(declared: &Declared) -> bool
 }
 
 /// The leaf by which a signal is read: the Q of a register, the pin of a combinational signal, the value of a node.
-fn leaf_of<D: Device>(declared: &Declared) -> Option<Leaf>
+fn leaf_of<D: Device>(device: &Loaded<D>, declared: &Declared) -> Option<Leaf>
     ensures { (d : Context) → d.device ≡ D.table
         → result ≡ leaf_by d (view_declared declared.now) (view_meaning declared.now.meaning) }
 {
     match declared.meaning {
         Meaning::Pin { pin, negated: _ } => if declared.is_stored() {
-            cell_on::<D>(pin).map(|cell| Leaf::Q(cell))
+            cell_on::<D>(device, pin).map(|cell| Leaf::Q(cell))
         } else if settles(declared) {
             Some(Leaf::Pin(pin))
         } else {
@@ -41,14 +41,19 @@ fn leaf_of<D: Device>(declared: &Declared) -> Option<Leaf>
 }
 
 /// A signal by all that is given to it: it reads what its function and its enable name, and nothing if it is a register.
-pub(crate) fn link_of<D: Device>(exprs: &Exprs, declared: &Declared, totals: &Totals) -> Link
+pub(crate) fn link_of<D: Device>(
+    device: &Loaded<D>,
+    exprs: &Exprs,
+    declared: &Declared,
+    totals: &Totals,
+) -> Link
     requires { AreTotalsIn (length (arena exprs.now)) totals.now }
     ensures { (d : Context) (first : List Formula) (list : List Contribution) (signal : ℕ) → d.device ≡ D.table
         → AreGiven first (arena exprs.now) list signal totals.now
         → IsLinkOf d (contributions_in first list) signal (view_declared declared.now) result }
 {
     Link {
-        leaf: leaf_of::<D>(declared),
+        leaf: leaf_of::<D>(device, declared),
         reads: if settles(declared) {
             both(
                 function_reads(exprs, totals.function),

@@ -6,7 +6,7 @@ ghost use Rattle.gathering.specs.{is_node_kind};
 
 use abel_tree::{Attributes, Declared, Meaning};
 use bitflags::Flags;
-use pld_device::{Device, cell_on};
+use pld_device::{Device, Loaded, cell_on};
 
 /// Whether it is a node.
 pub(crate) fn is_node(meaning: &Meaning) -> bool
@@ -24,12 +24,12 @@ pub(crate) fn is_free(declared: &Declared) -> bool
 }
 
 /// The cell of an assigned signal.
-pub(crate) fn cell_of<D: Device>(declared: &Declared) -> Option<u8>
+pub(crate) fn cell_of<D: Device>(device: &Loaded<D>, declared: &Declared) -> Option<u8>
     ensures cell { result ≡ cell_of D.table (view_declared declared.now) }
     ensures within { IfSome result (λ c. c < length D.table.cells) }
 {
     match &declared.meaning {
-        Meaning::Pin { pin, negated: _ } if declared.assigned => cell_on::<D>(*pin),
+        Meaning::Pin { pin, negated: _ } if declared.assigned => cell_on::<D>(device, *pin),
         _ => None,
     }
 }

@@ -11,13 +11,14 @@ use crate::pairs::{pairs_of_cells, pairs_of_pins};
 use abel_tree::Names;
 use bit_expr::{Exprs, Netlist};
 use pld_base::{ListOf, OutOfMemory};
-use pld_device::Device;
+use pld_device::{Device, Loaded};
 use set_expr::{Contribution, Contributions};
 use std::alloc::Global;
 
 /// What all names ask.
 fn ask_all<D: Device>(
     alloc: Global,
+    device: &Loaded<D>,
     exprs: &mut Exprs,
     list: &[Contribution],
     names: &Names,
@@ -34,7 +35,11 @@ fn ask_all<D: Device>(
     };
     let mut number = 0u32;
     for declared in names.list.as_slice() {
-        let named = Named { number, declared };
+        let named = Named {
+            device,
+            number,
+            declared,
+        };
         ask::<D>(alloc, exprs, list, &named, &mut asked)?;
         number = number.checked_add(1).ok_or(OutOfMemory)?;
     }
@@ -54,6 +59,7 @@ pub struct Gathered {
 /// pins of cells are summed up, each in the time of the list.
 pub fn gather_up<D: Device>(
     alloc: Global,
+    device: &Loaded<D>,
     names: &Names,
     found: Contributions,
 ) -> Result<Gathered, OutOfMemory>
@@ -71,14 +77,14 @@ pub fn gather_up<D: Device>(
 {
     let mut exprs = found.exprs;
     let list = found.list;
-    let asked = ask_all::<D>(alloc, &mut exprs, list.as_slice(), names)?;
+    let asked = ask_all::<D>(alloc, device, &mut exprs, list.as_slice(), names)?;
     Ok(Gathered {
         net: Netlist {
             exprs,
             nodes: ListOf::from_vec(asked.nodes),
             cells: ListOf::from_vec(asked.cells),
-            pair_of_pin: pairs_of_pins::<D>(),
-            pair_of_cell: pairs_of_cells::<D>(),
+            pair_of_pin: pairs_of_pins::<D>(device),
+            pair_of_cell: pairs_of_cells::<D>(device),
         },
         signals: ListOf::from_vec(asked.signals),
         links: ListOf::from_vec(asked.links),

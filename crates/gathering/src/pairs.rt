@@ -4,7 +4,7 @@ ghost use Rattle.std.specs.Prelude.{◌≡◌, ◌<◌, ℕ, IfSome, get_or, unw
 ghost use Rattle.gathering.specs.Prelude.{no_pair};
 ghost use Rattle.abel_meaning.specs.SoundIds as sound;
 
-use pld_device::{Device, pair_of_cell, pair_of_pin};
+use pld_device::{Device, Loaded, pair_of_cell, pair_of_pin};
 
 /// What represents a pair if there isn't one.
 const NO_PAIR: u8 = 255;
@@ -21,23 +21,23 @@ fn number_of(pair: Option<u16>) -> u8
 }
 
 /// The pairs of all pins.
-pub(crate) fn pairs_of_pins<D: Device>() -> [u8; 25]
+pub(crate) fn pairs_of_pins<D: Device>(device: &Loaded<D>) -> [u8; 25]
     ensures { (p : ℕ) → p < 25 → get_or result p no_pair ≡ sound.pair_of_pin D.table p }
 {
     let mut pairs = [NO_PAIR; 25];
     for pin in 0..25u8 {
-        pairs[pin as usize] = number_of(pair_of_pin::<D>(pin));
+        pairs[pin as usize] = number_of(pair_of_pin::<D>(device, pin));
     }
     pairs
 }
 
 /// The pairs of all cells.
-pub(crate) fn pairs_of_cells<D: Device>() -> [u8; 25]
+pub(crate) fn pairs_of_cells<D: Device>(device: &Loaded<D>) -> [u8; 25]
     ensures { (c : ℕ) → c < 25 → get_or result c no_pair ≡ sound.pair_of_cell D.table c }
 {
     let mut pairs = [NO_PAIR; 25];
     for cell in 0..25u8 {
-        pairs[cell as usize] = number_of(pair_of_cell::<D>(cell));
+        pairs[cell as usize] = number_of(pair_of_cell::<D>(device, cell));
     }
     pairs
 }
