@@ -7,7 +7,7 @@ ghost use Rattle.design_checks.specs.{is_level, is_level_if, says_always};
 use crate::by_pin::{cell_of, is_compared};
 use abel_tree::{Declared, Extension};
 use bit_expr::{ExprId, Exprs, Leaf, Node};
-use pld_device::{Device, Enable};
+use pld_device::{Device, Enable, Loaded};
 use set_expr::Contribution;
 
 /// Whether the bit is the pin's level.
@@ -38,6 +38,7 @@ fn is_level_if(exprs: &Exprs, bit: ExprId, complement: bool, pin: u8) -> bool
 /// Whether the equation says what the device does, or the device does what it says, wherever the equation counts: in a
 /// diagram it counts in a state alone.
 pub(crate) fn says_always<D: Device>(
+    device: &Loaded<D>,
     exprs: &Exprs,
     declared: &Declared,
     given: &Contribution,
@@ -49,13 +50,13 @@ pub(crate) fn says_always<D: Device>(
 {
     let extension = given.target.extension;
     if let Some(_) = given.block {
-        return !is_compared::<D>(declared, extension);
+        return !is_compared::<D>(device, declared, extension);
     }
     match extension {
-        Some(Extension::Clk) => is_level_if(exprs, given.when, given.complement, D::CLOCK),
-        Some(Extension::Oe) => match cell_of::<D>(declared) {
+        Some(Extension::Clk) => is_level_if(exprs, given.when, given.complement, device.clock()),
+        Some(Extension::Oe) => match cell_of::<D>(device, declared) {
             None => true,
-            Some(cell) => match D::cell(cell).enable {
+            Some(cell) => match device.cell(cell).enable {
                 Enable::Row(_) => true,
                 Enable::PinLow(pin) => is_level_if(exprs, given.when, !given.complement, pin),
             },

@@ -13,12 +13,13 @@ use crate::rule::{UseRule, refuses_use};
 use abel_tree::{Declared, Expr, Extension, Meaning};
 use name_uses::names_used;
 use pld_base::OutOfMemory;
-use pld_device::Device;
+use pld_device::{Device, Loaded};
 use set_expr::Scope;
 use std::alloc::Global;
 
 /// The number of a signal, if a rule refuses its use with this extension.
 fn signal_used<D: Device>(
+    device: &Loaded<D>,
     rule: UseRule,
     declared: &Declared,
     number: u32,
@@ -26,7 +27,7 @@ fn signal_used<D: Device>(
 ) -> Option<u32>
     ensures { result ≡ signal_used D.table rule (view_declared declared.now) number extension }
 {
-    if refuses_use::<D>(rule, declared, extension) {
+    if refuses_use::<D>(device, rule, declared, extension) {
         Some(number)
     } else {
         None
@@ -34,20 +35,25 @@ fn signal_used<D: Device>(
 }
 
 /// What is kept of a signal.
-fn signal_uses<D: Device>(rule: UseRule, declared: &Declared, number: u32) -> NameUses
+fn signal_uses<D: Device>(
+    device: &Loaded<D>,
+    rule: UseRule,
+    declared: &Declared,
+    number: u32,
+) -> NameUses
     ensures { result ≡ signal_kept D.table rule (view_declared declared.now) number }
 {
     NameUses {
-        bare: signal_used::<D>(rule, declared, number, None),
-        q: signal_used::<D>(rule, declared, number, Some(Extension::Q)),
-        fb: signal_used::<D>(rule, declared, number, Some(Extension::Fb)),
-        pin: signal_used::<D>(rule, declared, number, Some(Extension::Pin)),
-        clk: signal_used::<D>(rule, declared, number, Some(Extension::Clk)),
-        oe: signal_used::<D>(rule, declared, number, Some(Extension::Oe)),
-        ar: signal_used::<D>(rule, declared, number, Some(Extension::Ar)),
-        sp: signal_used::<D>(rule, declared, number, Some(Extension::Sp)),
-        d: signal_used::<D>(rule, declared, number, Some(Extension::D)),
-        positions: Positions::signal(is_enabled_by_pin::<D>(declared)),
+        bare: signal_used::<D>(device, rule, declared, number, None),
+        q: signal_used::<D>(device, rule, declared, number, Some(Extension::Q)),
+        fb: signal_used::<D>(device, rule, declared, number, Some(Extension::Fb)),
+        pin: signal_used::<D>(device, rule, declared, number, Some(Extension::Pin)),
+        clk: signal_used::<D>(device, rule, declared, number, Some(Extension::Clk)),
+        oe: signal_used::<D>(device, rule, declared, number, Some(Extension::Oe)),
+        ar: signal_used::<D>(device, rule, declared, number, Some(Extension::Ar)),
+        sp: signal_used::<D>(device, rule, declared, number, Some(Extension::Sp)),
+        d: signal_used::<D>(device, rule, declared, number, Some(Extension::D)),
+        positions: Positions::signal(is_enabled_by_pin::<D>(device, declared)),
     }
 }
 
@@ -79,6 +85,7 @@ fn constant_uses(
 /// What is kept of the name with this number, by what is kept of the names before it.
 fn learn<D: Device>(
     alloc: Global,
+    device: &Loaded<D>,
     names: &KeptUses<'_, '_>,
     declared: &Declared,
     number: u32,
@@ -89,7 +96,7 @@ fn learn<D: Device>(
 {
     match &declared.meaning {
         Meaning::Pin { .. } | Meaning::Node(_) => Ok(signal_uses::<D>(
-            names.rule, declared, number,
+            device, names.rule, declared, number,
         )),
         Meaning::Constant(expr) => constant_uses(alloc, names, expr),
         Meaning::DeviceName => Ok(NameUses::none()),
@@ -100,6 +107,7 @@ fn learn<D: Device>(
 /// is named.
 pub(crate) fn learn_names<D: Device>(
     alloc: Global,
+    device: &Loaded<D>,
     rule: UseRule,
     scope: &Scope<'_>,
 ) -> Result<Vec<NameUses>, OutOfMemory>
@@ -113,7 +121,7 @@ pub(crate) fn learn_names<D: Device>(
             scope: &*scope,
             list: list.as_slice(),
         };
-        let uses = learn::<D>(alloc, &names, declared, number)?;
+        let uses = learn::<D>(alloc, device, &names, declared, number)?;
         list.push(uses)?;
         number = number.checked_add(1).ok_or(OutOfMemory)?;
     }

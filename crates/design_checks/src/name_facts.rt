@@ -8,7 +8,7 @@ ghost use Rattle.abel_meaning.specs.SignalPins.{has_wrong_kind, has_wrong_kind_o
 use crate::refused::{RefusedUse, told_if};
 use abel_tree::{Declared, Meaning, earlier};
 use pld_base::OutOfMemory;
-use pld_device::{Cell, Device, Kinds};
+use pld_device::{Cell, Device, Kinds, Loaded};
 use set_expr::Scope;
 
 /// Whether it is the cell of this pin, and can't be what the signal is.
@@ -24,11 +24,11 @@ fn is_wrong_cell(cell: Cell, pin: u8, stored: bool) -> bool
 }
 
 /// Whether the cell of this pin can't be what the signal is.
-pub fn has_wrong_kind_on<D: Device>(pin: u8, stored: bool) -> bool
+pub fn has_wrong_kind_on<D: Device>(device: &Loaded<D>, pin: u8, stored: bool) -> bool
     ensures { result ≡ has_wrong_kind_on D.table pin stored }
 {
-    for index in 0..D::CELLS {
-        if is_wrong_cell(D::cell(index), pin, stored) {
+    for index in 0..device.cells() {
+        if is_wrong_cell(device.cell(index), pin, stored) {
             return true;
         }
     }
@@ -36,11 +36,11 @@ pub fn has_wrong_kind_on<D: Device>(pin: u8, stored: bool) -> bool
 }
 
 /// Whether the signal is on a cell that can't be what it is.
-pub(crate) fn has_wrong_kind<D: Device>(declared: &Declared) -> bool
+pub(crate) fn has_wrong_kind<D: Device>(device: &Loaded<D>, declared: &Declared) -> bool
     ensures { result ≡ has_wrong_kind D.table (view_declared declared.now) }
 {
     match declared.meaning {
-        Meaning::Pin { pin, .. } => has_wrong_kind_on::<D>(pin, declared.is_stored()),
+        Meaning::Pin { pin, .. } => has_wrong_kind_on::<D>(device, pin, declared.is_stored()),
         _ => false,
     }
 }

@@ -7,7 +7,7 @@ ghost use Rattle.abel_meaning.specs.SignalPins.{has_read_path_on};
 
 use crate::name_facts::has_wrong_kind_on;
 use abel_tree::{Declared, Extension, Meaning};
-use pld_device::{Device, cell_on, pair_of_cell, pair_of_pin};
+use pld_device::{Device, Loaded, cell_on, pair_of_cell, pair_of_pin};
 
 /// What is asked of each use.
 #[derive(Clone, Copy, PartialEq, Eq)]
@@ -20,14 +20,18 @@ pub enum UseRule {
 }
 
 /// Whether the signal has what the extension names: a register, a combinational signal on a pin, or a node.
-fn has_extension<D: Device>(declared: &Declared, extension: Option<Extension>) -> bool
+fn has_extension<D: Device>(
+    device: &Loaded<D>,
+    declared: &Declared,
+    extension: Option<Extension>,
+) -> bool
     ensures { result ≡ has_extension D.table (view_declared declared.now) extension }
 {
     match declared.meaning {
         Meaning::Pin { .. } => if declared.is_stored() {
             match extension {
-                Some(Extension::Ar) => D::RESET.is_some(),
-                Some(Extension::Sp) => D::PRESET.is_some(),
+                Some(Extension::Ar) => device.reset().is_some(),
+                Some(Extension::Sp) => device.preset().is_some(),
                 _ => true,
             }
         } else {
@@ -40,6 +44,7 @@ fn has_extension<D: Device>(declared: &Declared, extension: Option<Extension>) -
 
 /// Whether columns would carry what the extension names of the signal, if it were on this pin.
 pub fn has_read_path_on<D: Device>(
+    device: &Loaded<D>,
     declared: &Declared,
     pin: u8,
     extension: Option<Extension>,
@@ -48,33 +53,36 @@ pub fn has_read_path_on<D: Device>(
 {
     if declared.is_stored() {
         matches!(extension, None | Some(Extension::Fb | Extension::Q))
-            && match cell_on::<D>(pin) {
-                Some(cell) => pair_of_cell::<D>(cell).is_some(),
+            && match cell_on::<D>(device, pin) {
+                Some(cell) => pair_of_cell::<D>(device, cell).is_some(),
                 None => false,
             }
     } else {
         // a cell that must be a register carries no level at which nothing is assigned, as a combinational signal can't be
         // on it
         matches!(extension, None | Some(Extension::Pin))
-            && pair_of_pin::<D>(pin).is_some()
-            && (declared.assigned || !has_wrong_kind_on::<D>(pin, false))
+            && pair_of_pin::<D>(device, pin).is_some()
+            && (declared.assigned || !has_wrong_kind_on::<D>(device, pin, false))
     }
 }
 
 /// Whether a rule refuses that the signal is read with this extension.
 pub(crate) fn refuses_use<D: Device>(
+    device: &Loaded<D>,
     rule: UseRule,
     declared: &Declared,
     extension: Option<Extension>,
 ) -> bool
     ensures { result ≡ refuses_use D.table rule (view_declared declared.now) extension }
 {
-    let has = has_extension::<D>(declared, extension);
+    let has = has_extension::<D>(device, declared, extension);
     match rule {
         UseRule::Extensions => !has,
         UseRule::Columns => has
             && match declared.meaning {
-                Meaning::Pin { pin, .. } => !has_read_path_on::<D>(declared, pin, extension),
+                Meaning::Pin { pin, .. } => !has_read_path_on::<D>(
+                    device, declared, pin, extension,
+                ),
                 _ => false,
             },
     }

@@ -10,7 +10,7 @@ use crate::name_facts::has_wrong_kind;
 use crate::refused::{RefusedUse, told_if};
 use abel_tree::{Declared, Extension, Meaning, earlier};
 use bit_expr::Exprs;
-use pld_device::Device;
+use pld_device::{Device, Loaded};
 use section_targets::SectionScope;
 use set_expr::{Contribution, Contributions, Gives};
 
@@ -30,13 +30,17 @@ pub enum Rule {
 }
 
 /// Whether a signal lacks what the extension names; a node has nothing but its value.
-fn lacks_control<D: Device>(declared: &Declared, extension: Option<Extension>) -> bool
+fn lacks_control<D: Device>(
+    device: &Loaded<D>,
+    declared: &Declared,
+    extension: Option<Extension>,
+) -> bool
     ensures { result ≡ lacks_control D.table (view_declared declared.now) extension }
 {
     match declared.meaning {
         Meaning::Pin { .. } => match extension {
-            Some(Extension::Ar) => !declared.is_stored() || D::RESET.is_none(),
-            Some(Extension::Sp) => !declared.is_stored() || D::PRESET.is_none(),
+            Some(Extension::Ar) => !declared.is_stored() || device.reset().is_none(),
+            Some(Extension::Sp) => !declared.is_stored() || device.preset().is_none(),
             Some(Extension::Clk) => !declared.is_stored(),
             Some(Extension::D) => !declared.is_stored(),
             _ => false,
@@ -47,16 +51,22 @@ fn lacks_control<D: Device>(declared: &Declared, extension: Option<Extension>) -
 }
 
 /// Whether a rule refuses one contribution to this name.
-fn refuses<D: Device>(rule: Rule, exprs: &Exprs, declared: &Declared, given: &Contribution) -> bool
+fn refuses<D: Device>(
+    device: &Loaded<D>,
+    rule: Rule,
+    exprs: &Exprs,
+    declared: &Declared,
+    given: &Contribution,
+) -> bool
     requires { given.now.when.0 < length (arena exprs.now) }
     ensures { result ≡ refuses D.table (arena exprs.now) rule
         (view_declared declared.now) given.now }
 {
     let extension = given.target.extension;
     match rule {
-        Rule::Kinds => Extension::is_data(extension) && has_wrong_kind::<D>(declared),
-        Rule::Controls => lacks_control::<D>(declared, extension),
-        Rule::Levels => !says_always::<D>(exprs, declared, given),
+        Rule::Kinds => Extension::is_data(extension) && has_wrong_kind::<D>(device, declared),
+        Rule::Controls => lacks_control::<D>(device, declared, extension),
+        Rule::Levels => !says_always::<D>(device, exprs, declared, given),
         Rule::DontCares => !Extension::is_data(extension) && matches!(given.what, Gives::Any),
     }
 }
@@ -77,7 +87,7 @@ pub fn first_refused<D: Device>(
     let mut first = None;
     for given in found.list.as_slice() {
         let declared = &names[given.target.signal as usize];
-        let refused = refuses::<D>(rule, &found.exprs, declared, given);
+        let refused = refuses::<D>(scope.device(), rule, &found.exprs, declared, given);
         first = earlier(first, told_if(refused, given.place, given.target.signal));
     }
     first

@@ -97,7 +97,7 @@ pub fn other_spelling<D: Device>(
 {
     let rule = UseRule::Extensions;
     let known = scope.scope();
-    let learnt = learn_names::<D>(alloc, rule, known)?;
+    let learnt = learn_names::<D>(alloc, scope.device(), rule, known)?;
     let names = KeptUses {
         rule,
         scope: known,

@@ -97,7 +97,7 @@ pub fn first_use<D: Device>(
         → r ≡ first_use (refused_uses rule d)) }
 {
     let known = scope.scope();
-    let learnt = learn_names::<D>(alloc, rule, known)?;
+    let learnt = learn_names::<D>(alloc, scope.device(), rule, known)?;
     let names = KeptUses {
         rule,
         scope: known,

@@ -13,7 +13,7 @@ use crate::refused::{RefusedUse, told_if};
 use abel_tree::{Assign, Expr, Extension, earlier};
 use name_uses::target_extension;
 use pld_base::OutOfMemory;
-use pld_device::Device;
+use pld_device::{Device, Loaded};
 use section_targets::{Aim, SectionScope};
 use set_expr::Scope;
 use std::alloc::Global;
@@ -26,12 +26,17 @@ fn may_be_compared(extension: Option<Extension>) -> bool
 }
 
 /// Whether an equation for the signal with this number is compared.
-fn is_compared_at<D: Device>(scope: &Scope<'_>, extension: Option<Extension>, signal: usize) -> bool
+fn is_compared_at<D: Device>(
+    device: &Loaded<D>,
+    scope: &Scope<'_>,
+    extension: Option<Extension>,
+    signal: usize,
+) -> bool
     ensures { result ≡ is_compared_of D.table extension (name_at (context_for D.table scope.now) signal) }
 {
     let list = scope.list();
     if signal < list.len() {
-        is_compared::<D>(&list[signal], extension)
+        is_compared::<D>(device, &list[signal], extension)
     } else {
         matches!(extension, Some(Extension::Clk))
     }
@@ -39,6 +44,7 @@ fn is_compared_at<D: Device>(scope: &Scope<'_>, extension: Option<Extension>, si
 
 /// What is refused of one signal of a target.
 fn refused_aim<D: Device>(
+    device: &Loaded<D>,
     scope: &Scope<'_>,
     extension: Option<Extension>,
     written: bool,
@@ -46,12 +52,13 @@ fn refused_aim<D: Device>(
 ) -> Option<RefusedUse>
     ensures { result ≡ first_refusal use_order (aim_refused (context_for D.table scope.now) extension written aim) }
 {
-    let refused = !written && is_compared_at::<D>(scope, extension, aim.signal as usize);
+    let refused = !written && is_compared_at::<D>(device, scope, extension, aim.signal as usize);
     told_if(refused, aim.place, aim.signal)
 }
 
 /// The first refusal of the signals of a target.
 fn refused_aims<D: Device>(
+    device: &Loaded<D>,
     scope: &Scope<'_>,
     extension: Option<Extension>,
     value: Positions,
@@ -65,7 +72,7 @@ fn refused_aims<D: Device>(
         let written = value.is_written_at(position);
         first = earlier(
             first,
-            refused_aim::<D>(scope, extension, written, aims[position]),
+            refused_aim::<D>(device, scope, extension, written, aims[position]),
         );
     }
     first
@@ -109,5 +116,5 @@ pub(crate) fn refused_assign<D: Device>(
         return Ok(None);
     }
     let value = positions_if(alloc, names, guarded, &assign.value)?;
-    Ok(refused_aims::<D>(scope.scope(), extension, value, aims))
+    Ok(refused_aims::<D>(scope.device(), scope.scope(), extension, value, aims))
 }
