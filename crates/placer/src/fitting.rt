@@ -8,13 +8,13 @@ ghost use Rattle.placer.specs.Wanted.{AreFree};
 use abel_tree::{Declared, Meaning};
 use design_checks::{has_read_path_on, has_wrong_kind_on};
 use pld_base::with_level;
-use pld_device::{Device, Enable, cell_on};
+use pld_device::{Device, Enable, Loaded, cell_on};
 
 /// Whether a pin may have a name: it is neither ground nor the supply.
-fn is_signal_pin<D: Device>(pin: u8) -> bool
+fn is_signal_pin<D: Device>(device: &Loaded<D>, pin: u8) -> bool
     ensures { result ≡ is_signal_pin D.table pin }
 {
-    pin != 0 && pin != D::GROUND && pin < D::PINS
+    pin != 0 && pin != device.ground() && pin < device.pins()
 }
 
 /// Whether the pin enables.
@@ -28,11 +28,11 @@ fn is_enabled_by(pin: u8, enable: Enable) -> bool
 }
 
 /// Whether the pin enables some cell.
-fn is_enabling<D: Device>(pin: u8) -> bool
+fn is_enabling<D: Device>(device: &Loaded<D>, pin: u8) -> bool
     ensures { result ≡ list_any (λ (c : Cell). is_enabled_by pin c.enable) D.table.cells }
 {
-    for index in 0..D::CELLS {
-        if is_enabled_by(pin, D::cell(index).enable) {
+    for index in 0..device.cells() {
+        if is_enabled_by(pin, device.cell(index).enable) {
             return true;
         }
     }
@@ -65,19 +65,22 @@ fn is_taken(names: &[Declared], pin: u8) -> bool
 }
 
 /// Whether the pin is free.
-fn is_pin_free<D: Device>(names: &[Declared], pin: u8) -> bool
+fn is_pin_free<D: Device>(device: &Loaded<D>, names: &[Declared], pin: u8) -> bool
     ensures { result ≡ is_pin_free D.table (map view_declared names.now) pin }
 {
-    is_signal_pin::<D>(pin) && pin != D::CLOCK && !is_enabling::<D>(pin) && !is_taken(names, pin)
+    is_signal_pin::<D>(device, pin)
+        && pin != device.clock()
+        && !is_enabling::<D>(device, pin)
+        && !is_taken(names, pin)
 }
 
 /// The pins that are free, bit k for pin k.
-pub(crate) fn free_pins<D: Device>(names: &[Declared]) -> u32
+pub(crate) fn free_pins<D: Device>(device: &Loaded<D>, names: &[Declared]) -> u32
     ensures { AreFree D.table (map view_declared names.now) result }
 {
     let mut free = 0;
-    for pin in 0..D::PINS {
-        if is_pin_free::<D>(names, pin) {
+    for pin in 0..device.pins() {
+        if is_pin_free::<D>(device, names, pin) {
             free = with_level(free, pin, true);
         }
     }
@@ -85,16 +88,22 @@ pub(crate) fn free_pins<D: Device>(names: &[Declared]) -> u32
 }
 
 /// Whether there is a cell on the pin that can be what the signal is.
-fn has_cell_for<D: Device>(declared: &Declared, pin: u8) -> bool
+fn has_cell_for<D: Device>(device: &Loaded<D>, declared: &Declared, pin: u8) -> bool
     ensures { result ≡ has_cell_for D.table (view_declared declared.now) pin }
 {
-    cell_on::<D>(pin).is_some() && !has_wrong_kind_on::<D>(pin, declared.is_stored())
+    cell_on::<D>(device, pin).is_some()
+        && !has_wrong_kind_on::<D>(device, pin, declared.is_stored())
 }
 
 /// Whether the pin fits the signal.
-pub(crate) fn pin_fits<D: Device>(declared: &Declared, read: bool, pin: u8) -> bool
+pub(crate) fn pin_fits<D: Device>(
+    device: &Loaded<D>,
+    declared: &Declared,
+    read: bool,
+    pin: u8,
+) -> bool
     ensures { result ≡ pin_fits D.table read (view_declared declared.now) pin }
 {
-    (!declared.assigned || has_cell_for::<D>(declared, pin))
-        && (!read || has_read_path_on::<D>(declared, pin, None))
+    (!declared.assigned || has_cell_for::<D>(device, declared, pin))
+        && (!read || has_read_path_on::<D>(device, declared, pin, None))
 }

@@ -19,7 +19,7 @@ use abel_tree::{Declared, Module, Names};
 use name_uses::ModuleParts;
 use pin_matching::{Unplaced, Wish, first_assignment};
 use pld_base::OutOfMemory;
-use pld_device::Device;
+use pld_device::{Device, Loaded};
 use std::alloc::Global;
 
 /// The number at a place.
@@ -83,6 +83,7 @@ struct Asked {
 /// What these signals ask for.
 fn ask<D: Device>(
     alloc: Global,
+    device: &Loaded<D>,
     source: &Module,
     names: &[Declared],
     signals: &[usize],
@@ -94,7 +95,7 @@ fn ask<D: Device>(
 {
     let parts = ModuleParts::new(alloc, source)?;
     let seen = seen_in(alloc, names, &parts, signals)?;
-    let wishes = wishes_of::<D>(alloc, names, signals, seen.read)?;
+    let wishes = wishes_of::<D>(alloc, device, names, signals, seen.read)?;
     Ok(Asked {
         wishes,
         enabled: seen.enabled,
@@ -104,6 +105,7 @@ fn ask<D: Device>(
 /// The module with pins for these signals.
 fn place_signals<D: Device>(
     alloc: Global,
+    device: &Loaded<D>,
     source: Module,
     names: &[Declared],
     signals: Vec<usize>,
@@ -116,7 +118,7 @@ fn place_signals<D: Device>(
     ensures refused { IfErr result (IsUnplaced D.table (view_module source)) }
 {
     let places = signals.as_slice();
-    let asked = ask::<D>(alloc, &source, names, places)?;
+    let asked = ask::<D>(alloc, device, &source, names, places)?;
     let wishes = asked.wishes.as_slice();
     match first_assignment(alloc, wishes) {
         Ok(pins) => {
@@ -133,7 +135,12 @@ fn place_signals<D: Device>(
 
 /// The module with a pin for each pin without a number and each buried register: itself if there aren't any. The names
 /// are what `declare` answers for it.
-pub fn place<D: Device>(alloc: Global, source: Module, names: &Names) -> Result<Module, PlaceFault>
+pub fn place<D: Device>(
+    alloc: Global,
+    device: &Loaded<D>,
+    source: Module,
+    names: &Names,
+) -> Result<Module, PlaceFault>
     requires names { entries_of names.now ≡ names_of D.table (view_module source) }
     requires accepted { name_refusals D.table (view_module source) ≡ [] }
     ensures placed { IfOk result (λ m. IsPlacedModule D.table (view_module source) (view_module m)) }
@@ -142,9 +149,9 @@ pub fn place<D: Device>(alloc: Global, source: Module, names: &Names) -> Result<
     ensures refused { IfErr result (IsUnplaced D.table (view_module source)) }
 {
     let list = names.list.as_slice();
-    let signals = to_place::<D>(alloc, list)?;
+    let signals = to_place::<D>(alloc, device, list)?;
     if signals.as_slice().is_empty() {
         return Ok(source);
     }
-    place_signals::<D>(alloc, source, list, signals)
+    place_signals::<D>(alloc, device, source, list, signals)
 }

@@ -13,7 +13,7 @@ loop-pin-preserved g c =
     let t = g.D.Device.table in
     let es = map view_declared c.args.names.now in
     let l = c.loop-pin in
-    let small : l.pin < 32 = omega (arith, c.loop-pin-test.true, c.PINS-pin-end.ensures, g.met.D.Device.pins_is, g.met.D.Device.sound.sizes.pins_high) in
+    let small : l.pin < 32 = omega (arith, c.loop-pin-test.true, c.pins-pin-end.ensures, g.D.Device.sound.sizes.pins_high) in
     elim c.if-is_pin_free.branch [
       | then-is_pin_free w ↦ subst (IsFreeTo t es (l.pin + 1)) (sym w.free-is) (free_more t es l.pin l.free w.with_level-free.result small w.with_level-free.ensures (sym c.is_pin_free.ensures ∙ w.if-is_pin_free.true) l.invariant)
       | else-is_pin_free w ↦ subst (IsFreeTo t es (l.pin + 1)) (sym w.free-is) (taken_more t es l.pin l.free small (sym c.is_pin_free.ensures ∙ w.if-is_pin_free.false) l.invariant)
@@ -23,4 +23,4 @@ pub returns : goal.returns
 returns g c =
     let t = g.D.Device.table in
     all_free t (map view_declared c.args.names.now) c.loop-pin.pin c.loop-pin.free
-    (omega (arith, c.loop-pin-test.false, c.PINS-pin-end.ensures, g.met.D.Device.pins_is)) g.met.D.Device.sound.sizes.pins_high c.loop-pin.invariant
+    (omega (arith, c.loop-pin-test.false, c.pins-pin-end.ensures)) g.D.Device.sound.sizes.pins_high c.loop-pin.invariant

@@ -53,7 +53,7 @@ returns-in_ok-rebuilt-in-Ok-clause-placed g c =
     let taken = subst (λ w. IsTaken w ps) c.as_slice-wishes.ensures.value c.in-Ok.ensures.taken in
     let marks = subst (λ xs. HasMarks xs (has_enable es m.sections) c.in_ok-asked.asked.enabled) c.as_slice-places.ensures.value c.in_ok-asked.ensures.enabled in
     let known = subst AreKnown (sym c.requires.names) (names_known t m c.requires.accepted) in
-    placed_by t m es c.requires.names c.requires.accepted ss ws c.requires.signals is g.met.D.Device.sound.sizes.pins_high c.requires.some ps taken
+    placed_by t m es c.requires.names c.requires.accepted ss ws c.requires.signals is g.D.Device.sound.sizes.pins_high c.requires.some ps taken
     (all_released es (has_enable es m.sections) (with_pins ss ps)) (view_module c.in_ok-rebuilt-in-Ok.rebuilt) refl (c.in_ok-rebuilt-in-Ok.ensures (has_enable es m.sections) marks known)
 
 pub returns-in_ok-told-in-Err-clause-refused : goal.returns-in_ok-told-in-Err-clause-refused

@@ -24,5 +24,5 @@ pub returns : goal.returns
 returns g c =
     let t = g.D.Device.table in
     let end = c.loop-index.auto.index-end in
-    let same : c.loop-index.index ≡ t.pins = omega (arith, c.loop-index-test.false, c.PINS-index-end.ensures, g.met.D.Device.pins_is, end) in
+    let same : c.loop-index.index ≡ t.pins = omega (arith, c.loop-index-test.false, c.pins-index-end.ensures, end) in
     c.loop-index.invariant ∙ ap (λ n. c.args.list.now.items ++ plain_to t n) same

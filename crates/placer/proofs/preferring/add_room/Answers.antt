@@ -10,7 +10,7 @@ loop-index-preserved g c =
     let t = g.D.Device.table in
     let l = c.loop-index in
     let old = c.args.list.now.items in
-    let within : l.index < length t.cells = omega (arith, c.loop-index-test.true, c.CELLS-index-end.ensures, g.met.D.Device.cells_is) in
+    let within : l.index < length t.cells = omega (arith, c.loop-index-test.true, c.cells-index-end.ensures) in
     let here = get_or_from_slice_get t.cells l.index c.cell-cell.result no_cell c.cell-cell.ensures in
     elim c.if-is_of_room.branch [
       | then-is_of_room+in_ok-push w ↦
@@ -26,5 +26,5 @@ loop-index-preserved g c =
 pub returns : goal.returns
 returns g c =
     let t = g.D.Device.table in
-    let past : length t.cells ≤ c.loop-index.index = omega (arith, c.loop-index-test.false, c.CELLS-index-end.ensures, g.met.D.Device.cells_is) in
+    let past : length t.cells ≤ c.loop-index.index = omega (arith, c.loop-index-test.false, c.cells-index-end.ensures) in
     c.loop-index.invariant ∙ ap (λ xs. c.args.list.now.items ++ xs) (whole_room t c.args.room c.loop-index.index past)

@@ -19,5 +19,5 @@ pub returns : goal.returns
 returns g c =
     let t = g.D.Device.table in
     let end = c.loop-room.auto.room-end in
-    let same : c.loop-room.room ≡ t.rows = omega (arith, c.loop-room-test.false, c.ROWS-room-end.ensures, g.met.D.Device.rows_is, end) in
+    let same : c.loop-room.room ≡ t.rows = omega (arith, c.loop-room-test.false, c.rows-room-end.ensures, end) in
     c.loop-room.invariant ∙ ap (λ n. c.args.list.now.items ++ small_to t n) same

@@ -5,7 +5,7 @@ use Rattle.placer.proofs.PinLists.{large_less}
 use Rattle.placer.proofs.preferring.large_cells.Goals as goal
 
 pub rooms-init : goal.rooms-init
-rooms-init g c = ap (λ xs. xs ++ large_to g.D.Device.table c.ROWS-room.result) c.new-list.ensures.items ∙ ap (large_to g.D.Device.table) (c.ROWS-room.ensures ∙ g.met.D.Device.rows_is)
+rooms-init g c = ap (λ xs. xs ++ large_to g.D.Device.table c.rows-room.result) c.new-list.ensures.items ∙ ap (large_to g.D.Device.table) (c.rows-room.ensures)
 
 pub rooms-preserved : goal.rooms-preserved
 rooms-preserved g c =
