@@ -48,7 +48,7 @@ pub fn gather<D: Device>(
         net,
         signals,
         links,
-    } = gather_up::<D>(alloc, names, found)?;
+    } = gather_up::<D>(alloc, scope.device(), names, found)?;
     check_chains(alloc, names, &net, signals.as_slice(), links.as_slice())?;
     Ok(net)
 }
