@@ -5,7 +5,7 @@ ghost use Rattle.fit_plans.specs.RowCubes.{fuse_at};
 ghost use Rattle.fit_plans.specs.FuseLists.{planned_fuse, fuse_level, fuses_of};
 
 use covers::Cube;
-use pld_device::Device;
+use pld_device::{Device, Loaded};
 use std::alloc::{AllocError, Global};
 
 /// The fuse of a column in the row of a cube.
@@ -29,14 +29,17 @@ fn row_fuse(plan: Option<Cube>, column: u16) -> bool
 }
 
 /// The level of a fuse, by what its row is to hold, or past the array by itself.
-fn fuse<D: Device>(plan: &[Option<Cube>], control: &[bool], fuse: u16) -> bool
+fn fuse<D: Device>(device: &Loaded<D>, plan: &[Option<Cube>], control: &[bool], fuse: u16) -> bool
     requires fuse { fuse < D.table.fuses }
     requires rows { length plan.now ≡ D.table.rows }
     requires control { length control.now ≡ D.table.fuses }
     ensures { result ≡ fuse_level D.table (λ row. get_or plan.now row None) (λ n. get_or control.now n false) fuse }
 {
-    if fuse < D::COLUMNS * D::ROWS {
-        row_fuse(plan[(fuse / D::COLUMNS) as usize], fuse % D::COLUMNS)
+    if fuse < device.columns() * device.rows() {
+        row_fuse(
+            plan[(fuse / device.columns()) as usize],
+            fuse % device.columns(),
+        )
     } else {
         control[fuse as usize]
     }
@@ -45,6 +48,7 @@ fn fuse<D: Device>(plan: &[Option<Cube>], control: &[bool], fuse: u16) -> bool
 /// The fuses of a device whose rows hold these cubes; those past the array have the levels of `control`.
 pub(crate) fn burn<D: Device>(
     alloc: Global,
+    device: &Loaded<D>,
     plan: &[Option<Cube>],
     control: &[bool],
 ) -> Result<Vec<bool>, AllocError>
@@ -53,8 +57,8 @@ pub(crate) fn burn<D: Device>(
     ensures { IfOk result (λ fuses. fuses.items ≡ fuses_of D.table (λ row. get_or plan.now row None) (λ n. get_or control.now n false)) }
 {
     let mut fuses = Vec::new(alloc);
-    for number in 0..D::FUSES {
-        fuses.push(fuse::<D>(plan, control, number))?;
+    for number in 0..device.fuses() {
+        fuses.push(fuse::<D>(device, plan, control, number))?;
     }
     Ok(fuses)
 }

@@ -6,7 +6,7 @@ ghost use Rattle.fit_plans.specs.declared.control_fuses.CellForm.{CellForm};
 ghost use Rattle.fit_plans.specs.Controls.{IsBurned, IsControlLevel, IsFoundFor, IsNoCells, control_level, told_by};
 
 use crate::plan::{Plan, planned, planned_fuses};
-use pld_device::{Device, FuseBit};
+use pld_device::{Device, FuseBit, Loaded};
 use std::alloc::{AllocError, Global};
 
 /// What the control fuses of a cell are to say.
@@ -27,18 +27,23 @@ fn told(bit: Option<FuseBit>, fuse: u16, told: bool) -> Option<bool>
 }
 
 /// The level of the fuse if it is a cell's.
-fn cell_level<D: Device>(plan: &Plan, forms: &[CellForm], fuse: u16) -> Option<bool>
+fn cell_level<D: Device>(
+    device: &Loaded<D>,
+    plan: &Plan,
+    forms: &[CellForm],
+    fuse: u16,
+) -> Option<bool>
     requires { length forms.now ≡ length D.table.cells }
     ensures found { IsFoundFor D.table (control_level D.table plan.now forms.now) fuse result }
     ensures none { result ≡ None → (c : ℕ) → c < length D.table.cells → IsNoCells D.table fuse c }
 {
-    for index in 0..D::CELLS {
+    for index in 0..device.cells() {
         let form = forms[index as usize];
-        let inverted = told(D::inverted_at(index), fuse, form.inverted);
+        let inverted = told(device.inverted_at(index), fuse, form.inverted);
         if inverted.is_some() {
             return inverted;
         }
-        let registered = told(D::registered_at(index), fuse, form.registered);
+        let registered = told(device.registered_at(index), fuse, form.registered);
         if registered.is_some() {
             return registered;
         }
@@ -47,13 +52,13 @@ fn cell_level<D: Device>(plan: &Plan, forms: &[CellForm], fuse: u16) -> Option<b
 }
 
 /// The level of the fuse if it switches a row on.
-fn switch_level<D: Device>(plan: &Plan, fuse: u16) -> Option<bool>
+fn switch_level<D: Device>(device: &Loaded<D>, plan: &Plan, fuse: u16) -> Option<bool>
     ensures found { (forms : List CellForm) → IsFoundFor D.table (control_level D.table plan.now forms) fuse result }
     ensures none { result ≡ None → (row : ℕ) → row < D.table.rows → fuse_for D.table (Switches row) ≡ Some fuse → ⊥ }
 {
-    for row in 0..D::ROWS {
-        if D::row_switch(row) == Some(fuse) {
-            return Some(planned::<D>(plan, row).is_some());
+    for row in 0..device.rows() {
+        if device.row_switch(row) == Some(fuse) {
+            return Some(planned::<D>(device, plan, row).is_some());
         }
     }
     None
@@ -63,12 +68,12 @@ fn switch_level<D: Device>(plan: &Plan, fuse: u16) -> Option<bool>
 const FIXED: u16 = 16;
 
 /// The level of the fuse if it is fixed.
-fn fixed_level<D: Device>(plan: &Plan, fuse: u16) -> Option<bool>
+fn fixed_level<D: Device>(device: &Loaded<D>, plan: &Plan, fuse: u16) -> Option<bool>
     ensures found { (forms : List CellForm) → IsFoundFor D.table (control_level D.table plan.now forms) fuse result }
     ensures none { result ≡ None → (index : ℕ) → index < 16 → fuse_for D.table (IsFixed index) ≡ Some fuse → ⊥ }
 {
     for index in 0..FIXED {
-        let level = told(D::fixed(index), fuse, true);
+        let level = told(device.fixed(index), fuse, true);
         if level.is_some() {
             return level;
         }
@@ -77,30 +82,31 @@ fn fixed_level<D: Device>(plan: &Plan, fuse: u16) -> Option<bool>
 }
 
 /// The level of a fuse past the array.
-fn control_level<D: Device>(plan: &Plan, forms: &[CellForm], fuse: u16) -> bool
+fn control_level<D: Device>(device: &Loaded<D>, plan: &Plan, forms: &[CellForm], fuse: u16) -> bool
     requires { length forms.now ≡ length D.table.cells }
     ensures { IsControlLevel D.table plan.now forms.now fuse result }
 {
-    if let Some(level) = cell_level::<D>(plan, forms, fuse) {
+    if let Some(level) = cell_level::<D>(device, plan, forms, fuse) {
         return level;
     }
-    if let Some(level) = switch_level::<D>(plan, fuse) {
+    if let Some(level) = switch_level::<D>(device, plan, fuse) {
         return level;
     }
-    fixed_level::<D>(plan, fuse).unwrap_or(false)
+    fixed_level::<D>(device, plan, fuse).unwrap_or(false)
 }
 
 /// The level of a fuse past the array; within it, 0.
-fn level_past<D: Device>(plan: &Plan, forms: &[CellForm], fuse: u16) -> bool
+fn level_past<D: Device>(device: &Loaded<D>, plan: &Plan, forms: &[CellForm], fuse: u16) -> bool
     requires { length forms.now ≡ length D.table.cells }
     ensures { D.table.columns * D.table.rows ≤ fuse → IsControlLevel D.table plan.now forms.now fuse result }
 {
-    fuse >= D::COLUMNS * D::ROWS && control_level::<D>(plan, forms, fuse)
+    fuse >= device.columns() * device.rows() && control_level::<D>(device, plan, forms, fuse)
 }
 
 /// The levels of all fuses past the array, after a 0 for each of its fuses.
 fn control_levels<D: Device>(
     alloc: Global,
+    device: &Loaded<D>,
     plan: &Plan,
     forms: &[CellForm],
 ) -> Result<Vec<bool>, AllocError>
@@ -109,8 +115,8 @@ fn control_levels<D: Device>(
     ensures levels { IfOk result (λ levels. (n : ℕ) → D.table.columns * D.table.rows ≤ n → n < D.table.fuses → IsControlLevel D.table plan.now forms.now n (is_on levels.items n)) }
 {
     let mut levels = Vec::new(alloc);
-    for number in 0..D::FUSES {
-        levels.push(level_past::<D>(plan, forms, number))?;
+    for number in 0..device.fuses() {
+        levels.push(level_past::<D>(device, plan, forms, number))?;
     }
     Ok(levels)
 }
@@ -120,13 +126,14 @@ fn control_levels<D: Device>(
 /// 0.
 pub fn device_fuses<D: Device>(
     alloc: Global,
+    device: &Loaded<D>,
     plan: &Plan,
     forms: &[CellForm],
 ) -> Result<Vec<bool>, AllocError>
     requires { length forms.now ≡ length D.table.cells }
     ensures { IfOk result (λ fuses. IsBurned D.table plan.now forms.now fuses.items) }
 {
-    let levels = control_levels::<D>(alloc, plan, forms)?;
-    let fuses = planned_fuses::<D>(alloc, plan, &levels)?;
+    let levels = control_levels::<D>(alloc, device, plan, forms)?;
+    let fuses = planned_fuses::<D>(alloc, device, plan, &levels)?;
     Ok(fuses)
 }

@@ -8,7 +8,7 @@ ghost use Rattle.fit_plans.specs.Planned.{IsPlanned};
 use crate::burning::burn;
 use covers::Cube;
 use pld_base::ListOf;
-use pld_device::{Cell, Device, Enable};
+use pld_device::{Cell, Device, Enable, Loaded};
 use std::alloc::{AllocError, Global};
 
 /// What a row is for: data of a cell, by its place among these, its enable, or the reset or preset of all cells.
@@ -53,11 +53,11 @@ fn enables(cell: Cell, row: u16) -> bool
 }
 
 /// Whose the row is.
-fn owner_of<D: Device>(row: u16) -> Owner
+fn owner_of<D: Device>(device: &Loaded<D>, row: u16) -> Owner
     ensures { result ≡ owner D.table row }
 {
-    for index in 0..D::CELLS {
-        let cell = D::cell(index);
+    for index in 0..device.cells() {
+        let cell = device.cell(index);
         if is_data(cell, row) {
             return Owner::Data(index, row - cell.first);
         }
@@ -65,9 +65,9 @@ fn owner_of<D: Device>(row: u16) -> Owner
             return Owner::Enabling(index);
         }
     }
-    if D::RESET == Some(row) {
+    if device.reset() == Some(row) {
         Owner::Reset
-    } else if D::PRESET == Some(row) {
+    } else if device.preset() == Some(row) {
         Owner::Preset
     } else {
         Owner::Nobody
@@ -94,19 +94,23 @@ fn cube_for(plan: &Plan, owner: Owner) -> Option<Cube>
 }
 
 /// What a row is to hold. Takes no memory.
-pub(crate) fn planned<D: Device>(plan: &Plan, row: u16) -> Option<Cube>
+pub(crate) fn planned<D: Device>(device: &Loaded<D>, plan: &Plan, row: u16) -> Option<Cube>
     ensures { result ≡ planned D.table plan.now row }
 {
-    cube_for(plan, owner_of::<D>(row))
+    cube_for(plan, owner_of::<D>(device, row))
 }
 
 /// What each row is to hold.
-fn plan_rows<D: Device>(alloc: Global, plan: &Plan) -> Result<Vec<Option<Cube>>, AllocError>
+fn plan_rows<D: Device>(
+    alloc: Global,
+    device: &Loaded<D>,
+    plan: &Plan,
+) -> Result<Vec<Option<Cube>>, AllocError>
     ensures { IfOk result (λ rows. rows.items ≡ map (planned D.table plan.now) (range_with_len 0 D.table.rows)) }
 {
     let mut rows = Vec::new(alloc);
-    for row in 0..D::ROWS {
-        rows.push(planned::<D>(plan, row))?;
+    for row in 0..device.rows() {
+        rows.push(planned::<D>(device, plan, row))?;
     }
     Ok(rows)
 }
@@ -115,13 +119,14 @@ fn plan_rows<D: Device>(alloc: Global, plan: &Plan) -> Result<Vec<Option<Cube>>,
 /// holds nothing is all 0. The fuses past the array are those of `control`.
 pub fn planned_fuses<D: Device>(
     alloc: Global,
+    device: &Loaded<D>,
     plan: &Plan,
     control: &[bool],
 ) -> Result<Vec<bool>, AllocError>
     requires { length control.now ≡ D.table.fuses }
     ensures { IfOk result (λ fuses. IsPlanned D.table plan.now control.now fuses.items) }
 {
-    let rows = plan_rows::<D>(alloc, plan)?;
-    let fuses = burn::<D>(alloc, &rows, control)?;
+    let rows = plan_rows::<D>(alloc, device, plan)?;
+    let fuses = burn::<D>(alloc, device, &rows, control)?;
     Ok(fuses)
 }

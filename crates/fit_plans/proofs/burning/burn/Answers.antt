@@ -10,4 +10,4 @@ loop-number-preserved g c =
 pub returns : goal.returns
 returns g c =
     all_fuses g.D.Device.table (λ row. get_or c.args.plan.now row None) (λ n. get_or c.args.control.now n false) c.loop-number.number c.loop-number.fuses.items
-    (omega (arith, c.loop-number.auto.number-end, c.loop-number-test.false, c.FUSES-number-end.ensures, g.met.D.Device.fuses_is)) c.loop-number.invariant.fuses
+    (omega (arith, c.loop-number.auto.number-end, c.loop-number-test.false, c.fuses-number-end.ensures)) c.loop-number.invariant.fuses

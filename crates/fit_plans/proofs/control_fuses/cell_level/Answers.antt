@@ -23,4 +23,4 @@ loop-index-preserved g c = record {
 
 pub returns-clause-none : goal.returns-clause-none
 returns-clause-none g c =
-    λ is k low. c.loop-index.invariant.none k (omega (arith, low, c.loop-index.auto.index-end, c.loop-index-test.false, c.CELLS-index-end.ensures, g.met.D.Device.cells_is))
+    λ is k low. c.loop-index.invariant.none k (omega (arith, low, c.loop-index.auto.index-end, c.loop-index-test.false, c.cells-index-end.ensures))

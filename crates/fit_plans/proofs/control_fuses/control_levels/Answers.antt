@@ -15,8 +15,8 @@ loop-number-preserved g c = record {
 
 pub returns-clause-size : goal.returns-clause-size
 returns-clause-size g c =
-    c.loop-number.invariant.size ∙ omega (arith, c.loop-number.auto.number-end, c.loop-number-test.false, c.FUSES-number-end.ensures, g.met.D.Device.fuses_is)
+    c.loop-number.invariant.size ∙ omega (arith, c.loop-number.auto.number-end, c.loop-number-test.false, c.fuses-number-end.ensures)
 
 pub returns-clause-levels : goal.returns-clause-levels
 returns-clause-levels g c =
-    λ n out low. c.loop-number.invariant.levels n out (omega (arith, low, c.loop-number.auto.number-end, c.loop-number-test.false, c.FUSES-number-end.ensures, g.met.D.Device.fuses_is))
+    λ n out low. c.loop-number.invariant.levels n out (omega (arith, low, c.loop-number.auto.number-end, c.loop-number-test.false, c.fuses-number-end.ensures))

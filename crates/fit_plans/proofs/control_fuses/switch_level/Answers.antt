@@ -18,4 +18,4 @@ loop-row-preserved g c = record {
 
 pub returns-clause-none : goal.returns-clause-none
 returns-clause-none g c =
-    λ is k low. c.loop-row.invariant.none k (omega (arith, low, c.loop-row.auto.row-end, c.loop-row-test.false, c.ROWS-row-end.ensures, g.met.D.Device.rows_is))
+    λ is k low. c.loop-row.invariant.none k (omega (arith, low, c.loop-row.auto.row-end, c.loop-row-test.false, c.rows-row-end.ensures))

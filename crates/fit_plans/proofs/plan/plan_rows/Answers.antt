@@ -10,4 +10,4 @@ loop-row-preserved g c =
 pub returns : goal.returns
 returns g c =
     c.loop-row.invariant.rows
-    ∙ ap (λ n. map (planned g.D.Device.table c.args.plan.now) (range_with_len 0 n)) (omega (arith, c.loop-row.auto.row-end, c.loop-row-test.false, c.ROWS-row-end.ensures, g.met.D.Device.rows_is))
+    ∙ ap (λ n. map (planned g.D.Device.table c.args.plan.now) (range_with_len 0 n)) (omega (arith, c.loop-row.auto.row-end, c.loop-row-test.false, c.rows-row-end.ensures))

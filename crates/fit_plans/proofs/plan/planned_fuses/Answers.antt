@@ -9,4 +9,4 @@ burn-requires-clause-rows g c =
 
 pub returns : goal.returns
 returns g c =
-    is_planned g.D.Device.table g.met.D.Device.sound c.args.plan.now c.deref.result.now c.args.control.now c.in_ok-fuses.fuses.items (c.deref.ensures.value ∙ c.in_ok-rows.ensures) c.in_ok-fuses.ensures
+    is_planned g.D.Device.table g.D.Device.sound c.args.plan.now c.deref.result.now c.args.control.now c.in_ok-fuses.fuses.items (c.deref.ensures.value ∙ c.in_ok-rows.ensures) c.in_ok-fuses.ensures
