@@ -12,7 +12,7 @@ use crate::sound_fit::SoundFit;
 use bit_expr::{CellWanted, Control, ExprId, Netlist};
 use covers::Cube;
 use fit_plans::{Tried, Workspace, has_lists};
-use pld_device::Device;
+use pld_device::{Device, Loaded};
 use sop_lowering::{LowerFault, lower};
 use std::alloc::{AllocError, Global};
 
@@ -88,7 +88,7 @@ pub(crate) fn cover_cell<D: Device>(
     requires can { CanCoverCell D.table fit.now.over.net.now wanted }
     ensures { IsCovered D.table fit.now.over.turned fit.now.over.net.now wanted result }
 {
-    let room = D::cell(wanted.cell).room as usize;
+    let room = fit.device.cell(wanted.cell).room as usize;
     let tried = fit.over.try_cell(space, &wanted, room)?;
     if has_none(&tried) {
         return Err(LowerFault::TooWide);
@@ -106,6 +106,7 @@ pub(crate) fn cover_cell<D: Device>(
 /// Whether the cell's function has written lists in some form that the cell may have.
 fn has_form<D: Device>(
     alloc: Global,
+    device: &Loaded<D>,
     net: &Netlist,
     wanted: &CellWanted,
 ) -> Result<bool, AllocError>
@@ -114,11 +115,11 @@ fn has_form<D: Device>(
     ensures fits { result ≡ Ok true → IsFunctionTooWide D.table net.now wanted.now → ⊥ }
     ensures wide { result ≡ Ok false → IsFunctionTooWide D.table net.now wanted.now }
 {
-    let direct = has_lists(alloc, net, wanted, D::FLIP, false)?;
+    let direct = has_lists(alloc, net, wanted, device.flip(), false)?;
     if direct {
         return Ok(true);
     }
-    has_lists(alloc, net, wanted, D::FLIP, true)
+    has_lists(alloc, net, wanted, device.flip(), true)
 }
 
 /// The cover of a cell's enable, without those of its function; TooWide if this has no written lists in any form, or a
@@ -132,7 +133,7 @@ fn check_cell<D: Device>(
     requires can { CanCoverCell D.table fit.now.over.net.now wanted }
     ensures { IsChecked D.table fit.now.over.turned fit.now.over.net.now wanted result }
 {
-    let fits = has_form::<D>(space.alloc, fit.over.net, &wanted)?;
+    let fits = has_form::<D>(space.alloc, fit.device, fit.over.net, &wanted)?;
     if !fits {
         return Err(LowerFault::TooWide);
     }

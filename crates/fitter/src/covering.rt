@@ -12,7 +12,7 @@ use crate::sound_fit::SoundFit;
 use crate::widest::first_wide;
 use covers::Cube;
 use fit_plans::Workspace;
-use pld_device::Device;
+use pld_device::{Device, Loaded};
 use sop_lowering::LowerFault;
 use std::alloc::Global;
 
@@ -27,19 +27,25 @@ fn fits(cover: &Option<Vec<Cube>>, room: usize) -> bool
 }
 
 /// Whether no cover of the cell fits its room.
-fn is_over<D: Device>(cell: u8, covers: &Option<CellCovers>) -> bool
+fn is_over<D: Device>(device: &Loaded<D>, cell: u8, covers: &Option<CellCovers>) -> bool
     requires { cell < length D.table.cells }
     ensures { result ≡ true → OneFitsAt D.table cell covers.now → ⊥ }
 {
     let Some(found) = covers else {
         return false;
     };
-    let room = D::cell(cell).room as usize;
+    let room = device.cell(cell).room as usize;
     !fits(&found.tried.direct, room) && !fits(&found.tried.inverted, room)
 }
 
 /// Whether a cell is refused for its rows: one before, or else this one if that is asked.
-fn is_refused<D: Device>(before: bool, stops: bool, cell: u8, covers: &Option<CellCovers>) -> bool
+fn is_refused<D: Device>(
+    device: &Loaded<D>,
+    before: bool,
+    stops: bool,
+    cell: u8,
+    covers: &Option<CellCovers>,
+) -> bool
     requires { cell < length D.table.cells }
     ensures over { result ≡ true → (before ≡ true) ⊎ (OneFitsAt D.table cell covers.now → ⊥) }
     ensures goes_on { before ≡ false → stops ≡ false → result ≡ false }
@@ -47,7 +53,7 @@ fn is_refused<D: Device>(before: bool, stops: bool, cell: u8, covers: &Option<Ce
     if before {
         return true;
     }
-    stops && is_over::<D>(cell, covers)
+    stops && is_over::<D>(device, cell, covers)
 }
 
 /// The covers of the cell of a number; after a cell that is refused only that of its enable.
@@ -81,10 +87,10 @@ pub(crate) fn cover_cells<D: Device>(
 {
     let mut list = Vec::new(space.alloc);
     let mut refused = false;
-    for cell in 0..D::CELLS {
+    for cell in 0..fit.device.cells() {
         match next_covers(space, fit, cell, refused) {
             Ok(covers) => {
-                refused = is_refused::<D>(refused, stops, cell, &covers);
+                refused = is_refused::<D>(fit.device, refused, stops, cell, &covers);
                 list.push(covers)?;
             }
             Err(LowerFault::TooWide) => {

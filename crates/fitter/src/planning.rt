@@ -7,7 +7,7 @@ use crate::cell_covering::CellCovers;
 use crate::fault::FitFault;
 use fit_plans::{CellForm, CellPlan, choose};
 use pld_base::ListOf;
-use pld_device::Device;
+use pld_device::{Device, Loaded};
 use std::alloc::Global;
 
 /// A cell's rows and its form.
@@ -25,13 +25,17 @@ pub(crate) struct AllRows {
 }
 
 /// The rows of an assigned cell: those of its direct form if they fit its room, else those of the inverted one.
-fn chosen_rows<D: Device>(cell: u8, covers: CellCovers) -> Result<CellRows, FitFault>
+fn chosen_rows<D: Device>(
+    device: &Loaded<D>,
+    cell: u8,
+    covers: CellCovers,
+) -> Result<CellRows, FitFault>
     requires { cell < length D.table.cells }
     ensures { ArePlannedAt D.table cell (Some covers) result }
 {
     let enable = covers.enable.first().copied();
     let registered = covers.wanted.registered;
-    match choose(covers.tried, D::cell(cell).room as usize) {
+    match choose(covers.tried, device.cell(cell).room as usize) {
         Ok(chosen) => Ok(CellRows {
             plan: CellPlan {
                 enable,
@@ -65,6 +69,7 @@ fn no_rows(alloc: Global) -> CellRows
 /// The rows of a cell by its covers; no rows if it has none.
 fn rows_of<D: Device>(
     alloc: Global,
+    device: &Loaded<D>,
     cell: u8,
     covers: Option<CellCovers>,
 ) -> Result<CellRows, FitFault>
@@ -72,7 +77,7 @@ fn rows_of<D: Device>(
     ensures { ArePlannedAt D.table cell covers result }
 {
     match covers {
-        Some(found) => chosen_rows::<D>(cell, found),
+        Some(found) => chosen_rows::<D>(device, cell, found),
         None => Ok(no_rows(alloc)),
     }
 }
@@ -90,6 +95,7 @@ pub(crate) fn taken(left: &mut Vec<Option<CellCovers>>, cell: usize) -> Option<C
 /// The rows and forms of all cells, or the first cell whose covers do not fit.
 pub(crate) fn plan_cells<D: Device>(
     alloc: Global,
+    device: &Loaded<D>,
     covers: Vec<Option<CellCovers>>,
 ) -> Result<AllRows, FitFault>
     requires { length covers.items ≡ length D.table.cells }
@@ -98,9 +104,9 @@ pub(crate) fn plan_cells<D: Device>(
     let mut left = covers;
     let mut plans = Vec::new(alloc);
     let mut forms = Vec::new(alloc);
-    for cell in 0..D::CELLS {
+    for cell in 0..device.cells() {
         let found = taken(&mut left, cell as usize);
-        let rows = rows_of::<D>(alloc, cell, found)?;
+        let rows = rows_of::<D>(alloc, device, cell, found)?;
         plans.push(rows.plan)?;
         forms.push(rows.form)?;
     }

@@ -5,7 +5,7 @@ ghost use Rattle.fitter.specs.Prelude.{IsPermutation, fuse_at};
 ghost use Rattle.fitter.specs.Rows.{Rises, row_number};
 
 use covers::Cube;
-use pld_device::Device;
+use pld_device::{Device, Loaded};
 
 /// The fuse of a column in the row of a cube.
 fn column_fuse(cube: Cube, column: u16) -> bool
@@ -38,14 +38,14 @@ fn row_number(cube: Cube, columns: u16) -> u64
 }
 
 /// All its fuses as a number.
-fn number_of<D: Device>(cube: Cube) -> u64
+fn number_of<D: Device>(device: &Loaded<D>, cube: Cube) -> u64
     ensures { result ≡ row_number D.table.columns cube }
 {
-    row_number(cube, D::COLUMNS)
+    row_number(cube, device.columns())
 }
 
 /// The rows in rising order of their fuses as text. Takes no memory.
-pub(crate) fn risen<D: Device>(rows: Vec<Cube>) -> Vec<Cube>
+pub(crate) fn risen<D: Device>(device: &Loaded<D>, rows: Vec<Cube>) -> Vec<Cube>
     ensures same { IsPermutation rows.items result.items }
     ensures rise { Rises D.table.columns result.items }
 {
@@ -53,7 +53,7 @@ pub(crate) fn risen<D: Device>(rows: Vec<Cube>) -> Vec<Cube>
     rows.sort_unstable_by_key(
         |cube| -> u64
             ensures { result ≡ row_number D.table.columns cube.now }
-        { number_of::<D>(*cube) },
+        { number_of::<D>(device, *cube) },
     );
     rows
 }

@@ -15,9 +15,8 @@ use crate::sound_fit::SoundFit;
 use bit_expr::Netlist;
 use fit_plans::{Covering, Tried, Workspace, choose};
 use pld_base::{ListOf, OutOfMemory};
-use pld_device::Device;
+use pld_device::{Device, Loaded};
 use std::alloc::Global;
-use std::marker::PhantomData;
 
 /// A cell with too few rows: its pin, its room, and how many rows the smaller one of its covers has.
 #[derive(Clone, Copy)]
@@ -47,13 +46,13 @@ fn fewest(tried: &Tried) -> Option<usize>
 }
 
 /// Whether the covers of a cell are over its room, and by how much.
-fn overfull_at<D: Device>(cell: u8, covers: CellCovers) -> Option<Overfull>
+fn overfull_at<D: Device>(device: &Loaded<D>, cell: u8, covers: CellCovers) -> Option<Overfull>
     requires cell { cell < length D.table.cells }
     requires some { HasSomeCover (Some covers) }
     ensures over { IfSome result IsOver }
     ensures told { IsToldBy D.table cell (Some covers) result }
 {
-    let found = D::cell(cell);
+    let found = device.cell(cell);
     match choose(covers.tried, usize::from(found.room)) {
         Ok(_) => None,
         Err(tried) => match fewest(&tried) {
@@ -69,6 +68,7 @@ fn overfull_at<D: Device>(cell: u8, covers: CellCovers) -> Option<Overfull>
 
 /// Adds a cell that is over its room.
 fn add_overfull<D: Device>(
+    device: &Loaded<D>,
     list: &mut Vec<Overfull>,
     cell: u8,
     covers: Option<CellCovers>,
@@ -82,7 +82,7 @@ fn add_overfull<D: Device>(
     let Some(covers) = covers else {
         return Ok(());
     };
-    if let Some(over) = overfull_at::<D>(cell, covers) {
+    if let Some(over) = overfull_at::<D>(device, cell, covers) {
         list.push(over)?;
     }
     Ok(())
@@ -91,6 +91,7 @@ fn add_overfull<D: Device>(
 /// The cells of a netlist that are over their room, in the order of the cells. It makes one pool for all covers.
 pub fn cells_over_room<D: Device>(
     alloc: Global,
+    device: &Loaded<D>,
     net: &Netlist,
 ) -> Result<ListOf<Overfull>, FitFault>
     requires { IsSoundNetlist D.table net.now }
@@ -98,21 +99,21 @@ pub fn cells_over_room<D: Device>(
     ensures told { AreOverfull D.table net.now result }
 {
     let mut space = Workspace::new(alloc)?;
-    let turned = turn_mask::<D>(net);
+    let turned = turn_mask::<D>(device, net);
     let fit = SoundFit::<D> {
         over: Covering {
             net,
-            flip: D::FLIP,
+            flip: device.flip(),
             turned,
-            vars: pair_count::<D>(),
+            vars: pair_count::<D>(device),
         },
-        device: PhantomData,
+        device,
     };
     let mut left = cover_cells(&mut space, &fit, false)?;
     let mut list = Vec::new(alloc);
-    for cell in 0..D::CELLS {
+    for cell in 0..device.cells() {
         let covers = taken(&mut left, cell as usize);
-        add_overfull::<D>(&mut list, cell, covers)?;
+        add_overfull::<D>(device, &mut list, cell, covers)?;
     }
     Ok(ListOf::from_vec(list))
 }

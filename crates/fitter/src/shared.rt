@@ -5,7 +5,7 @@ ghost use Rattle.fitter.specs.Plans.{cell_wanted};
 ghost use Rattle.fitter.specs.Sharing.{own_control};
 
 use bit_expr::{CellWanted, Control, Netlist};
-use pld_device::Device;
+use pld_device::{Device, Loaded};
 
 /// What all registers share.
 #[derive(Clone, Copy, Debug, PartialEq, Eq)]
@@ -37,8 +37,8 @@ pub fn own_control(which: SharedControl, wanted: &CellWanted) -> Option<Control>
 }
 
 /// How many pairs of columns the device has. Takes no memory.
-pub fn pair_count<D: Device>() -> u8
+pub fn pair_count<D: Device>(device: &Loaded<D>) -> u8
     ensures { result ≡ length D.table.pairs }
 {
-    (D::COLUMNS / 2) as u8
+    (device.columns() / 2) as u8
 }

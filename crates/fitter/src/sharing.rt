@@ -105,7 +105,7 @@ fn same_for_all<D: Device>(
     ensures { Shares D.table fit.now.over.net.now which result }
 {
     let rows = listed::<D>(space.alloc, fit.over.net, bit)?;
-    for cell in 0..D::CELLS {
+    for cell in 0..fit.device.cells() {
         if let Some(levels) = apart_at(space, fit, which, cell, &rows)? {
             let point = valued_point::<D>(space.alloc, fit.over.net, levels)?;
             return Err(Stop::Refused(NotShared {

@@ -3,14 +3,13 @@
 ghost use Rattle.std.specs.Prelude.{◌≡◌, length};
 
 use fit_plans::Covering;
-use pld_device::Device;
-use std::marker::PhantomData;
+use pld_device::{Device, Loaded};
 
 /// A netlist over the pairs of a device, of which those of the registers carry the complement.
 #[derive(Drop)]
 pub struct SoundFit<'a, D: Device> {
     pub over: Covering<'a>,
-    pub device: PhantomData<D>,
+    pub device: &'a Loaded<D>,
     pub ghost flip: { over.flip ≡ D.table.flip },
     pub ghost pairs: { over.vars ≡ length D.table.pairs },
 }

@@ -15,7 +15,7 @@ use bit_expr::Netlist;
 use covers::Cube;
 use fit_plans::{CellForm, CellPlan, all_turned, turned};
 use pld_base::{ListOf, with_level};
-use pld_device::{Carry, Device};
+use pld_device::{Carry, Device, Loaded};
 use std::alloc::{AllocError, Global};
 
 /// Whether the form of a cell is the inverted one.
@@ -39,23 +39,28 @@ fn is_chosen(net: &Netlist, forms: &[CellForm], cell: u8) -> bool
 }
 
 /// Whether the pair carries such a cell.
-fn carries_choice<D: Device>(net: &Netlist, forms: &[CellForm], pair: u8) -> bool
+fn carries_choice<D: Device>(
+    device: &Loaded<D>,
+    net: &Netlist,
+    forms: &[CellForm],
+    pair: u8,
+) -> bool
     requires { pair < length D.table.pairs }
     ensures { result ≡ carries_choice net.now forms.now (get_or D.table.pairs pair (carry.Pin 0)) }
 {
-    match D::carries(u16::from(pair)) {
+    match device.carries(u16::from(pair)) {
         Carry::Pin(_) => false,
         Carry::Cell(cell) => is_chosen(net, forms, cell),
     }
 }
 
 /// Bit v says that pair v carries such a cell.
-pub(crate) fn choice_mask<D: Device>(net: &Netlist, forms: &[CellForm]) -> u32
+pub(crate) fn choice_mask<D: Device>(device: &Loaded<D>, net: &Netlist, forms: &[CellForm]) -> u32
     ensures { IsChoiceMask D.table net.now forms.now result }
 {
     let mut mask = 0;
-    for pair in 0..pair_count::<D>() {
-        let on = carries_choice::<D>(net, forms, pair);
+    for pair in 0..pair_count::<D>(device) {
+        let on = carries_choice::<D>(device, net, forms, pair);
         mask = with_level(mask, pair, on);
     }
     mask
@@ -72,19 +77,25 @@ pub(crate) fn turned_row(row: Option<Cube>, mask: u32) -> Option<Cube>
 }
 
 /// The rows of a cell with the levels of these pairs exchanged, in order.
-fn turned_cell<D: Device>(alloc: Global, plan: &CellPlan, mask: u32) -> Result<CellPlan, AllocError>
+fn turned_cell<D: Device>(
+    alloc: Global,
+    device: &Loaded<D>,
+    plan: &CellPlan,
+    mask: u32,
+) -> Result<CellPlan, AllocError>
     ensures { IfOk result (IsTurnedCell D.table mask plan.now) }
 {
     let rows = all_turned(alloc, plan.rows.as_slice(), mask)?;
     Ok(CellPlan {
         enable: turned_row(plan.enable, mask),
-        rows: ListOf::from_vec(risen::<D>(rows)),
+        rows: ListOf::from_vec(risen::<D>(device, rows)),
     })
 }
 
 /// Those of all cells.
 pub(crate) fn turned_plans<D: Device>(
     alloc: Global,
+    device: &Loaded<D>,
     plans: &[CellPlan],
     mask: u32,
 ) -> Result<Vec<CellPlan>, AllocError>
@@ -92,7 +103,7 @@ pub(crate) fn turned_plans<D: Device>(
 {
     let mut list = Vec::new(alloc);
     for plan in plans {
-        let cell = turned_cell::<D>(alloc, plan, mask)?;
+        let cell = turned_cell::<D>(alloc, device, plan, mask)?;
         list.push(cell)?;
     }
     Ok(list)

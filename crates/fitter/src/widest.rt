@@ -82,7 +82,7 @@ pub fn first_wide<D: Device>(
         unreachable!()
     };
     let mut first = wanted;
-    for later in cell..D::CELLS {
+    for later in cell..fit.device.cells() {
         first = earlier(space, fit, first, later)?;
     }
     Ok(first.cell)

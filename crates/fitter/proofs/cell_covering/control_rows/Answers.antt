@@ -3,7 +3,7 @@ use Rattle.fitter.proofs.cell_covering.control_rows.Goals as goal
 
 pub control_cover-requires : goal.control_cover-requires
 control_cover-requires g c =
-    can_cover_control g.D.Device.table g.met.D.Device.sound c.args.fit.now.over.net.now c.requires.sound c.args.bit c.args.fit.now.over.vars c.args.fit.now.pairs c.requires.id
+    can_cover_control g.D.Device.table g.D.Device.sound c.args.fit.now.over.net.now c.requires.sound c.args.bit c.args.fit.now.over.vars c.args.fit.now.pairs c.requires.id
 
 pub returns-in-Some : goal.returns-in-Some
 returns-in-Some g c =

@@ -5,7 +5,7 @@ use Rattle.fitter.proofs.cell_covering.cover_cell.Goals as goal
 
 pub try_cell-requires : goal.try_cell-requires
 try_cell-requires g c =
-    can_cover g.D.Device.table g.met.D.Device.sound c.args.fit.now.over.net.now c.requires.sound c.args.wanted.function c.args.fit.now.over.vars c.args.fit.now.pairs c.requires.can.one c.requires.can.any
+    can_cover g.D.Device.table g.D.Device.sound c.args.fit.now.over.net.now c.requires.sound c.args.wanted.function c.args.fit.now.over.vars c.args.fit.now.pairs c.requires.can.one c.requires.can.any
 
 pub returns-then-has_none : goal.returns-then-has_none
 returns-then-has_none g c =

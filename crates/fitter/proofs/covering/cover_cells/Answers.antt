@@ -32,7 +32,7 @@ loop-cell-preserved g c =
     }
 
 pub is_refused-refused-requires : goal.is_refused-refused-requires
-is_refused-refused-requires g c = omega (arith, c.loop-cell-test.true, c.CELLS-cell-end.ensures, g.met.D.Device.cells_is)
+is_refused-refused-requires g c = omega (arith, c.loop-cell-test.true, c.cells-cell-end.ensures)
 
 pub first_wide-requires-clause-wide : goal.first_wide-requires-clause-wide
 first_wide-requires-clause-wide g c =
@@ -41,10 +41,10 @@ first_wide-requires-clause-wide g c =
 pub returns-clause-covered : goal.returns-clause-covered
 returns-clause-covered g c =
     subst (λ n. CoversBelow g.D.Device.table c.args.fit.now.over.turned c.args.fit.now.over.net.now n c.loop-cell.list.items)
-    (omega (arith, c.loop-cell-test.false, c.CELLS-cell-end.ensures, g.met.D.Device.cells_is, c.loop-cell.auto.cell-end)) c.loop-cell.invariant.below
+    (omega (arith, c.loop-cell-test.false, c.cells-cell-end.ensures, c.loop-cell.auto.cell-end)) c.loop-cell.invariant.below
 
 pub returns-clause-all : goal.returns-clause-all
 returns-clause-all g c =
     λ goes.
     subst (λ n. EachCoveredBelow g.D.Device.table c.args.fit.now.over.turned c.args.fit.now.over.net.now n c.loop-cell.list.items)
-    (omega (arith, c.loop-cell-test.false, c.CELLS-cell-end.ensures, g.met.D.Device.cells_is, c.loop-cell.auto.cell-end)) (c.loop-cell.invariant.all goes).1
+    (omega (arith, c.loop-cell-test.false, c.cells-cell-end.ensures, c.loop-cell.auto.cell-end)) (c.loop-cell.invariant.all goes).1

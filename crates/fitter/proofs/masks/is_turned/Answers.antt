@@ -6,7 +6,7 @@ use Rattle.fitter.proofs.masks.is_turned.Goals as goal
 
 pub is_register-requires : goal.is_register-requires
 is_register-requires g c =
-    carry_in_range g.D.Device.table g.met.D.Device.sound c.args.pair (carry.Cell c.in-Cell.cell) ((rw c.from.ensures at c.carries.ensures) ∙ ap (λ (x : Carry). Some x) c.in-Cell.is)
+    carry_in_range g.D.Device.table g.D.Device.sound c.args.pair (carry.Cell c.in-Cell.cell) ((rw c.from.ensures at c.carries.ensures) ∙ ap (λ (x : Carry). Some x) c.in-Cell.is)
 
 pub returns-in-Cell : goal.returns-in-Cell
 returns-in-Cell g c =

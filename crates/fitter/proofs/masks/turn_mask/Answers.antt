@@ -9,17 +9,17 @@ loop-pair-init g c = record { low = omega arith; below = no_levels _ 32 }
 
 pub with_level-mask-requires : goal.with_level-mask-requires
 with_level-mask-requires g c =
-    omega (arith, c.loop-pair-test.true, c.pair_count-pair-end.ensures, g.met.D.Device.sound.sizes.columns_even, g.met.D.Device.sound.sizes.columns_high)
+    omega (arith, c.loop-pair-test.true, c.pair_count-pair-end.ensures, g.D.Device.sound.sizes.columns_even, g.D.Device.sound.sizes.columns_high)
 
 pub loop-pair-preserved : goal.loop-pair-preserved
 loop-pair-preserved g c = record {
   low = omega (arith, c.with_level-mask.type_inv);
   below = levels_more _ 32 c.loop-pair.pair (bits 32 c.loop-pair.mask) (bits 32 c.with_level-mask.result) c.is_turned-on.result (length-bits 32 c.loop-pair.mask)
-      (omega (arith, c.loop-pair-test.true, c.pair_count-pair-end.ensures, g.met.D.Device.sound.sizes.columns_even, g.met.D.Device.sound.sizes.columns_high))
+      (omega (arith, c.loop-pair-test.true, c.pair_count-pair-end.ensures, g.D.Device.sound.sizes.columns_even, g.D.Device.sound.sizes.columns_high))
       c.loop-pair.invariant.below c.with_level-mask.ensures c.is_turned-on.ensures;
 }
 
 pub returns : goal.returns
 returns g c =
-    is_mask g.D.Device.table g.met.D.Device.sound (plain_netlist c.args.net.now) c.loop-pair.pair c.loop-pair.mask c.loop-pair.invariant.low
+    is_mask g.D.Device.table g.D.Device.sound (plain_netlist c.args.net.now) c.loop-pair.pair c.loop-pair.mask c.loop-pair.invariant.low
     (omega (arith, c.loop-pair-test.false, c.pair_count-pair-end.ensures)) c.loop-pair.invariant.below

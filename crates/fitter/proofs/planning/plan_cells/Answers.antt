@@ -9,10 +9,10 @@ pub loop-cell-init : goal.loop-cell-init
 loop-cell-init g c = record { rows = rw (c.new-plans.ensures.items, c.new-forms.ensures.items) (rows_none g.D.Device.table c.args.covers.items); long = c.requires; left = λ d low. refl }
 
 pub taken-found-requires : goal.taken-found-requires
-taken-found-requires g c = omega (arith, c.loop-cell-test.true, c.CELLS-cell-end.ensures, g.met.D.Device.cells_is, c.loop-cell.invariant.long)
+taken-found-requires g c = omega (arith, c.loop-cell-test.true, c.cells-cell-end.ensures, c.loop-cell.invariant.long)
 
 pub rows_of-requires : goal.rows_of-requires
-rows_of-requires g c = omega (arith, c.loop-cell-test.true, c.CELLS-cell-end.ensures, g.met.D.Device.cells_is)
+rows_of-requires g c = omega (arith, c.loop-cell-test.true, c.cells-cell-end.ensures)
 
 pub loop-cell-preserved : goal.loop-cell-preserved
 loop-cell-preserved g c =
@@ -29,11 +29,11 @@ loop-cell-preserved g c =
 pub returns-in_err-rows : goal.returns-in_err-rows
 returns-in_err-rows g c =
     handed (ArePlanned g.D.Device.table c.args.covers.items) c.from_residual.result _ (err_from_is_err_and c.from_residual.result c.from_residual.ensures.1)
-    (plans_stop g.D.Device.table c.args.covers.items c.loop-cell.cell c.taken-found.result _ (omega (arith, c.loop-cell-test.true, c.CELLS-cell-end.ensures, g.met.D.Device.cells_is))
+    (plans_stop g.D.Device.table c.args.covers.items c.loop-cell.cell c.taken-found.result _ (omega (arith, c.loop-cell-test.true, c.cells-cell-end.ensures))
     (c.taken-found.ensures.value ∙ c.loop-cell.invariant.left c.loop-cell.cell (omega arith))
     (each_fits_below g.D.Device.table c.args.covers.items c.loop-cell.cell c.loop-cell.plans.items c.loop-cell.forms.items c.loop-cell.invariant.rows) c.in_err-rows.ensures)
 
 pub returns : goal.returns
 returns g c =
     subst (λ n. RowsBelow g.D.Device.table c.args.covers.items n c.loop-cell.plans.items c.loop-cell.forms.items)
-    (omega (arith, c.loop-cell-test.false, c.CELLS-cell-end.ensures, g.met.D.Device.cells_is, c.loop-cell.auto.cell-end)) c.loop-cell.invariant.rows
+    (omega (arith, c.loop-cell-test.false, c.cells-cell-end.ensures, c.loop-cell.auto.cell-end)) c.loop-cell.invariant.rows

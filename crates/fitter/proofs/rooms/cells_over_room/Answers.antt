@@ -10,7 +10,7 @@ loop-cell-preserved g c =
     let net = c.args.net.now in
     let mask = c.turn_mask-turned.result in
     let cell = c.loop-cell.cell in
-    let low : cell < length t.cells = omega (arith, c.loop-cell-test.true, c.CELLS-cell-end.ensures, g.met.D.Device.cells_is) in
+    let low : cell < length t.cells = omega (arith, c.loop-cell-test.true, c.cells-cell-end.ensures) in
     let has : HasCoversAs t mask net (cell_wanted net cell) c.taken-covers.result =
     subst (HasCoversAs t mask net (cell_wanted net cell)) (sym (c.taken-covers.ensures.value ∙ c.loop-cell.invariant.left cell (omega arith)))
     (c.in_ok-left.ensures.all refl cell low) in

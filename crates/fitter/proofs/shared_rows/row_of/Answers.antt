@@ -6,6 +6,6 @@ pub returns-in-Ok-2 : goal.returns-in-Ok-2
 returns-in-Ok-2 g c =
     inl (
       c.no_product.ensures,
-      is_no_product (length g.D.Device.table.pairs) c.args.fit.now.over.turned c.args.fit.now.over.net.now c.args.bit (omega (arith, g.met.D.Device.sound.sizes.columns_even, g.met.D.Device.sound.sizes.columns_high)) c.args.fit.now.over.fits
+      is_no_product (length g.D.Device.table.pairs) c.args.fit.now.over.turned c.args.fit.now.over.net.now c.args.bit (omega (arith, g.D.Device.sound.sizes.columns_even, g.D.Device.sound.sizes.columns_high)) c.args.fit.now.over.fits
           c.in-Ok.rows.items c.in-Ok.ensures (omega (arith, c.len.ensures, c.if-len-le1.false)),
     )

@@ -15,7 +15,7 @@ point_apart-requires-clause-first_below g c =
 pub point_apart-requires-clause-second_below : goal.point_apart-requires-clause-second_below
 point_apart-requires-clause-second_below g c =
     rw (c.args.fit.now.pairs, c.deref.ensures.value)
-    (list_below g.D.Device.table g.met.D.Device.sound c.args.fit.now.over.net.now c.requires.sound c.in-Some-own_control.control.bit c.in_ok-own.own.items c.in_ok-own.ensures.id c.in_ok-own.ensures.list)
+    (list_below g.D.Device.table g.D.Device.sound c.args.fit.now.over.net.now c.requires.sound c.in-Some-own_control.control.bit c.in_ok-own.own.items c.in_ok-own.ensures.id c.in_ok-own.ensures.list)
 
 pub returns : goal.returns
 returns g c =

@@ -13,4 +13,4 @@ returns g c =
     let cell = cell_low g.D.Device.table c.args.fit.now.over.net.now c.requires.sound c.args.cell c.requires.wide.at.cell c.requires.wide.at.wanted in
     first_ends g.D.Device.table c.args.fit.now.over.net.now c.requires.sound c.loop-later.first
     (subst (λ n. IsFirstBelow g.D.Device.table c.args.fit.now.over.net.now n c.loop-later.first)
-    (omega (arith, cell, c.loop-later-test.false, c.CELLS-later-end.ensures, g.met.D.Device.cells_is, c.loop-later.auto.later, c.loop-later.auto.later-end)) c.loop-later.invariant)
+    (omega (arith, cell, c.loop-later-test.false, c.cells-later-end.ensures, c.loop-later.auto.later, c.loop-later.auto.later-end)) c.loop-later.invariant)
