@@ -5,6 +5,7 @@ mod asking;
 mod bases;
 mod expressions;
 mod places;
+mod small;
 mod sources;
 mod statements;
 mod tables;

@@ -8,7 +8,7 @@ use abel_tree::{Module, Names};
 use declared_names::{are_numbered, declare, numbered_names};
 use module_reader::read_module;
 use name_uses::ModuleParts;
-use pld_device::Device;
+use pld_device::{Device, Loaded};
 use std::alloc::Global;
 use test_rows::Found;
 
@@ -34,7 +34,13 @@ fn read(alloc: Global, text: &[u8]) -> Option<Module> {
 }
 
 /// The module that declares these names, and goes on with the row's text between two others.
-fn module_of(alloc: Global, names: &Found, front: &str, text: &str, back: &str) -> Option<Module> {
+pub(crate) fn module_of(
+    alloc: Global,
+    names: &Found,
+    front: &str,
+    text: &str,
+    back: &str,
+) -> Option<Module> {
     let mut source = Found::new(alloc);
     source.text("module m\n");
     source.put(names.bytes());
@@ -48,7 +54,7 @@ fn module_of(alloc: Global, names: &Found, front: &str, text: &str, back: &str) 
 }
 
 /// The names of a module for a device, if each pin has a number.
-fn names_of<D: Device>(alloc: Global, module: &Module) -> Option<Names>
+fn names_of<D: Device>(alloc: Global, device: &Loaded<D>, module: &Module) -> Option<Names>
     ensures order { IfSome result (λ n. AreInOrder (entries_of n)) }
     ensures placed { IfSome result (λ n. ArePlaced n) }
 {
@@ -57,7 +63,7 @@ fn names_of<D: Device>(alloc: Global, module: &Module) -> Option<Names>
         Ok(source) => source,
         Err(_) => return None,
     };
-    match declare::<D>(alloc, &source) {
+    match declare::<D>(alloc, device, &source) {
         Ok(names) => {
             if are_numbered(&names) {
                 Some(names)
@@ -69,18 +75,15 @@ fn names_of<D: Device>(alloc: Global, module: &Module) -> Option<Names>
     }
 }
 
-/// The source of a row for a device.
+/// A module with its names for a device.
 pub(crate) fn source_of<D: Device>(
     alloc: Global,
-    names: &Found,
-    front: &str,
-    text: &str,
-    back: &str,
+    device: &Loaded<D>,
+    module: Module,
 ) -> Option<Source>
     ensures order { IfSome result (λ s. AreInOrder (entries_of s.names)) }
     ensures placed { IfSome result (λ s. ArePlaced s.names) }
 {
-    let module = module_of(alloc, names, front, text, back)?;
-    let names = names_of::<D>(alloc, &module)?;
+    let names = names_of::<D>(alloc, device, &module)?;
     Some(Source { module, names })
 }

@@ -1,16 +1,21 @@
 //! Truth tables: their first refusals, and what they contribute.
 
+ghost use Rattle.std.specs.Prelude.{◌≡◌};
+ghost use Rattle.devices.specs.Devices.{table_of};
 ghost use Rattle.abel_tree.specs.Entries.{entries_of};
 ghost use Rattle.set_expr.specs.Scopes.{AreInOrder, ArePlaced};
 
 use crate::places::{put_blank, put_fault, put_place};
-use crate::sources::{Source, source_of};
+use crate::sources::{Source, module_of, source_of};
 use abel_tree::{Module, Section, Table};
 use bit_expr::ExprId;
-use devices::Pal16L8;
+use devices::loaded;
+use pld_base::DeviceName;
+use pld_device::{Device, Loaded};
 use section_targets::{SectionScope, Walked};
 use set_expr::{Contribution, Gives, Guard, Scope};
 use std::alloc::Global;
+use std::marker::Brand;
 use test_rows::Found;
 use truth_tables::walk_table;
 
@@ -56,16 +61,25 @@ fn put_given(walked: &Walked, found: &mut Found) -> Option<()> {
 }
 
 /// What is found of the table of a source.
-fn walked_of(alloc: Global, source: &Source) -> Option<Walked>
+fn walked_of<D: Device>(alloc: Global, device: &Loaded<D>, source: &Source) -> Option<Walked>
     requires order { AreInOrder (entries_of source.now.names) }
     requires placed { ArePlaced source.now.names }
 {
     let known = Scope::new(alloc, &source.names).ok()?;
-    let scope = SectionScope::new(alloc, known).ok()?;
+    let scope = SectionScope::new(alloc, device, known).ok()?;
     let table = table_of(&source.module)?;
     let mut walked = Walked::new(alloc);
-    walk_table::<Pal16L8>(alloc, &scope, FIRST, table, &mut walked).ok()?;
+    walk_table::<D>(alloc, &scope, FIRST, table, &mut walked).ok()?;
     Some(walked)
+}
+
+/// What is found of the table of a module for the device that has this table.
+fn walked_for<D: Device>(alloc: Global, name: DeviceName, module: Module) -> Option<Walked>
+    requires { table_of name ≡ D.table }
+{
+    let device = loaded::<D>(name);
+    let source = source_of::<D>(alloc, &device, module)?;
+    walked_of::<D>(alloc, &device, &source)
 }
 
 /// Puts what is asked of a table.
@@ -76,8 +90,8 @@ pub(crate) fn ask(
     text: &str,
     found: &mut Found,
 ) -> Option<()> {
-    let source = source_of::<Pal16L8>(alloc, names, "", text, "")?;
-    let walked = walked_of(alloc, &source)?;
+    let module = module_of(alloc, names, "", text, "")?;
+    let walked = walked_for::<Brand>(alloc, DeviceName::P16L8, module)?;
     match question {
         "refusals" => {
             put_fault(walked.fault, found);

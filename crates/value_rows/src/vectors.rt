@@ -1,11 +1,11 @@
 //! Test vectors: their characters, and their refusals; headers and entries by themselves.
 
 use crate::places::{put_blank, put_fault};
-use crate::sources::{ROW, source_of};
+use crate::small::{Small, small_device};
+use crate::sources::{ROW, module_of, source_of};
 use abel_tree::{Expr, Module, Section, Vectors};
 use abel_vectors::{read_side, vectors};
 use pld_base::Place;
-use pld_device::Sample;
 use set_expr::{Scope, SectionFault};
 use std::alloc::Global;
 use test_rows::Found;
@@ -31,7 +31,8 @@ fn put_chars(
     if before > 9999 {
         return None;
     }
-    match vectors::<Sample>(alloc, scope, section, before) {
+    let device = small_device();
+    match vectors::<Small>(alloc, &device, scope, section, before) {
         Ok(list) => {
             for vector in list.as_slice() {
                 put_blank(found);
@@ -152,7 +153,8 @@ pub(crate) fn ask(
     found: &mut Found,
 ) -> Option<()> {
     let (front, back) = around(question);
-    let source = source_of::<Sample>(alloc, names, front, text, back)?;
+    let module = module_of(alloc, names, front, text, back)?;
+    let source = source_of::<Small>(alloc, &small_device(), module)?;
     let scope = Scope::new(alloc, &source.names).ok()?;
     put_asked(alloc, question, &source.module, &scope, found)
 }

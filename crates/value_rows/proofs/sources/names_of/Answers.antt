@@ -11,5 +11,5 @@ returns-then-are_numbered-clause-order g c =
 
 pub returns-then-are_numbered-clause-placed : goal.returns-then-are_numbered-clause-placed
 returns-then-are_numbered-clause-placed g c =
-    sound_placed g.D.Device.table.name g.D.Device.table.pins c.in-Ok-declare.names g.met.D.Device.sound.sizes.pins_high
+    sound_placed g.D.Device.table.name g.D.Device.table.pins c.in-Ok-declare.names g.D.Device.sound.sizes.pins_high
     (c.numbered_names.ensures.sound g.D.Device.table.name g.D.Device.table.pins c.in-Ok-declare.names c.in-Ok-declare.ensures.sound (sym c.are_numbered.ensures ∙ c.if-are_numbered.true))
