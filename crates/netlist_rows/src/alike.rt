@@ -7,7 +7,7 @@ ghost use Rattle.pld_machine.specs.Order.{IsOrdered};
 use crate::drawing::ModuleNet;
 use device_sim::load;
 use pld_base::Point;
-use pld_device::{Device, Fuses};
+use pld_device::{Device, Fuses, Loaded};
 use pld_machine::{Logic, rest, step};
 use source_machine::SourceLogic;
 use std::alloc::Global;
@@ -40,6 +40,7 @@ fn turn_alike<A: Logic, B: Logic>(left: &A, right: &B, outside: u32, stored: u32
 /// and at all outside levels.
 pub(crate) fn runs_alike<D: Device>(
     alloc: Global,
+    device: &Loaded<D>,
     made: &ModuleNet,
     fuses: &Fuses,
     inverted: u32,
@@ -50,13 +51,13 @@ pub(crate) fn runs_alike<D: Device>(
     requires same { MeansTheSame D.table source (plain_netlist made.now.net) }
     requires size { length fuses.now ≡ D.table.fuses }
 {
-    let Ok(device) = load::<D>(alloc, fuses) else {
+    let Ok(burned) = load::<D>(alloc, device, fuses) else {
         return None;
     };
-    let source = SourceLogic::<D>::new(alloc, &made.net, inverted).ok()?;
+    let source = SourceLogic::<D>::new(alloc, device, &made.net, inverted).ok()?;
     for stored in 0..STATES {
         for levels in 0..LEVELS {
-            if !turn_alike(&device, &source, levels << 1, stored) {
+            if !turn_alike(&burned, &source, levels << 1, stored) {
                 return Some(false);
             }
         }

@@ -1,8 +1,8 @@
 //! The rows of a section, each asked what its section asks.
 
-use crate::mixed::Mixed;
+use crate::mixed::mixed_device;
+use crate::small::small_device;
 use crate::{chains, fits, netlists, refusals, runs, sums, unfit};
-use pld_device::Sample;
 use std::alloc::Global;
 use test_rows::{Found, Report, Row, Section, halves};
 
@@ -20,8 +20,18 @@ fn ask(alloc: Global, section: &str, names: &Found, text: &str, found: &mut Foun
         "levels of controls" => refusals::put_levels(alloc, names, text, found),
         "designs" => refusals::put_design(alloc, names, text, found),
         "runs" => runs::put_run(alloc, names, text, found),
-        "sources that don't fit the sample" => unfit::put_fault::<Sample>(alloc, text, found),
-        "sources that don't fit the mixed device" => unfit::put_fault::<Mixed>(alloc, text, found),
+        "sources that don't fit the sample" => unfit::put_fault(
+            alloc,
+            &small_device(),
+            text,
+            found,
+        ),
+        "sources that don't fit the mixed device" => unfit::put_fault(
+            alloc,
+            &mixed_device(),
+            text,
+            found,
+        ),
         _ => None,
     }
 }
@@ -60,9 +70,9 @@ fn report_rows(alloc: Global, section: &Section) -> Found {
 /// The report on a section; one of fits has blocks.
 pub(crate) fn report(alloc: Global, section: &Section) -> Found {
     match section.name {
-        "fits of the sample" => fits::report::<Sample>(alloc, section, true),
-        "fits of the mixed device" => fits::report::<Mixed>(alloc, section, true),
-        "fits with don't-cares" => fits::report::<Mixed>(alloc, section, false),
+        "fits of the sample" => fits::report(alloc, &small_device(), section, true),
+        "fits of the mixed device" => fits::report(alloc, &mixed_device(), section, true),
+        "fits with don't-cares" => fits::report(alloc, &mixed_device(), section, false),
         _ => report_rows(alloc, section),
     }
 }

@@ -14,7 +14,7 @@ use declared_names::{are_numbered, declare, numbered_names};
 use design::{gather, names_are_accepted, sound_modules_are_accepted};
 use name_uses::ModuleParts;
 use pld_base::{OutOfMemory, Vector};
-use pld_device::Device;
+use pld_device::{Device, Loaded};
 use section_targets::SectionScope;
 use set_expr::{Contributions, Scope};
 use std::alloc::Global;
@@ -29,7 +29,11 @@ pub(crate) struct Drawn {
 }
 
 /// The names of a module for a device, if each pin has a number.
-pub(crate) fn names_of<D: Device>(alloc: Global, source: &Module) -> Option<Names>
+pub(crate) fn names_of<D: Device>(
+    alloc: Global,
+    device: &Loaded<D>,
+    source: &Module,
+) -> Option<Names>
     ensures { IfSome result (AreNamesFor D.table (view_module source.now)) }
 {
     numbered_names();
@@ -37,7 +41,7 @@ pub(crate) fn names_of<D: Device>(alloc: Global, source: &Module) -> Option<Name
         Ok(source) => source,
         Err(_) => return None,
     };
-    match declare::<D>(alloc, &source) {
+    match declare::<D>(alloc, device, &source) {
         Ok(names) => {
             if are_numbered(&names) {
                 Some(names)
@@ -50,24 +54,30 @@ pub(crate) fn names_of<D: Device>(alloc: Global, source: &Module) -> Option<Name
 }
 
 /// The names with the signals that each represents.
-pub(crate) fn scope_of<D: Device>(
+pub(crate) fn scope_of<'a, D: Device>(
     alloc: Global,
-    names: &Names,
-) -> Result<SectionScope<'_, D>, OutOfMemory>
+    device: &'a Loaded<D>,
+    names: &'a Names,
+) -> Result<SectionScope<'a, D>, OutOfMemory>
     requires placed { ArePlaced names.now }
     requires order { AreInOrder (entries_of names.now) }
     ensures { IfOk result (λ s. s ≡ names.now) }
 {
     let known = Scope::new(alloc, names)?;
-    SectionScope::new(alloc, known)
+    SectionScope::new(alloc, device, known)
 }
 
-fn sections_of<D: Device>(alloc: Global, source: &Module, names: &Names) -> Option<SourceSections>
+fn sections_of<D: Device>(
+    alloc: Global,
+    device: &Loaded<D>,
+    source: &Module,
+    names: &Names,
+) -> Option<SourceSections>
     requires { AreNamesFor D.table (view_module source.now) names.now }
     ensures found { IfSome result (AreSections (design_of D.table (view_module source.now))) }
     ensures few { IfSome result (λ found. length found.vectors.items ≤ 9999) }
 {
-    let scope = scope_of::<D>(alloc, names).ok()?;
+    let scope = scope_of::<D>(alloc, device, names).ok()?;
     match all_sections::<D>(alloc, &scope, source) {
         Ok(found) => Some(found),
         Err(_) => None,
@@ -75,15 +85,15 @@ fn sections_of<D: Device>(alloc: Global, source: &Module, names: &Names) -> Opti
 }
 
 /// A module with what is found of it, if nothing is refused of its names and its sections.
-pub(crate) fn draw<D: Device>(alloc: Global, source: Module) -> Option<Drawn>
+pub(crate) fn draw<D: Device>(alloc: Global, device: &Loaded<D>, source: Module) -> Option<Drawn>
     ensures drawn { IfSome result (IsDrawn D.table) }
     ensures few { IfSome result (λ d. length d.vectors.items ≤ 9999) }
 {
-    let names = names_of::<D>(alloc, &source)?;
+    let names = names_of::<D>(alloc, device, &source)?;
     let SourceSections {
         contributions,
         vectors,
-    } = sections_of::<D>(alloc, &source, &names)?;
+    } = sections_of::<D>(alloc, device, &source, &names)?;
     names_are_accepted();
     sound_modules_are_accepted();
     Some(Drawn {
@@ -102,7 +112,11 @@ pub(crate) struct ModuleNet {
 }
 
 /// A module with its netlist, which the device can take, and the test vectors, if nothing is refused of the design.
-pub(crate) fn gathered<D: Device>(alloc: Global, drawn: Drawn) -> Option<(ModuleNet, Vec<Vector>)>
+pub(crate) fn gathered<D: Device>(
+    alloc: Global,
+    device: &Loaded<D>,
+    drawn: Drawn,
+) -> Option<(ModuleNet, Vec<Vector>)>
     requires drawn { IsDrawn D.table drawn }
     requires few { length drawn.vectors.items ≤ 9999 }
     ensures sound { IfSome result (λ d. IsSoundNetlist D.table d.0.net) }
@@ -118,7 +132,7 @@ pub(crate) fn gathered<D: Device>(alloc: Global, drawn: Drawn) -> Option<(Module
         contributions,
         vectors,
     } = drawn;
-    let scope = scope_of::<D>(alloc, &names).ok()?;
+    let scope = scope_of::<D>(alloc, device, &names).ok()?;
     let net = {
         let source = match ModuleParts::new(alloc, &module) {
             Ok(source) => source,

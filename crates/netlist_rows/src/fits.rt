@@ -10,7 +10,7 @@ use device_sim::simulate;
 use fitter::{FittedCell, fit};
 use jedec_reader::FuseFile;
 use pld_base::ListOf;
-use pld_device::Device;
+use pld_device::{Device, Loaded};
 use std::alloc::Global;
 use test_rows::{Found, Report, Row, Section};
 
@@ -42,11 +42,16 @@ fn put_fuses(levels: &[bool], found: &mut Found) {
 }
 
 /// How often the device with its fuses disagrees with the vectors.
-fn put_mismatches<D: Device>(alloc: Global, file: &FuseFile, found: &mut Found) -> Option<()>
+fn put_mismatches<D: Device>(
+    alloc: Global,
+    device: &Loaded<D>,
+    file: &FuseFile,
+    found: &mut Found,
+) -> Option<()>
     requires size { length file.now.fuses ≡ D.table.fuses }
     requires few { length file.now.vectors ≤ 9999 }
 {
-    match simulate::<D>(alloc, file) {
+    match simulate::<D>(alloc, device, file) {
         Ok(report) => {
             for _mismatch in report.list.as_slice() {
                 found.text(", a mismatch");
@@ -61,28 +66,29 @@ fn put_mismatches<D: Device>(alloc: Global, file: &FuseFile, found: &mut Found) 
 /// often it disagrees with the vectors.
 fn put_fit<D: Device>(
     alloc: Global,
+    device: &Loaded<D>,
     source: &Found,
     is_alike: bool,
     found: &mut Found,
 ) -> Option<()> {
     let module = module_of(alloc, source.bytes())?;
-    let (made, vectors) = gathered::<D>(alloc, draw::<D>(alloc, module)?)?;
-    let Ok(fitted) = fit::<D>(alloc, &made.net) else {
+    let (made, vectors) = gathered::<D>(alloc, device, draw::<D>(alloc, device, module)?)?;
+    let Ok(fitted) = fit::<D>(alloc, device, &made.net) else {
         return None;
     };
     put_cells(fitted.cells.as_slice(), found);
     put_fuses(fitted.fuses.levels(), found);
     let inverted = inverted_cells(fitted.cells.as_slice());
-    if is_alike && !runs_alike::<D>(alloc, &made, &fitted.fuses, inverted)? {
+    if is_alike && !runs_alike::<D>(alloc, device, &made, &fitted.fuses, inverted)? {
         found.text(", not as its module");
     }
     let file = FuseFile {
         fuses: fitted.fuses,
-        listed: D::FUSES,
+        listed: device.fuses(),
         vectors: ListOf::from_vec(vectors),
         default_level: false,
     };
-    put_mismatches::<D>(alloc, &file, found)
+    put_mismatches::<D>(alloc, device, &file, found)
 }
 
 /// What a block says: lines of a source, and after `=> ` its cells, and its fuses, of which the blanks don't count.
@@ -118,25 +124,36 @@ fn block_of(alloc: Global, rows: &[Row]) -> Block {
 }
 
 /// Reports a block at its first line.
-fn report_block<D: Device>(alloc: Global, rows: &[Row], is_alike: bool, report: &mut Report) {
+fn report_block<D: Device>(
+    alloc: Global,
+    device: &Loaded<D>,
+    rows: &[Row],
+    is_alike: bool,
+    report: &mut Report,
+) {
     let [first, ..] = rows else {
         return;
     };
     let block = block_of(alloc, rows);
     let mut found = Found::new(alloc);
-    if put_fit::<D>(alloc, &block.source, is_alike, &mut found).is_none() {
+    if put_fit::<D>(alloc, device, &block.source, is_alike, &mut found).is_none() {
         found.text(" nothing");
     }
     report.row(first.number, block.wanted.bytes(), &found)
 }
 
 /// The report on a section of blocks.
-pub(crate) fn report<D: Device>(alloc: Global, section: &Section, is_alike: bool) -> Found {
+pub(crate) fn report<D: Device>(
+    alloc: Global,
+    device: &Loaded<D>,
+    section: &Section,
+    is_alike: bool,
+) -> Found {
     let mut report = Report::new(alloc, section.name);
     match section.blocks(alloc) {
         Ok(blocks) => {
             for block in blocks.as_slice() {
-                report_block::<D>(alloc, block.as_slice(), is_alike, &mut report);
+                report_block::<D>(alloc, device, block.as_slice(), is_alike, &mut report);
             }
         }
         Err(_) => report.unread(0),

@@ -12,6 +12,7 @@ mod netlists;
 mod places;
 mod refusals;
 mod runs;
+mod small;
 mod sources;
 mod sums;
 mod unfit;

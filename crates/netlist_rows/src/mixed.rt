@@ -1,42 +1,46 @@
 //! A small device of no maker that mixes what devices have: rows with and without switches, fixed fuses of both levels.
 
 use pld_base::DeviceName;
-use pld_device::{Carry, Cell, Chip, Enable, Flip, FuseBit, Kinds, Part};
+use pld_device::{Carry, Cell, Chip, Device, Enable, Flip, FuseBit, Kinds, Loaded, Part, load};
 
-/// The small device, as a type without values of its own. It complements before its registers, has switches for its first
-/// rows alone, and fixed fuses of both levels.
+/// The small device. It complements before its registers, has switches for its first rows alone, and fixed fuses of both
+/// levels.
 #[derive(Clone, Copy, PartialEq, Eq)]
 pub(crate) struct Mixed;
 
-impl Part for Mixed {
-    ghost use Rattle.std.specs.Prelude.{refl};
-    ghost use Rattle.pld_device.specs.Table.{chip_of};
+impl Device for Mixed {
     ghost use Rattle.netlist_rows.specs.MixedTable.{mixed, mixed_sound};
-
-    const CHIP: Chip = Chip {
-        name: DeviceName::GAL22V10,
-        pins: 12,
-        ground_pin: 6,
-        fuses: 168,
-        short: 163,
-        columns: 14,
-        rows: 11,
-        cells: 3,
-        clock: 1,
-        reset: Some(0),
-        preset: Some(10),
-        flip: Flip::BeforeRegister,
-    };
-
-    ghost CHIP = { chip_of mixed };
 
     ghost table = { mixed };
 
-    ghost chip_is = { refl };
-
     ghost sound = { mixed_sound };
+}
 
-    fn carries(pair: u16) -> Carry {
+impl Part for Mixed {
+    ghost use Rattle.netlist_rows.specs.MixedTable.{mixed, mixed_sound};
+
+    ghost table = { λ p. mixed };
+
+    ghost sound = { λ p. mixed_sound };
+
+    fn chip(&self) -> Chip {
+        Chip {
+            name: DeviceName::GAL22V10,
+            pins: 12,
+            ground_pin: 6,
+            fuses: 168,
+            short: 163,
+            columns: 14,
+            rows: 11,
+            cells: 3,
+            clock: 1,
+            reset: Some(0),
+            preset: Some(10),
+            flip: Flip::BeforeRegister,
+        }
+    }
+
+    fn carries(&self, pair: u16) -> Carry {
         match pair {
             0 => Carry::Pin(2),
             1 => Carry::Cell(1),
@@ -48,7 +52,7 @@ impl Part for Mixed {
         }
     }
 
-    fn cell(index: u8) -> Cell {
+    fn cell(&self, index: u8) -> Cell {
         match index {
             0 => Cell {
                 pin: 11,
@@ -74,7 +78,7 @@ impl Part for Mixed {
         }
     }
 
-    fn inverted_at(cell: u8) -> Option<FuseBit> {
+    fn inverted_at(&self, cell: u8) -> Option<FuseBit> {
         let (fuse, level) = match cell {
             0 => (156, true),
             1 => (154, false),
@@ -83,7 +87,7 @@ impl Part for Mixed {
         Some(FuseBit { fuse, level })
     }
 
-    fn registered_at(cell: u8) -> Option<FuseBit> {
+    fn registered_at(&self, cell: u8) -> Option<FuseBit> {
         match cell {
             0 => Some(FuseBit {
                 fuse: 157,
@@ -93,11 +97,11 @@ impl Part for Mixed {
         }
     }
 
-    fn row_switch(row: u16) -> Option<u16> {
+    fn row_switch(&self, row: u16) -> Option<u16> {
         if row < 5 { Some(158 + row) } else { None }
     }
 
-    fn fixed(index: u16) -> Option<FuseBit> {
+    fn fixed(&self, index: u16) -> Option<FuseBit> {
         match index {
             0 => Some(FuseBit {
                 fuse: 163,
@@ -110,4 +114,9 @@ impl Part for Mixed {
             _ => None,
         }
     }
+}
+
+/// The device of this table.
+pub(crate) fn mixed_device() -> Loaded<Mixed> {
+    load::<Mixed, Mixed>(&Mixed)
 }

@@ -6,7 +6,7 @@ use crate::sources::module_of;
 use covers::Cube;
 use fit_plans::Tried;
 use fitter::{FitFault, SharedControl, fit};
-use pld_device::Device;
+use pld_device::{Device, Loaded};
 use std::alloc::Global;
 use test_rows::Found;
 
@@ -53,10 +53,15 @@ fn put_fit_fault(fault: FitFault, found: &mut Found) {
 }
 
 /// Why a source doesn't fit.
-pub(crate) fn put_fault<D: Device>(alloc: Global, text: &str, found: &mut Found) -> Option<()> {
+pub(crate) fn put_fault<D: Device>(
+    alloc: Global,
+    device: &Loaded<D>,
+    text: &str,
+    found: &mut Found,
+) -> Option<()> {
     let module = module_of(alloc, text.as_bytes())?;
-    let (made, _vectors) = gathered::<D>(alloc, draw::<D>(alloc, module)?)?;
-    match fit::<D>(alloc, &made.net) {
+    let (made, _vectors) = gathered::<D>(alloc, device, draw::<D>(alloc, device, module)?)?;
+    match fit::<D>(alloc, device, &made.net) {
         Ok(_) => put_word("it fits", found),
         Err(fault) => put_fit_fault(fault, found),
     }

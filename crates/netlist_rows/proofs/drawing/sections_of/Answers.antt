@@ -5,7 +5,7 @@ use Rattle.netlist_rows.proofs.drawing.sections_of.Goals as goal
 
 pub scope_of-requires-clause-placed : goal.scope_of-requires-clause-placed
 scope_of-requires-clause-placed g c =
-    sound_placed g.D.Device.table.name g.D.Device.table.pins c.args.names.now g.met.D.Device.sound.sizes.pins_high c.requires.sound
+    sound_placed g.D.Device.table.name g.D.Device.table.pins c.args.names.now g.D.Device.sound.sizes.pins_high c.requires.sound
 
 pub scope_of-requires-clause-order : goal.scope_of-requires-clause-order
 scope_of-requires-clause-order g c =
