@@ -10,6 +10,7 @@ mod minimised;
 mod operations;
 mod pairs;
 mod plans;
+mod small;
 
 use std::io::{self, Write};
 use test_rows::sections;
