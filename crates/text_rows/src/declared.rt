@@ -1,5 +1,8 @@
 //! Sources with the device that they name and the names that they declare, or with what is refused of them.
 
+ghost use Rattle.std.specs.Prelude.{◌≡◌};
+ghost use Rattle.devices.specs.Devices.{table_of};
+
 use crate::attribute_sets::put_attributes;
 use crate::cases::Case;
 use crate::faults::{put_place, put_refusal};
@@ -7,16 +10,29 @@ use crate::sources::{framed, marked, module_of};
 use abel_tree::{Declared, Meaning, Module, Names};
 use declared_names::declare;
 use decls::{NameFault, device_of};
-use devices::on_device;
+use devices::loaded;
 use name_uses::ModuleParts;
-use pld_base::{NameText, Place};
+use pld_base::{DeviceName, NameText, Place};
+use pld_device::Device;
 use std::alloc::Global;
+use std::marker::Brand;
 use test_rows::{Found, halves, unescaped};
+
+/// The names for the device that has this table.
+fn declared_for<D: Device>(
+    alloc: Global,
+    name: DeviceName,
+    module: &Module,
+) -> Result<Names, NameFault>
+    requires { table_of name ≡ D.table }
+{
+    let source = ModuleParts::new(alloc, module)?;
+    declare::<D>(alloc, &loaded::<D>(name), &source)
+}
 
 /// The names for the device that a module names.
 pub fn declared(alloc: Global, module: &Module) -> Result<Names, NameFault> {
-    let source = ModuleParts::new(alloc, module)?;
-    on_device!(device_of(module)?, declare(alloc, &source))
+    declared_for::<Brand>(alloc, device_of(module)?, module)
 }
 
 /// Puts a refusal with its name and its place.
