@@ -2,7 +2,7 @@
 
 use pld_device::{Device, Loaded, Sample, load};
 
-/// Stands for the table of the small device.
+/// The table of the small device, as a type.
 #[derive(Clone, Copy, PartialEq, Eq)]
 pub(crate) struct Small;
 
