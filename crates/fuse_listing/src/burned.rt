@@ -1,10 +1,12 @@
 //! What is listed.
 
 use abel_tree::Names;
+use pld_device::{Device, Loaded};
 
-/// The fuses of a device, and the names of the source that they were made of.
+/// A device and its fuses, and the names of the source that they were made of.
 #[derive(Drop)]
-pub struct Burned<'a> {
+pub struct Burned<'a, D: Device> {
+    pub device: &'a Loaded<D>,
     pub fuses: &'a [bool],
     pub names: &'a Names,
 }

@@ -16,16 +16,16 @@ use crate::rows::{is_in_use, put_row, put_row_line};
 use abel_tree::{Attributes, Declared};
 use bitflags::Flags;
 use pld_base::{OutOfMemory, put_decimal};
-use pld_device::{Cell, Device, Enable};
+use pld_device::{Cell, Device, Enable, Loaded};
 use std::alloc::Global;
 
 /// How many of some rows are in use. Takes no memory.
-pub fn count_in_use<D: Device>(fuses: &[bool], first: u16, room: u8) -> usize
+pub fn count_in_use<D: Device>(device: &Loaded<D>, fuses: &[bool], first: u16, room: u8) -> usize
     requires { first + room ≤ 65535 }
     ensures { result ≡ length (filter (is_in_use D.table fuses.now) (range_with_len first room)) }
 {
     (first..first + u16::from(room))
-        .filter(|row| is_in_use::<D>(fuses, *row))
+        .filter(|row| is_in_use::<D>(device, fuses, *row))
         .count()
 }
 
@@ -33,7 +33,7 @@ pub fn count_in_use<D: Device>(fuses: &[bool], first: u16, room: u8) -> usize
 fn put_enable<D: Device>(
     alloc: Global,
     out: &mut Vec<u8>,
-    of: &Burned,
+    of: &Burned<D>,
     enable: Enable,
 ) -> Result<(), OutOfMemory>
     ensures { OnOk result (out.new.items
@@ -52,13 +52,13 @@ fn put_enable<D: Device>(
 fn put_if_used<D: Device>(
     alloc: Global,
     out: &mut Vec<u8>,
-    of: &Burned,
+    of: &Burned<D>,
     row: u16,
 ) -> Result<(), OutOfMemory>
     ensures { OnOk result (out.new.items
         ≡ out.old.items ++ line_if_used D.table of.now.fuses.now (entries_of of.now.names.now) row) }
 {
-    if is_in_use::<D>(of.fuses, row) {
+    if is_in_use::<D>(of.device, of.fuses, row) {
         put_row_line::<D>(alloc, out, of, b"  rows ", row)?;
     }
     Ok(())
@@ -68,7 +68,7 @@ fn put_if_used<D: Device>(
 fn put_rows<D: Device>(
     alloc: Global,
     out: &mut Vec<u8>,
-    of: &Burned,
+    of: &Burned<D>,
     cell: &Cell,
 ) -> Result<(), OutOfMemory>
     requires { cell.now.first + cell.now.room ≤ 65535 }
@@ -82,11 +82,16 @@ fn put_rows<D: Device>(
 }
 
 /// Appends whether a cell is a register.
-fn put_kind<D: Device>(out: &mut Vec<u8>, fuses: &[bool], cell: u8) -> Result<(), OutOfMemory>
+fn put_kind<D: Device>(
+    device: &Loaded<D>,
+    out: &mut Vec<u8>,
+    fuses: &[bool],
+    cell: u8,
+) -> Result<(), OutOfMemory>
     requires { cell < length D.table.cells }
     ensures { OnOk result (out.new.items ≡ out.old.items ++ kind_text D.table fuses.now cell) }
 {
-    let text: &[u8] = if stores::<D>(fuses, cell) {
+    let text: &[u8] = if stores::<D>(device, fuses, cell) {
         b" registered"
     } else {
         b" combinational"
@@ -96,11 +101,16 @@ fn put_kind<D: Device>(out: &mut Vec<u8>, fuses: &[bool], cell: u8) -> Result<()
 }
 
 /// Appends how a cell's pin follows its output.
-fn put_polarity<D: Device>(out: &mut Vec<u8>, fuses: &[bool], cell: u8) -> Result<(), OutOfMemory>
+fn put_polarity<D: Device>(
+    device: &Loaded<D>,
+    out: &mut Vec<u8>,
+    fuses: &[bool],
+    cell: u8,
+) -> Result<(), OutOfMemory>
     requires { cell < length D.table.cells }
     ensures { OnOk result (out.new.items ≡ out.old.items ++ polarity_text D.table fuses.now cell) }
 {
-    let text: &[u8] = if complements_output::<D>(fuses, cell) {
+    let text: &[u8] = if complements_output::<D>(device, fuses, cell) {
         b" inverted "
     } else {
         b" direct "
@@ -125,6 +135,7 @@ pub(crate) fn put_numbered(
 /// Appends a cell's pin and its name.
 fn put_pin<D: Device>(
     alloc: Global,
+    device: &Loaded<D>,
     out: &mut Vec<u8>,
     cell: u8,
     name: &[u8],
@@ -132,7 +143,12 @@ fn put_pin<D: Device>(
     requires { cell < length D.table.cells }
     ensures { OnOk result (out.new.items ≡ out.old.items ++ pin_text D.table cell name.now) }
 {
-    put_numbered(alloc, out, b"pin ", usize::from(cell_of::<D>(cell).pin))?;
+    put_numbered(
+        alloc,
+        out,
+        b"pin ",
+        usize::from(cell_of::<D>(device, cell).pin),
+    )?;
     out.push(b' ')?;
     out.extend_from_slice(name)?;
     Ok(())
@@ -141,6 +157,7 @@ fn put_pin<D: Device>(
 /// Appends how many data rows of a cell are in use, of those that it has.
 fn put_use<D: Device>(
     alloc: Global,
+    device: &Loaded<D>,
     out: &mut Vec<u8>,
     fuses: &[bool],
     cell: u8,
@@ -148,11 +165,11 @@ fn put_use<D: Device>(
     requires { cell < length D.table.cells }
     ensures { OnOk result (out.new.items ≡ out.old.items ++ use_text D.table fuses.now cell) }
 {
-    let found = cell_of::<D>(cell);
+    let found = cell_of::<D>(device, cell);
     put_decimal(
         alloc,
         out,
-        count_in_use::<D>(fuses, found.first, found.room),
+        count_in_use::<D>(device, fuses, found.first, found.room),
     )?;
     put_numbered(alloc, out, b" of ", usize::from(found.room))
 }
@@ -185,17 +202,17 @@ fn put_chosen(out: &mut Vec<u8>, declared: &Declared) -> Result<(), OutOfMemory>
 fn put_head<D: Device>(
     alloc: Global,
     out: &mut Vec<u8>,
-    fuses: &[bool],
+    of: &Burned<D>,
     cell: u8,
     declared: &Declared,
 ) -> Result<(), OutOfMemory>
     requires { cell < length D.table.cells }
-    ensures { OnOk result (out.new.items ≡ out.old.items ++ head_text D.table fuses.now cell (view_declared declared.now)) }
+    ensures { OnOk result (out.new.items ≡ out.old.items ++ head_text D.table of.now.fuses.now cell (view_declared declared.now)) }
 {
-    put_pin::<D>(alloc, out, cell, declared.name.bytes())?;
-    put_kind::<D>(out, fuses, cell)?;
-    put_polarity::<D>(out, fuses, cell)?;
-    put_use::<D>(alloc, out, fuses, cell)?;
+    put_pin::<D>(alloc, of.device, out, cell, declared.name.bytes())?;
+    put_kind::<D>(of.device, out, of.fuses, cell)?;
+    put_polarity::<D>(of.device, out, of.fuses, cell)?;
+    put_use::<D>(alloc, of.device, out, of.fuses, cell)?;
     put_chosen(out, declared)
 }
 
@@ -203,7 +220,7 @@ fn put_head<D: Device>(
 fn put_cell<D: Device>(
     alloc: Global,
     out: &mut Vec<u8>,
-    of: &Burned,
+    of: &Burned<D>,
     cell: u8,
     declared: &Declared,
 ) -> Result<(), OutOfMemory>
@@ -211,8 +228,8 @@ fn put_cell<D: Device>(
     ensures { OnOk result (out.new.items
         ≡ out.old.items ++ cell_text D.table of.now.fuses.now (entries_of of.now.names.now) cell (view_declared declared.now)) }
 {
-    put_head::<D>(alloc, out, of.fuses, cell, declared)?;
-    let found = cell_of::<D>(cell);
+    put_head::<D>(alloc, out, of, cell, declared)?;
+    let found = cell_of::<D>(of.device, cell);
     out.extend_from_slice(b"  enable ")?;
     put_enable::<D>(alloc, out, of, found.enable)?;
     out.push(b'\n')?;
@@ -223,14 +240,14 @@ fn put_cell<D: Device>(
 pub fn put_if_assigned<D: Device>(
     alloc: Global,
     out: &mut Vec<u8>,
-    of: &Burned,
+    of: &Burned<D>,
     cell: u8,
 ) -> Result<(), OutOfMemory>
     requires { cell < length D.table.cells }
     ensures { OnOk result (out.new.items
         ≡ out.old.items ++ assigned_text D.table of.now.fuses.now (entries_of of.now.names.now) cell) }
 {
-    if let Some(declared) = name_on(of.names, cell_of::<D>(cell).pin) {
+    if let Some(declared) = name_on(of.names, cell_of::<D>(of.device, cell).pin) {
         if declared.assigned {
             put_cell::<D>(alloc, out, of, cell, declared)?;
         }

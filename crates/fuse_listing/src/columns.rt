@@ -12,7 +12,7 @@ use crate::burned::Burned;
 use crate::lookups::{carry_at, cell_of};
 use crate::pin_names::{name_on, names_complement, put_name};
 use pld_base::OutOfMemory;
-use pld_device::{Carry, Device, Flip, FuseBit, Kinds};
+use pld_device::{Carry, Device, Flip, FuseBit, Kinds, Loaded};
 use std::alloc::Global;
 
 /// The level of a fuse, 0 past the last one. Takes no memory.
@@ -36,48 +36,50 @@ pub fn says(fuses: &[bool], bit: Option<FuseBit>) -> bool
 }
 
 /// Whether a cell is a register. Takes no memory.
-pub fn stores<D: Device>(fuses: &[bool], cell: u8) -> bool
+pub fn stores<D: Device>(device: &Loaded<D>, fuses: &[bool], cell: u8) -> bool
     requires { cell < length D.table.cells }
     ensures { result ≡ stores D.table fuses.now cell }
 {
-    match cell_of::<D>(cell).kinds {
+    match cell_of::<D>(device, cell).kinds {
         Kinds::Combinational => false,
         Kinds::Registered => true,
-        Kinds::Either => says(fuses, D::registered_at(cell)),
+        Kinds::Either => says(fuses, device.registered_at(cell)),
     }
 }
 
 /// Whether the pin of a cell has the complement of its output. Takes no memory.
-pub fn complements_output<D: Device>(fuses: &[bool], cell: u8) -> bool
+pub fn complements_output<D: Device>(device: &Loaded<D>, fuses: &[bool], cell: u8) -> bool
     requires { cell < length D.table.cells }
     ensures { result ≡ complements_output D.table fuses.now cell }
 {
-    match D::FLIP {
+    match device.flip() {
         Flip::Always => true,
-        Flip::AfterRegister => says(fuses, D::inverted_at(cell)),
-        Flip::BeforeRegister => stores::<D>(fuses, cell) || says(fuses, D::inverted_at(cell)),
+        Flip::AfterRegister => says(fuses, device.inverted_at(cell)),
+        Flip::BeforeRegister => stores::<D>(device, fuses, cell)
+            || says(fuses, device.inverted_at(cell)),
     }
 }
 
 /// The pin that a pair belongs to. Takes no memory.
-pub fn pin_of<D: Device>(pair: Carry) -> u8
+pub fn pin_of<D: Device>(device: &Loaded<D>, pair: Carry) -> u8
     requires { CarryIsThere D.table pair }
     ensures { result ≡ pin_of D.table pair }
 {
     match pair {
         Carry::Pin(pin) => pin,
-        Carry::Cell(cell) => cell_of::<D>(cell).pin,
+        Carry::Cell(cell) => cell_of::<D>(device, cell).pin,
     }
 }
 
 /// Whether a pair carries the complement of its pin's polarity.
-fn carries_complement<D: Device>(fuses: &[bool], pair: Carry) -> bool
+fn carries_complement<D: Device>(device: &Loaded<D>, fuses: &[bool], pair: Carry) -> bool
     requires { CarryIsThere D.table pair }
     ensures { result ≡ carries_complement D.table fuses.now pair }
 {
     match pair {
         Carry::Pin(_) => false,
-        Carry::Cell(cell) => stores::<D>(fuses, cell) && !complements_output::<D>(fuses, cell),
+        Carry::Cell(cell) => stores::<D>(device, fuses, cell)
+            && !complements_output::<D>(device, fuses, cell),
     }
 }
 
@@ -85,7 +87,7 @@ fn carries_complement<D: Device>(fuses: &[bool], pair: Carry) -> bool
 fn put_pair_literal<D: Device>(
     alloc: Global,
     out: &mut Vec<u8>,
-    of: &Burned,
+    of: &Burned<D>,
     higher: bool,
     pair: Carry,
 ) -> Result<(), OutOfMemory>
@@ -93,9 +95,9 @@ fn put_pair_literal<D: Device>(
     ensures { OnOk result (out.new.items
         ≡ out.old.items ++ pair_literal D.table of.now.fuses.now (entries_of of.now.names.now) higher pair) }
 {
-    let pin = pin_of::<D>(pair);
+    let pin = pin_of::<D>(of.device, pair);
     let name = name_on(of.names, pin);
-    if higher != (names_complement(name) != carries_complement::<D>(of.fuses, pair)) {
+    if higher != (names_complement(name) != carries_complement::<D>(of.device, of.fuses, pair)) {
         out.push(b'!')?;
     }
     put_name(alloc, out, pin, name)
@@ -105,13 +107,13 @@ fn put_pair_literal<D: Device>(
 pub fn put_column<D: Device>(
     alloc: Global,
     out: &mut Vec<u8>,
-    of: &Burned,
+    of: &Burned<D>,
     column: u16,
 ) -> Result<(), OutOfMemory>
     requires { column < D.table.columns }
     ensures { OnOk result (out.new.items
         ≡ out.old.items ++ column_literal D.table of.now.fuses.now (entries_of of.now.names.now) column) }
 {
-    let pair = carry_at::<D>(column);
+    let pair = carry_at::<D>(of.device, column);
     put_pair_literal::<D>(alloc, out, of, column % 2 == 1, pair)
 }

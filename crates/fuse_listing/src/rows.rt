@@ -10,48 +10,48 @@ ghost use Rattle.fuse_listing.specs.Listing.{row_line, row_text};
 use crate::burned::Burned;
 use crate::columns::{level_of, put_column};
 use pld_base::OutOfMemory;
-use pld_device::Device;
+use pld_device::{Device, Loaded};
 use std::alloc::Global;
 
 /// Whether the fuse of a row and a column is opened. Takes no memory.
-pub fn is_opened<D: Device>(fuses: &[bool], row: u16, column: u16) -> bool
+pub fn is_opened<D: Device>(device: &Loaded<D>, fuses: &[bool], row: u16, column: u16) -> bool
     ensures { result ≡ is_opened D.table fuses.now row column }
 {
     level_of(
         fuses,
-        usize::from(D::COLUMNS) * usize::from(row) + usize::from(column),
+        usize::from(device.columns()) * usize::from(row) + usize::from(column),
     )
 }
 
 /// Whether some fuse of a row is opened.
-fn has_opened<D: Device>(fuses: &[bool], row: u16) -> bool
+fn has_opened<D: Device>(device: &Loaded<D>, fuses: &[bool], row: u16) -> bool
     ensures { result ≡ list_any (is_opened D.table fuses.now row) (range_with_len 0 D.table.columns) }
 {
-    (0..D::COLUMNS).any(|column| is_opened::<D>(fuses, row, column))
+    (0..device.columns()).any(|column| is_opened::<D>(device, fuses, row, column))
 }
 
 /// Whether a row isn't switched off.
-fn is_switched_on<D: Device>(fuses: &[bool], row: u16) -> bool
+fn is_switched_on<D: Device>(device: &Loaded<D>, fuses: &[bool], row: u16) -> bool
     ensures { result ≡ is_switched_on D.table fuses.now row }
 {
-    match D::row_switch(row) {
+    match device.row_switch(row) {
         None => true,
         Some(fuse) => level_of(fuses, usize::from(fuse)),
     }
 }
 
 /// Whether a row is in use. Takes no memory.
-pub fn is_in_use<D: Device>(fuses: &[bool], row: u16) -> bool
+pub fn is_in_use<D: Device>(device: &Loaded<D>, fuses: &[bool], row: u16) -> bool
     ensures { result ≡ is_in_use D.table fuses.now row }
 {
-    has_opened::<D>(fuses, row) && is_switched_on::<D>(fuses, row)
+    has_opened::<D>(device, fuses, row) && is_switched_on::<D>(device, fuses, row)
 }
 
 /// Appends the literal of a column, after others or not.
 fn put_literal<D: Device>(
     alloc: Global,
     out: &mut Vec<u8>,
-    of: &Burned,
+    of: &Burned<D>,
     column: u16,
     is_first: bool,
 ) -> Result<(), OutOfMemory>
@@ -69,15 +69,15 @@ fn put_literal<D: Device>(
 fn put_product<D: Device>(
     alloc: Global,
     out: &mut Vec<u8>,
-    of: &Burned,
+    of: &Burned<D>,
     row: u16,
 ) -> Result<(), OutOfMemory>
     ensures { OnOk result (out.new.items ≡ out.old.items
         ++ product_text (column_literal D.table of.now.fuses.now (entries_of of.now.names.now)) (intact_columns D.table of.now.fuses.now row)) }
 {
     let mut is_first = true;
-    for column in 0..D::COLUMNS {
-        if !is_opened::<D>(of.fuses, row, column) {
+    for column in 0..of.device.columns() {
+        if !is_opened::<D>(of.device, of.fuses, row, column) {
             put_literal::<D>(alloc, out, of, column, is_first)?;
             is_first = false;
         }
@@ -92,13 +92,13 @@ fn put_product<D: Device>(
 pub fn put_row<D: Device>(
     alloc: Global,
     out: &mut Vec<u8>,
-    of: &Burned,
+    of: &Burned<D>,
     row: u16,
 ) -> Result<(), OutOfMemory>
     ensures { OnOk result (out.new.items
         ≡ out.old.items ++ row_text D.table of.now.fuses.now (entries_of of.now.names.now) row) }
 {
-    if is_in_use::<D>(of.fuses, row) {
+    if is_in_use::<D>(of.device, of.fuses, row) {
         put_product::<D>(alloc, out, of, row)
     } else {
         out.push(b'0')?;
@@ -110,7 +110,7 @@ pub fn put_row<D: Device>(
 pub fn put_row_line<D: Device>(
     alloc: Global,
     out: &mut Vec<u8>,
-    of: &Burned,
+    of: &Burned<D>,
     word: &[u8],
     row: u16,
 ) -> Result<(), OutOfMemory>

@@ -11,15 +11,15 @@ use crate::given::put_given;
 use crate::rows::put_row_line;
 use abel_tree::Names;
 use pld_base::OutOfMemory;
-use pld_device::{Device, Fuses};
+use pld_device::{Device, Fuses, Loaded};
 use std::alloc::Global;
 
 /// Appends the lines of all cells whose pins' names are assigned, in the order of the cells.
-fn put_cells<D: Device>(alloc: Global, out: &mut Vec<u8>, of: &Burned) -> Result<(), OutOfMemory>
+fn put_cells<D: Device>(alloc: Global, out: &mut Vec<u8>, of: &Burned<D>) -> Result<(), OutOfMemory>
     ensures { OnOk result (out.new.items ≡ out.old.items
         ++ flat_map (assigned_text D.table of.now.fuses.now (entries_of of.now.names.now)) (range_with_len 0 (length D.table.cells))) }
 {
-    for cell in 0..D::CELLS {
+    for cell in 0..of.device.cells() {
         put_if_assigned::<D>(alloc, out, of, cell)?;
     }
     Ok(())
@@ -29,7 +29,7 @@ fn put_cells<D: Device>(alloc: Global, out: &mut Vec<u8>, of: &Burned) -> Result
 fn put_common<D: Device>(
     alloc: Global,
     out: &mut Vec<u8>,
-    of: &Burned,
+    of: &Burned<D>,
     word: &[u8],
     row: Option<u16>,
 ) -> Result<(), OutOfMemory>
@@ -51,6 +51,7 @@ fn put_common<D: Device>(
 /// Only lack of memory.
 pub fn listing<D: Device>(
     alloc: Global,
+    device: &Loaded<D>,
     declared: &Names,
     names: &Names,
     fuses: &Fuses,
@@ -59,7 +60,7 @@ pub fn listing<D: Device>(
 {
     let levels = fuses.levels();
     let mut out = Vec::from_slice(alloc, b"device ")?;
-    out.extend_from_slice(D::NAME.text().as_bytes())?;
+    out.extend_from_slice(device.name().text().as_bytes())?;
     out.push(b'\n')?;
     put_given(
         alloc,
@@ -68,11 +69,12 @@ pub fn listing<D: Device>(
         names.list.as_slice(),
     )?;
     let of = Burned {
+        device,
         fuses: levels,
         names,
     };
     put_cells::<D>(alloc, &mut out, &of)?;
-    put_common::<D>(alloc, &mut out, &of, b"reset ", D::RESET)?;
-    put_common::<D>(alloc, &mut out, &of, b"preset ", D::PRESET)?;
+    put_common::<D>(alloc, &mut out, &of, b"reset ", device.reset())?;
+    put_common::<D>(alloc, &mut out, &of, b"preset ", device.preset())?;
     Ok(out)
 }

@@ -7,7 +7,7 @@ use Rattle.fuse_listing.proofs.cells.put_head.Goals as goal
 pub returns : goal.returns
 returns g c =
     let t = g.D.Device.table in
-    let fuses = c.args.fuses.now in
+    let fuses = c.args.of.now.fuses.now in
     let cell = c.args.cell in
     let declared = view_declared c.args.declared.now in
     let old = c.args.out.now.items in

@@ -27,7 +27,7 @@ returns-in_ok-push g c =
     let t = g.D.Device.table in
     let literal = column_literal t c.args.of.now.fuses.now (entries_of c.args.of.now.names.now) in
     let passes : ℕ → Bool = λ k. not (is_opened t c.args.of.now.fuses.now c.args.row k) in
-    let end : c.loop-column.column ≡ t.columns = omega (arith, c.loop-column-test.false, c.loop-column.auto.column-end, c.COLUMNS-column-end.ensures, g.met.D.Device.columns_is) in
+    let end : c.loop-column.column ≡ t.columns = omega (arith, c.loop-column-test.false, c.loop-column.auto.column-end, c.columns-column-end.ensures) in
     c.in_ok-push.ensures.items
     ∙ (rw (c.if-is_first.true, end) at (all_joined literal passes c.args.out.now.items c.loop-column.out.items c.loop-column.is_first c.loop-column.column c.loop-column.invariant))
 
@@ -36,5 +36,5 @@ returns-else-is_first g c =
     let t = g.D.Device.table in
     let literal = column_literal t c.args.of.now.fuses.now (entries_of c.args.of.now.names.now) in
     let passes : ℕ → Bool = λ k. not (is_opened t c.args.of.now.fuses.now c.args.row k) in
-    let end : c.loop-column.column ≡ t.columns = omega (arith, c.loop-column-test.false, c.loop-column.auto.column-end, c.COLUMNS-column-end.ensures, g.met.D.Device.columns_is) in
+    let end : c.loop-column.column ≡ t.columns = omega (arith, c.loop-column-test.false, c.loop-column.auto.column-end, c.columns-column-end.ensures) in
     (rw (c.if-is_first.false, end) at (all_joined literal passes c.args.out.now.items c.loop-column.out.items c.loop-column.is_first c.loop-column.column c.loop-column.invariant))
