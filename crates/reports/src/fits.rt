@@ -15,7 +15,7 @@ use covers::Cube;
 use fit_plans::Tried;
 use fitter::{FitFault, SharedControl, cell_wanted, own_control};
 use pld_base::{OutOfMemory, put_decimal};
-use pld_device::Device;
+use pld_device::{Device, Loaded};
 use std::alloc::Global;
 
 /// What is asked of a cell that is assigned.
@@ -107,16 +107,17 @@ fn put_room(
 }
 
 /// How many data rows a cell has.
-fn room_of<D: Device>(cell: u8) -> usize
+fn room_of<D: Device>(device: &Loaded<D>, cell: u8) -> usize
     requires { cell < length D.table.cells }
     ensures { result ≡ (cell_at D.table cell).room }
 {
-    usize::from(D::cell(cell).room)
+    usize::from(device.cell(cell).room)
 }
 
 /// The line on a cell with too few rows.
 fn room_line<D: Device>(
     alloc: Global,
+    device: &Loaded<D>,
     names: &Names,
     wanted: &CellWanted,
     tried: &Tried,
@@ -127,7 +128,7 @@ fn room_line<D: Device>(
 {
     let mut line = begin_line(alloc, b"TooManyProducts", wanted.place)?;
     put_names(&mut line, names, &[wanted.name])?;
-    put_room(alloc, &mut line, room_of::<D>(wanted.cell), tried)?;
+    put_room(alloc, &mut line, room_of::<D>(device, wanted.cell), tried)?;
     Ok(line)
 }
 
@@ -135,6 +136,7 @@ fn room_line<D: Device>(
 /// fit, of which the refusal is. Lack of memory has no line.
 pub fn fit_line<D: Device>(
     alloc: Global,
+    device: &Loaded<D>,
     names: &Names,
     net: &Netlist,
     fault: &FitFault,
@@ -166,7 +168,7 @@ pub fn fit_line<D: Device>(
         }
         FitFault::TooManyProducts(cell, tried) => {
             let full = named_cell(net, *cell);
-            room_line::<D>(alloc, names, &full, tried)
+            room_line::<D>(alloc, device, names, &full, tried)
         }
         FitFault::OutOfMemory => Err(OutOfMemory),
     }

@@ -8,7 +8,7 @@ use crate::counting::{cells_used, products_used};
 use bit_expr::Netlist;
 use jedec_writer::fuse_sum;
 use pld_base::{OutOfMemory, put_decimal, put_hex};
-use pld_device::{Device, Fuses};
+use pld_device::{Device, Fuses, Loaded};
 use std::alloc::Global;
 
 /// Appends a piece and a number after it.
@@ -28,6 +28,7 @@ fn put_number(
 /// are in use, how many fuses are opened, and the fuse sum.
 pub fn summary<D: Device>(
     alloc: Global,
+    device: &Loaded<D>,
     net: &Netlist,
     fuses: &Fuses,
 ) -> Result<Vec<u8>, OutOfMemory>
@@ -36,9 +37,9 @@ pub fn summary<D: Device>(
         ≡ summary_of D.table (assigned_cells D.table (plain_netlist net.now)) fuses.now) }
 {
     let mut text = Vec::from_slice(alloc, b"compiled ")?;
-    text.extend_from_slice(D::NAME.text().as_bytes())?;
-    put_number(alloc, &mut text, b" cells ", cells_used::<D>(net))?;
-    let products = products_used::<D>(fuses.levels());
+    text.extend_from_slice(device.name().text().as_bytes())?;
+    put_number(alloc, &mut text, b" cells ", cells_used::<D>(device, net))?;
+    let products = products_used::<D>(device, fuses.levels());
     put_number(alloc, &mut text, b" products ", products)?;
     put_number(alloc, &mut text, b" opened ", fuses.opened())?;
     text.extend_from_slice(b" sum ")?;

@@ -16,5 +16,5 @@ loop-cell-preserved g c =
 pub returns : goal.returns
 unfolding assigned_cells
 returns g c =
-    let all : c.loop-cell.cell ≡ length g.D.Device.table.cells = omega (arith, c.loop-cell-test.false, c.CELLS-cell-end.ensures, g.met.D.Device.cells_is, c.loop-cell.auto.cell-end) in
+    let all : c.loop-cell.cell ≡ length g.D.Device.table.cells = omega (arith, c.loop-cell-test.false, c.cells-cell-end.ensures, c.loop-cell.auto.cell-end) in
     c.loop-cell.invariant.is ∙ ap (λ n. count_by (λ x. is_some (wanted_at (plain_netlist c.args.net.now) x)) (range_with_len 0 n)) all

@@ -15,5 +15,5 @@ loop-cell-preserved g c =
 pub returns : goal.returns
 unfolding products_used
 returns g c =
-    let all : c.loop-cell.cell ≡ length g.D.Device.table.cells = omega (arith, c.loop-cell-test.false, c.CELLS-cell-end.ensures, g.met.D.Device.cells_is, c.loop-cell.auto.cell-end) in
+    let all : c.loop-cell.cell ≡ length g.D.Device.table.cells = omega (arith, c.loop-cell-test.false, c.cells-cell-end.ensures, c.loop-cell.auto.cell-end) in
     c.loop-cell.invariant.is ∙ ap (λ n. sum_by (rows_used g.D.Device.table c.args.fuses.now) (range_with_len 0 n)) all

@@ -20,4 +20,4 @@ returns-clause-count g c =
     let all : c.loop-offset.offset ≡ c.cell-shape.result.room = omega (arith, c.loop-offset-test.false, c.loop-offset.auto.offset-end) in
     c.loop-offset.invariant.is
     ∙ (ap (λ n. count_by (is_used g.D.Device.table c.args.fuses.now) (range_with_len c.cell-shape.result.first n)) all
-    ∙ ap (λ (x : Cell). count_by (is_used g.D.Device.table c.args.fuses.now) (range_with_len x.first x.room)) (cell_found g.D.Device.table g.met.D.Device.sound c.args.cell c.cell-shape.result c.cell-shape.ensures))
+    ∙ ap (λ (x : Cell). count_by (is_used g.D.Device.table c.args.fuses.now) (range_with_len x.first x.room)) (cell_found g.D.Device.table g.D.Device.sound c.args.cell c.cell-shape.result c.cell-shape.ensures))
