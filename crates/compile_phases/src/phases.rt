@@ -26,7 +26,7 @@ use module_reader::read_module;
 use name_uses::ModuleParts;
 use placer::place;
 use pld_base::DeviceName;
-use pld_device::Device;
+use pld_device::{Device, Loaded};
 use section_targets::SectionScope;
 use set_expr::{Contributions, Scope};
 use std::alloc::Global;
@@ -66,13 +66,14 @@ pub fn parts_of(alloc: Global, module: &Module) -> Result<ModuleParts<'_>, Compi
 /// The names that a source declares.
 pub fn declared_of<D: Device>(
     alloc: Global,
+    device: &Loaded<D>,
     source: &ModuleParts<'_>,
 ) -> Result<Names, CompileFault>
     ensures ok { IfOk result (λ n. AreDeclaredBy D.table (view_module source.now) n) }
     ensures err { IfErr result (IsOfSource (IsNameFault (λ f.
         first_name_refusal D.table (view_module source.now) ≡ Some f))) }
 {
-    match declare::<D>(alloc, source) {
+    match declare::<D>(alloc, device, source) {
         Ok(names) => Ok(names),
         Err(fault) => Err(unnamed(alloc, fault)),
     }
@@ -81,6 +82,7 @@ pub fn declared_of<D: Device>(
 /// The source with pins for its signals that have none.
 pub fn placed_of<D: Device>(
     alloc: Global,
+    device: &Loaded<D>,
     source: Module,
     names: &Names,
 ) -> Result<Module, CompileFault>
@@ -89,36 +91,41 @@ pub fn placed_of<D: Device>(
     ensures numbered { IfOk result (λ m. HasNumberedNames D.table (view_module m)) }
     ensures err { IfErr result (IsOfPlacing (λ f line. IsUnplacedFor f line D.table (view_module source))) }
 {
-    match place::<D>(alloc, source, names) {
+    match place::<D>(alloc, device, source, names) {
         Ok(placed) => Ok(placed),
         Err(fault) => Err(unplaced(alloc, names, fault)),
     }
 }
 
 /// The names of a source that is placed.
-pub fn names_of<D: Device>(alloc: Global, placed: &ModuleParts<'_>) -> Result<Names, CompileFault>
+pub fn names_of<D: Device>(
+    alloc: Global,
+    device: &Loaded<D>,
+    placed: &ModuleParts<'_>,
+) -> Result<Names, CompileFault>
     requires { HasNumberedNames D.table (view_module placed.now) }
     ensures ok { IfOk result (λ n. AreNamesFor D.table (view_module placed.now) n) }
     ensures err { IfErr result (λ e. e ≡ OutOfMemory) }
 {
     numbered_names();
-    match declare::<D>(alloc, placed) {
+    match declare::<D>(alloc, device, placed) {
         Ok(names) => Ok(names),
         Err(fault) => Err(memory_alone(fault)),
     }
 }
 
 /// The names of a placed source on its device, for all later phases.
-pub fn scope_of<D: Device>(
+pub fn scope_of<'a, D: Device>(
     alloc: Global,
-    names: &Names,
-) -> Result<SectionScope<'_, D>, CompileFault>
+    device: &'a Loaded<D>,
+    names: &'a Names,
+) -> Result<SectionScope<'a, D>, CompileFault>
     requires source { (m : ModuleTree) × AreNamesFor D.table m names.now }
     ensures ok { IfOk result (λ s. s ≡ names.now) }
     ensures err { IfErr result (λ e. e ≡ OutOfMemory) }
 {
     let scope = Scope::new(alloc, names)?;
-    let scope = SectionScope::new(alloc, scope)?;
+    let scope = SectionScope::new(alloc, device, scope)?;
     Ok(scope)
 }
 
@@ -167,6 +174,7 @@ pub fn netlist_of<D: Device>(
 /// The fuses of a netlist.
 pub fn fitted_of<D: Device>(
     alloc: Global,
+    device: &Loaded<D>,
     names: &Names,
     net: &Netlist,
 ) -> Result<Fitted, CompileFault>
@@ -174,8 +182,8 @@ pub fn fitted_of<D: Device>(
     ensures ok { IfOk result (λ fitted. IsFitOf D.table net.now fitted) }
     ensures err { IfErr result (IsFitRefused D.table (entries_of names.now) net.now) }
 {
-    match fit::<D>(alloc, net) {
+    match fit::<D>(alloc, device, net) {
         Ok(fitted) => Ok(fitted),
-        Err(fault) => Err(unfit::<D>(alloc, names, net, fault)),
+        Err(fault) => Err(unfit::<D>(alloc, device, names, net, fault)),
     }
 }

@@ -19,7 +19,7 @@ use fitter::FitFault;
 use module_reader::ReadFault;
 use placer::PlaceFault;
 use pld_base::OutOfMemory;
-use pld_device::Device;
+use pld_device::{Device, Loaded};
 use reports::{design_line, fit_line, name_line, placing_line, read_line, section_line};
 use set_expr::SectionFault;
 use std::alloc::Global;
@@ -114,6 +114,7 @@ fn fit_refused(fault: FitFault, line: Vec<u8>) -> CompileFault
 /// Why a netlist does not fit.
 pub(crate) fn unfit<D: Device>(
     alloc: Global,
+    device: &Loaded<D>,
     names: &Names,
     net: &Netlist,
     fault: FitFault,
@@ -122,7 +123,7 @@ pub(crate) fn unfit<D: Device>(
     requires unfit { FitAnswers D.table net.now (Err fault) }
     ensures { IsFitRefused D.table (entries_of names.now) net.now result }
 {
-    match fit_line::<D>(alloc, names, net, &fault) {
+    match fit_line::<D>(alloc, device, names, net, &fault) {
         Ok(line) => fit_refused(fault, line),
         Err(_) => CompileFault::OutOfMemory,
     }

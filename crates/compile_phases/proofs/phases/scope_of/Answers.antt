@@ -5,7 +5,7 @@ use Rattle.compile_phases.proofs.phases.scope_of.Goals as goal
 
 pub new-requires-clause-placed : goal.new-requires-clause-placed
 new-requires-clause-placed g c =
-    sound_placed g.D.Device.table.name g.D.Device.table.pins c.args.names.now g.met.D.Device.sound.sizes.pins_high c.requires.source.1.sound
+    sound_placed g.D.Device.table.name g.D.Device.table.pins c.args.names.now g.D.Device.sound.sizes.pins_high c.requires.source.1.sound
 
 pub new-requires-clause-order : goal.new-requires-clause-order
 new-requires-clause-order g c =
