@@ -1,7 +1,7 @@
 //! From the bytes of a source to its fuse file.
 
 ghost use Rattle.std.specs.Prelude.{◌≡◌, ◌≤◌, Some, IfOk, IfErr, length, All};
-ghost use Rattle.abel_compile.specs.Prelude.{IsDevice, IsPlainName, IsTestVector, entries_of, view_module, design_of, names_of, SpellsModule, table_of, AreDeclaredBy, AreNamesFor, IsNameFault, IsNetlistFor, IsOfSource, IsRefusedBy, IsRefusedFor, IsPlacedFor};
+ghost use Rattle.abel_compile.specs.Prelude.{IsPlainName, IsTestVector, entries_of, view_module, design_of, names_of, SpellsModule, table_of, AreDeclaredBy, AreNamesFor, IsNameFault, IsNetlistFor, IsOfSource, IsRefusedBy, IsRefusedFor, IsPlacedFor};
 ghost use Rattle.abel_vectors.specs.AllSections.{AreSections};
 ghost use Rattle.abel_compile.specs.Answers.{CompileAnswers, IsNeverRefused};
 ghost use Rattle.abel_compile.specs.Statement.{IsRightFile};
@@ -18,55 +18,65 @@ use compile_phases::{
     CompileFault, declared_of, device_named, fitted_of, module_of, names_of, netlist_of, parts_of,
     placed_of, read_names_are_plain, scope_of, sections_of,
 };
-use devices::on_device;
+use devices::loaded;
 use pld_base::DeviceName;
-use pld_device::Device;
+use pld_device::{Device, Loaded};
 use std::alloc::Global;
+use std::marker::Brand;
 
-/// The fuse file of a placed module for a device.
+/// The fuse file of a placed module for its device.
 fn compile_placed<D: Device>(
     alloc: Global,
-    placed: &PlacedModule<'_>,
+    placed: &PlacedModule<'_, D>,
 ) -> Result<Compiled, CompileFault>
     requires name { IsPlainName (view_module placed.now.module).name.text }
     requires names { AreNamesFor D.table (view_module placed.now.module) placed.now.names }
-    ensures ok { IfOk result (λ c. IsCompiledOn D.table (entries_of placed.now.declared) D.NAME (view_module placed.now.module) c) }
+    ensures ok { IfOk result (λ c. IsCompiledOn D.table (entries_of placed.now.declared) D.table.name (view_module placed.now.module) c) }
     ensures err { IfErr result (IsRefusedFor D.table (view_module placed.now.module)) }
 {
     fits_are_right();
-    let scope = scope_of::<D>(alloc, &placed.names)?;
+    let device = placed.device;
+    let scope = scope_of::<D>(alloc, device, &placed.names)?;
     let SourceSections {
         contributions,
         vectors,
     } = sections_of::<D>(alloc, &placed.module, &scope)?;
     let net = netlist_of::<D>(alloc, &placed.module, &scope, contributions)?;
-    let fitted = fitted_of::<D>(alloc, &placed.names, &net)?;
+    let fitted = fitted_of::<D>(alloc, device, &placed.names, &net)?;
     let compiled = compiled_of::<D>(alloc, placed, &net, &fitted, vectors.as_slice())?;
     Ok(compiled)
 }
 
 /// The names that a module declares, before its signals are placed.
-fn names_in<D: Device>(alloc: Global, module: &Module) -> Result<Names, CompileFault>
+fn names_in<D: Device>(
+    alloc: Global,
+    device: &Loaded<D>,
+    module: &Module,
+) -> Result<Names, CompileFault>
     ensures ok { IfOk result (AreDeclaredBy D.table (view_module module.now)) }
     ensures err { IfErr result (IsOfSource (IsNameFault (λ f.
         first_name_refusal D.table (view_module module.now) ≡ Some f))) }
 {
     let source = parts_of(alloc, module)?;
-    declared_of::<D>(alloc, &source)
+    declared_of::<D>(alloc, device, &source)
 }
 
 /// The fuse file of a module for a device: of the placed module.
-fn compile_for<D: Device>(alloc: Global, source: Module) -> Result<Compiled, CompileFault>
+fn compile_module<D: Device>(
+    alloc: Global,
+    device: &Loaded<D>,
+    source: Module,
+) -> Result<Compiled, CompileFault>
     requires { IsPlainName (view_module source).name.text }
-    ensures ok { IfOk result (λ c. IsPlacedFor (λ t m. IsCompiledOn t (names_of t (view_module source)) D.NAME m c) D.table (view_module source)) }
+    ensures ok { IfOk result (λ c. IsPlacedFor (λ t m. IsCompiledOn t (names_of t (view_module source)) D.table.name m c) D.table (view_module source)) }
     ensures err { IfErr result (IsRefusedBy D.table (view_module source)) }
-    ensures device { IsDevice D.table }
 {
-    let declared = names_in::<D>(alloc, &source)?;
-    let module = placed_of::<D>(alloc, source, &declared)?;
+    let declared = names_in::<D>(alloc, device, &source)?;
+    let module = placed_of::<D>(alloc, device, source, &declared)?;
     let parts = parts_of(alloc, &module)?;
-    let names = names_of::<D>(alloc, &parts)?;
+    let names = names_of::<D>(alloc, device, &parts)?;
     let placed = PlacedModule {
+        device,
         module: parts,
         declared,
         names,
@@ -75,13 +85,17 @@ fn compile_for<D: Device>(alloc: Global, source: Module) -> Result<Compiled, Com
 }
 
 /// The fuse file of a module for the device of this name.
-fn compile_on(alloc: Global, device: DeviceName, source: Module) -> Result<Compiled, CompileFault>
-    requires { IsPlainName (view_module source).name.text }
-    ensures ok { IfOk result (λ c. IsPlacedFor (λ t m. IsCompiledOn t (names_of t (view_module source)) device m c) (table_of device) (view_module source)) }
-    ensures err { IfErr result (IsRefusedBy (table_of device) (view_module source)) }
-    ensures device { IsDevice (table_of device) }
+fn compile_for<D: Device>(
+    alloc: Global,
+    name: DeviceName,
+    source: Module,
+) -> Result<Compiled, CompileFault>
+    requires table { table_of name ≡ D.table }
+    requires plain { IsPlainName (view_module source).name.text }
+    ensures ok { IfOk result (λ c. IsPlacedFor (λ t m. IsCompiledOn t (names_of t (view_module source)) name m c) D.table (view_module source)) }
+    ensures err { IfErr result (IsRefusedBy D.table (view_module source)) }
 {
-    on_device!(device, compile_for(alloc, source))
+    compile_module::<D>(alloc, &loaded::<D>(name), source)
 }
 
 /// The fuse file of a source for the device that it names, with its listing and its summary; or the first refusal, with the
@@ -101,5 +115,5 @@ pub fn compile(alloc: Global, bytes: &[u8]) -> Result<Compiled, CompileFault>
     read_names_are_plain();
     let module = module_of(alloc, bytes)?;
     let device = device_named(alloc, &module)?;
-    compile_on(alloc, device, module)
+    compile_for::<Brand>(alloc, device, module)
 }

@@ -19,7 +19,7 @@ use std::alloc::Global;
 /// The file, the listing and the summary of the fuses of a source.
 pub(crate) fn compiled_of<D: Device>(
     alloc: Global,
-    placed: &PlacedModule<'_>,
+    placed: &PlacedModule<'_, D>,
     net: &Netlist,
     fitted: &Fitted,
     vectors: &[Vector],
@@ -31,19 +31,22 @@ pub(crate) fn compiled_of<D: Device>(
     requires vectors { all_chars D.table vectors.now ≡ source_vectors D.table (view_module placed.now.module) }
     requires few { length vectors.now ≤ 9999 }
     requires chars { All (IsTestVector D.table) vectors.now }
-    ensures device { IfOk result (λ c. c.device ≡ D.NAME) }
+    ensures device { IfOk result (λ c. c.device ≡ D.table.name) }
     ensures told { IfOk result (λ c. IsToldOf D.table (entries_of placed.now.declared) (view_module placed.now.module) fitted.now.fuses c) }
 {
     fits_can_be_told();
+    let device = placed.device;
+    let fuses = &fitted.fuses;
     Ok(Compiled {
-        device: D::NAME,
+        device: device.name(),
         file: write::<D>(
             alloc,
+            device,
             placed.module.module().name.text.bytes(),
-            &fitted.fuses,
+            fuses,
             vectors,
         )?,
-        listing: listing::<D>(alloc, &placed.declared, &placed.names, &fitted.fuses)?,
-        summary: summary::<D>(alloc, net, &fitted.fuses)?,
+        listing: listing::<D>(alloc, device, &placed.declared, &placed.names, fuses)?,
+        summary: summary::<D>(alloc, device, net, fuses)?,
     })
 }

@@ -3,6 +3,7 @@ use Rattle.abel_compile.proofs.Common.{err_from_is_err_and, view_module, Compile
 use Rattle.abel_compile.proofs.Compiles.{HasRightFile, of_text, of_device, answers_of, file_is_right}
 use Rattle.abel_compile.proofs.NeverRefused.{never_text, never_device, never_on}
 use Rattle.abel_compile.proofs.Refusals.{handed}
+use Rattle.devices.specs.DeviceLaws.{table_sound}
 use Rattle.abel_compile.proofs.compiling.compile.Goals as goal
 
 pub returns-in_err-module : goal.returns-in_err-module
@@ -31,18 +32,18 @@ returns-in_err-device c = record {
       (never_device c.args.bytes.now (view_module c.in_ok-module.module) _ c.in_ok-module.ensures.ok c.in_err-device.ensures.err);
 }
 
-pub compile_on-requires : goal.compile_on-requires
-compile_on-requires c = c.read_names_are_plain.ensures c.args.bytes.now (view_module c.in_ok-module.module) c.in_ok-module.ensures.ok.read
+pub compile_for-requires-clause-plain : goal.compile_for-requires-clause-plain
+compile_for-requires-clause-plain c = c.read_names_are_plain.ensures c.args.bytes.now (view_module c.in_ok-module.module) c.in_ok-module.ensures.ok.read
 
 pub returns : goal.returns
 returns c =
     let answers =
-    answers_of c.args.bytes.now (view_module c.in_ok-module.module) c.in_ok-device.device c.compile_on.result c.in_ok-module.ensures.ok
-    c.in_ok-device.ensures.ok c.compile_on.ensures.ok c.compile_on.ensures.err in
+    answers_of c.args.bytes.now (view_module c.in_ok-module.module) c.in_ok-device.device c.compile_for.result c.in_ok-module.ensures.ok
+    c.in_ok-device.ensures.ok c.compile_for.ensures.ok c.compile_for.ensures.err in
     record {
-      right = file_is_right c.args.bytes.now c.compile_on.result answers;
+      right = file_is_right c.args.bytes.now c.compile_for.result answers;
       answers = answers;
       complete =
-          never_on c.args.bytes.now (view_module c.in_ok-module.module) c.in_ok-device.device c.compile_on.result c.compile_on.ensures.device
-          c.in_ok-module.ensures.ok c.in_ok-device.ensures.ok c.compile_on.ensures.err;
+          never_on c.args.bytes.now (view_module c.in_ok-module.module) c.in_ok-device.device c.compile_for.result (table_sound c.in_ok-device.device)
+          c.in_ok-module.ensures.ok c.in_ok-device.ensures.ok c.compile_for.ensures.err;
     }

@@ -4,7 +4,7 @@ use Rattle.abel_compile.proofs.Common.{err_from_is_err_and, IsPlainName, Word, v
 use Rattle.abel_tree.specs.declared.sections.Module.{Module}
 use Rattle.abel_compile.proofs.Refusals.{handed}
 use Rattle.abel_compile.proofs.PlacedModules.{compiled_placed, refused_placed}
-use Rattle.abel_compile.proofs.compiling.compile_for.Goals as goal
+use Rattle.abel_compile.proofs.compiling.compile_module.Goals as goal
 
 pub returns-in_err-declared-clause-err : goal.returns-in_err-declared-clause-err
 returns-in_err-declared-clause-err g c =
@@ -40,8 +40,8 @@ pub returns-clause-ok : goal.returns-clause-ok
 returns-clause-ok g c =
     let t = g.D.Device.table in
     let is = subst (λ m. IsPlacedModule t (view_module c.args.source) (view_module m)) (sym c.in_ok-parts.ensures.ok) c.in_ok-module.ensures.ok in
-    compiled_placed t g.D.Device.NAME (view_module c.args.source) (view_module c.in_ok-parts.parts) c.compile_placed.result is
-    (subst (λ es. IfOk c.compile_placed.result (λ r. IsCompiledOn t es g.D.Device.NAME (view_module c.in_ok-parts.parts) r)) c.in_ok-declared.ensures.ok.entries c.compile_placed.ensures.ok)
+    compiled_placed t t.name (view_module c.args.source) (view_module c.in_ok-parts.parts) c.compile_placed.result is
+    (subst (λ es. IfOk c.compile_placed.result (λ r. IsCompiledOn t es t.name (view_module c.in_ok-parts.parts) r)) c.in_ok-declared.ensures.ok.entries c.compile_placed.ensures.ok)
 
 pub returns-clause-err : goal.returns-clause-err
 returns-clause-err g c =

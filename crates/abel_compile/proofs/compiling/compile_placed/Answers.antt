@@ -14,8 +14,8 @@ returns-in_err-fitted-clause-err g c =
 pub returns-clause-ok : goal.returns-clause-ok
 returns-clause-ok g c =
     let m = view_module c.args.placed.now.module in
-    compiled_on g.D.Device.table (entries_of c.args.placed.now.declared) g.D.Device.NAME m c.in_ok-net.net c.in_ok-fitted.fitted c.in_ok-compiled.compiled
+    compiled_on g.D.Device.table (entries_of c.args.placed.now.declared) g.D.Device.table.name m c.in_ok-net.net c.in_ok-fitted.fitted c.in_ok-compiled.compiled
     c.in_ok-net.ensures.ok c.in_ok-fitted.ensures.ok
-    (c.fits_are_right.ensures g.D.Device.table m c.in_ok-net.net c.in_ok-fitted.fitted g.met.D.Device.sound
+    (c.fits_are_right.ensures g.D.Device.table m c.in_ok-net.net c.in_ok-fitted.fitted g.D.Device.sound
     c.in_ok-net.ensures.takeable c.in_ok-net.ensures.ok c.in_ok-fitted.ensures.ok)
     c.in_ok-compiled.ensures.device c.in_ok-compiled.ensures.told
