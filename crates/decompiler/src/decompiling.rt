@@ -10,10 +10,10 @@ use crate::source_laws::sources_are_right;
 use decompiled::PinSource;
 use device_logic::{SimFault, load};
 use pld_base::{ListOf, OutOfMemory};
-use pld_device::{Device, Fuses};
+use pld_device::{Device, Fuses, Loaded};
 use std::alloc::Global;
 
-impl<D: Device> DeviceFuses<D> {
+impl<'a, D: Device> DeviceFuses<'a, D> {
     /// The source.
     fn source(&self, alloc: Global) -> Result<PinSource, OutOfMemory>
         ensures { IfOk result (λ source. source ≡ source_of D.table self.now) }
@@ -21,7 +21,7 @@ impl<D: Device> DeviceFuses<D> {
         let lines = self.lines(alloc)?;
         let pins = self.pins(alloc, &lines)?;
         Ok(PinSource {
-            device: D::NAME,
+            device: self.device.name(),
             pins: ListOf::from_vec(pins),
             lines: ListOf::from_vec(lines),
         })
@@ -32,7 +32,11 @@ impl<D: Device> DeviceFuses<D> {
 /// stores, and the rows that enable, reset and preset. Vectors and a signature are no part of it.
 ///
 /// The device is loaded first, and a fault is the one of `load`.
-pub fn decompile<D: Device>(alloc: Global, fuses: &Fuses) -> Result<Vec<u8>, SimFault>
+pub fn decompile<D: Device>(
+    alloc: Global,
+    device: &Loaded<D>,
+    fuses: &Fuses,
+) -> Result<Vec<u8>, SimFault>
     requires { length fuses.now ≡ D.table.fuses }
     ensures text { IfOk result (λ text. text.items ≡ decompiled_text D.table fuses.now) }
     ensures read { IfOk result (λ text. IsReadAsSource D.table fuses.now text.items) }
@@ -42,8 +46,8 @@ pub fn decompile<D: Device>(alloc: Global, fuses: &Fuses) -> Result<Vec<u8>, Sim
     ensures refused { IfErr result (IsLoadFault D.table fuses.now) }
 {
     sources_are_right();
-    load::<D>(alloc, fuses)?;
-    let fuses = DeviceFuses::<D>::new(alloc, fuses)?;
+    load::<D>(alloc, device, fuses)?;
+    let fuses = DeviceFuses::<D>::new(alloc, device, fuses)?;
     let text = fuses.source(alloc)?.text(alloc)?;
     Ok(text)
 }

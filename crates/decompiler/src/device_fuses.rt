@@ -8,18 +8,19 @@ ghost use Rattle.pld_device.specs.Rows.{row_fuses};
 
 use device_logic::{FuseArray, cell_of};
 use pld_base::OutOfMemory;
-use pld_device::{Device, Enable, Fuses};
+use pld_device::{Device, Enable, Fuses, Loaded};
 use std::alloc::Global;
 use std::marker::Model;
 
 /// The fuses of a device; contracts see their levels.
 #[derive(Drop)]
-pub struct DeviceFuses<D: Device> {
+pub struct DeviceFuses<'a, D: Device> {
+    device: &'a Loaded<D>,
     levels: Vec<bool>,
-    array: FuseArray<D>,
+    array: FuseArray<'a, D>,
 }
 
-impl<D: Device> Model for DeviceFuses<D> {
+impl<'a, D: Device> Model for DeviceFuses<'a, D> {
     ghost use Rattle.std.specs.Prelude.{List, Bool};
     ghost use Rattle.decompiler.specs.Steps.{AreFuses};
 
@@ -30,15 +31,23 @@ impl<D: Device> Model for DeviceFuses<D> {
     ghost invariant = { λ f. AreFuses D.table f.levels.items f.array };
 }
 
-impl<D: Device> DeviceFuses<D> {
+impl<'a, D: Device> DeviceFuses<'a, D> {
     /// These fuses.
-    pub fn new(alloc: Global, fuses: &Fuses) -> Result<DeviceFuses<D>, OutOfMemory>
+    pub fn new(
+        alloc: Global,
+        device: &'a Loaded<D>,
+        fuses: &Fuses,
+    ) -> Result<DeviceFuses<'a, D>, OutOfMemory>
         requires { length fuses.now ≡ D.table.fuses }
         ensures { IfOk result (λ f. f ≡ fuses.now) }
     {
-        let array = FuseArray::new(alloc, fuses)?;
+        let array = FuseArray::new(alloc, device, fuses)?;
         let levels = fuses.levels().to_vec(alloc)?;
-        Ok(DeviceFuses { levels, array })
+        Ok(DeviceFuses {
+            device,
+            levels,
+            array,
+        })
     }
 
     /// The fuses of a row, one a column: an intact one, 0, connects the column.
@@ -47,8 +56,8 @@ impl<D: Device> DeviceFuses<D> {
         ensures fuses { result.now ≡ row_fuses D.table self.now row }
         ensures size { length result.now ≡ D.table.columns }
     {
-        let first = usize::from(D::COLUMNS) * usize::from(row);
-        &self.levels[first..first + usize::from(D::COLUMNS)]
+        let first = usize::from(self.device.columns()) * usize::from(row);
+        &self.levels[first..first + usize::from(self.device.columns())]
     }
 
     /// Whether the row can be true, as far as its own fuses say.
@@ -80,7 +89,7 @@ impl<D: Device> DeviceFuses<D> {
         requires { cell < length D.table.cells }
         ensures { result ≡ never_drives D.table self.now cell }
     {
-        match cell_of::<D>(cell).enable {
+        match cell_of::<D>(self.device, cell).enable {
             Enable::Row(row) => !self.is_live(row),
             Enable::PinLow(_) => false,
         }
@@ -99,7 +108,7 @@ impl<D: Device> DeviceFuses<D> {
         ensures first { result ≡ first_register D.table self.now }
         ensures within { IfSome result (λ c. c < length D.table.cells) }
     {
-        for cell in 0..D::CELLS {
+        for cell in 0..self.device.cells() {
             if self.stores(cell) {
                 return Some(cell);
             }

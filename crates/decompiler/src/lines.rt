@@ -32,7 +32,7 @@ fn data_complements(flip: Flip, inverted: bool) -> bool
     }
 }
 
-impl<D: Device> DeviceFuses<D> {
+impl<'a, D: Device> DeviceFuses<'a, D> {
     /// Whether a cell's data line assigns the complement of the sum.
     fn is_complement(&self, cell: u8) -> bool
         requires { cell < length D.table.cells }
@@ -40,9 +40,9 @@ impl<D: Device> DeviceFuses<D> {
     {
         let inverted = self.is_inverted(cell);
         if self.stores(cell) {
-            data_complements(D::FLIP, inverted)
+            data_complements(self.device.flip(), inverted)
         } else {
-            pin_complements(D::FLIP, false, inverted)
+            pin_complements(self.device.flip(), false, inverted)
         }
     }
 
@@ -51,7 +51,7 @@ impl<D: Device> DeviceFuses<D> {
         requires { cell < length D.table.cells }
         ensures { IfOk result (λ line. line ≡ data_line D.table self.now cell) }
     {
-        let found = cell_of::<D>(cell);
+        let found = cell_of::<D>(self.device, cell);
         let products = self.data_sum(alloc, &found)?;
         Ok(SumLine {
             negated: self.is_complement(cell),
@@ -76,7 +76,7 @@ impl<D: Device> DeviceFuses<D> {
         ensures { OnOk result (lines.new.items
             ≡ lines.old.items ++ enable_lines D.table self.now cell (cell_at D.table cell).enable) }
     {
-        let found = cell_of::<D>(cell);
+        let found = cell_of::<D>(self.device, cell);
         if let Enable::Row(row) = found.enable {
             lines.push(SumLine {
                 negated: false,
@@ -121,7 +121,7 @@ impl<D: Device> DeviceFuses<D> {
             if self.is_live(row) {
                 lines.push(SumLine {
                     negated: false,
-                    pin: cell_of::<D>(cell).pin,
+                    pin: cell_of::<D>(self.device, cell).pin,
                     extension: Some(extension),
                     products: self.control_sum(alloc, row)?,
                 })?;
@@ -135,11 +135,11 @@ impl<D: Device> DeviceFuses<D> {
         ensures { IfOk result (λ lines. lines.items ≡ lines_of D.table self.now) }
     {
         let mut lines = Vec::new(alloc);
-        for cell in 0..D::CELLS {
+        for cell in 0..self.device.cells() {
             self.push_cell(alloc, &mut lines, cell)?;
         }
-        self.push_shared(alloc, &mut lines, Extension::Ar, D::RESET)?;
-        self.push_shared(alloc, &mut lines, Extension::Sp, D::PRESET)?;
+        self.push_shared(alloc, &mut lines, Extension::Ar, self.device.reset())?;
+        self.push_shared(alloc, &mut lines, Extension::Sp, self.device.preset())?;
         Ok(lines)
     }
 }

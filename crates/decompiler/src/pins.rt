@@ -40,13 +40,13 @@ fn some_names(lines: &[SumLine], pin: u8) -> bool
     lines.iter().any(|line| names_pin(line, pin))
 }
 
-impl<D: Device> DeviceFuses<D> {
+impl<'a, D: Device> DeviceFuses<'a, D> {
     /// Whether the cell is a register on the pin.
     fn is_register_on(&self, pin: u8, cell: u8) -> bool
         requires { cell < length D.table.cells }
         ensures { result ≡ is_register_on D.table self.now pin cell }
     {
-        cell_of::<D>(cell).pin == pin && self.stores(cell)
+        cell_of::<D>(self.device, cell).pin == pin && self.stores(cell)
     }
 
     /// The register on a pin.
@@ -54,7 +54,7 @@ impl<D: Device> DeviceFuses<D> {
         ensures first { result ≡ register_on D.table self.now pin }
         ensures within { IfSome result (λ c. c < length D.table.cells) }
     {
-        for cell in 0..D::CELLS {
+        for cell in 0..self.device.cells() {
             if self.is_register_on(pin, cell) {
                 return Some(cell);
             }
@@ -68,7 +68,7 @@ impl<D: Device> DeviceFuses<D> {
     {
         let follows = match self.register_on(pin) {
             None => None,
-            Some(cell) => Some(!pin_complements(D::FLIP, true, self.is_inverted(cell))),
+            Some(cell) => Some(!pin_complements(self.device.flip(), true, self.is_inverted(cell))),
         };
         PinLine { pin, follows }
     }
@@ -94,7 +94,7 @@ impl<D: Device> DeviceFuses<D> {
             (filter (λ pin. list_any (names_pin pin) lines.now) (range_with_len 1 D.table.pins))) }
     {
         let mut pins = Vec::new(alloc);
-        for before in 0..D::PINS {
+        for before in 0..self.device.pins() {
             self.push_if_named(&mut pins, lines, before + 1)?;
         }
         Ok(pins)

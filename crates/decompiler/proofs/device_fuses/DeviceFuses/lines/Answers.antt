@@ -10,7 +10,7 @@ loop-cell-preserved g c =
     c.loop-cell.invariant c.in_ok-push_cell.ensures (sym (zero-add c.loop-cell.cell))
 
 pub push_shared-requires : goal.push_shared-requires
-push_shared-requires g c = rw (c.RESET.ensures ∙ g.met.D.Device.reset_is) (reset_if_any g.D.Device.table g.met.D.Device.sound)
+push_shared-requires g c = rw c.reset.ensures (reset_if_any g.D.Device.table g.D.Device.sound)
 
 pub push_shared-requires-2 : goal.push_shared-requires-2
-push_shared-requires-2 g c = rw (c.PRESET.ensures ∙ g.met.D.Device.preset_is) (preset_if_any g.D.Device.table g.met.D.Device.sound)
+push_shared-requires-2 g c = rw c.preset.ensures (preset_if_any g.D.Device.table g.D.Device.sound)

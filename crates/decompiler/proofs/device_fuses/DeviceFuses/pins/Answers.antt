@@ -11,6 +11,6 @@ loop-before-preserved g c =
 pub returns : goal.returns
 returns g c =
     let t = g.D.Device.table in
-    let end : c.loop-before.before ≡ t.pins = omega (arith, c.loop-before-test.false, c.loop-before.auto.before-end, c.PINS-before-end.ensures, g.met.D.Device.pins_is) in
+    let end : c.loop-before.before ≡ t.pins = omega (arith, c.loop-before-test.false, c.loop-before.auto.before-end, c.pins-before-end.ensures) in
     c.loop-before.invariant
     ∙ (rw end (given_chosen (λ pin. list_any (names_pin pin) c.args.lines.now) (pin_line t c.args.self.now) (range_with_len 1 t.pins)))
