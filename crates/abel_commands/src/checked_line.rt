@@ -8,15 +8,19 @@ use crate::numbered::put_numbered;
 use jedec_file::fuse_sum;
 use jedec_reader::FuseFile;
 use pld_base::{OutOfMemory, put_hex};
-use pld_device::Device;
+use pld_device::{Device, Loaded};
 use std::alloc::Global;
 
 /// The line on a fuse file.
-pub fn checked_line<D: Device>(alloc: Global, file: &FuseFile) -> Result<Vec<u8>, OutOfMemory>
+pub fn checked_line<D: Device>(
+    alloc: Global,
+    device: &Loaded<D>,
+    file: &FuseFile,
+) -> Result<Vec<u8>, OutOfMemory>
     ensures { IfOk result (λ line. line.items ≡ checked_line D.table (contents D.table file.now)) }
 {
     let mut line = Vec::from_slice(alloc, b"checked ")?;
-    line.extend_from_slice(D::NAME.text().as_bytes())?;
+    line.extend_from_slice(device.name().text().as_bytes())?;
     put_numbered(alloc, &mut line, b" fuses ", usize::from(file.listed))?;
     put_numbered(alloc, &mut line, b" opened ", file.fuses.opened())?;
     line.extend_from_slice(b" sum ")?;

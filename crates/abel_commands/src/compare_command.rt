@@ -11,16 +11,18 @@ use crate::compared_line::{differ_line, same_line};
 use crate::ending::Ending;
 use crate::sim_fault_line::sim_fault_line;
 use crate::taken::{Taken, take_file};
-use devices::on_device;
+use devices::loaded;
 use fuse_compare::compare;
 use jedec_reader::FuseFile;
 use pld_base::{DeviceName, OutOfMemory};
-use pld_device::Device;
+use pld_device::{Device, Loaded};
 use std::alloc::Global;
+use std::marker::Brand;
 
 /// How `compare` ends with two fuse files.
 fn ending_of<'a, D: Device>(
     alloc: Global,
+    device: &Loaded<D>,
     first: &FuseFile,
     second: &FuseFile,
 ) -> Result<Ending<'a>, OutOfMemory>
@@ -30,31 +32,38 @@ fn ending_of<'a, D: Device>(
         → IsFileOf D.table b (contents D.table second.now)
         → IfOk result (λ e. CompareEnds D.table a b (ending_seen e)) }
 {
-    match compare::<D>(alloc, &first.fuses, &second.fuses) {
-        Ok(None) => Ok(Ending::plain(0, same_line::<D>(alloc)?)),
-        Ok(Some(state)) => Ok(Ending::plain(5, differ_line::<D>(alloc, &state)?)),
+    match compare::<D>(alloc, device, &first.fuses, &second.fuses) {
+        Ok(None) => Ok(Ending::plain(0, same_line::<D>(alloc, device)?)),
+        Ok(Some(state)) => Ok(Ending::plain(5, differ_line::<D>(alloc, device, &state)?)),
         Err(fault) => Ok(Ending::plain(4, sim_fault_line(alloc, &fault)?)),
     }
 }
 
-/// How `compare` ends with the bytes of two files as fuse files of a device.
-fn ending_for<'a, D: Device>(alloc: Global, a: &[u8], b: &[u8]) -> Result<Ending<'a>, OutOfMemory>
+/// How `compare` ends with the bytes of two files as fuse files of the device of this name.
+fn ending_for<'a, D: Device>(
+    alloc: Global,
+    name: DeviceName,
+    a: &[u8],
+    b: &[u8],
+) -> Result<Ending<'a>, OutOfMemory>
+    requires table { table_of name ≡ D.table }
     requires first { length a.now ≤ limit }
     requires second { length b.now ≤ limit }
     ensures { IfOk result (λ e. CompareEnds D.table a.now b.now (ending_seen e)) }
 {
-    let first = match take_file::<D>(alloc, a)? {
+    let device = loaded::<D>(name);
+    let first = match take_file::<D>(alloc, &device, a)? {
         Taken::File(file) => file,
         Taken::Refused(line) => return Ok(Ending::plain(4, line)),
     };
-    let second = match take_file::<D>(alloc, b)? {
+    let second = match take_file::<D>(alloc, &device, b)? {
         Taken::File(file) => file,
         Taken::Refused(line) => return Ok(Ending::plain(4, line)),
     };
-    ending_of::<D>(alloc, &first, &second)
+    ending_of::<D>(alloc, &device, &first, &second)
 }
 
-/// The same for a device of this name.
+/// The same for each name.
 pub fn compare_ending<'a>(
     alloc: Global,
     device: DeviceName,
@@ -65,5 +74,5 @@ pub fn compare_ending<'a>(
     requires second { length b.now ≤ limit }
     ensures { IfOk result (λ e. CompareEnds (table_of device) a.now b.now (ending_seen e)) }
 {
-    on_device!(device, ending_for(alloc, a, b))
+    ending_for::<Brand>(alloc, device, a, b)
 }

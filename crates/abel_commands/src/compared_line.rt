@@ -7,7 +7,7 @@ ghost use Rattle.abel_commands.specs.Comparing.{differ_line, pin_digits, q_on, s
 use device_logic::cell_of;
 use fuse_compare::Difference;
 use pld_base::{OutOfMemory, level_at};
-use pld_device::Device;
+use pld_device::{Device, Loaded};
 use std::alloc::Global;
 
 /// A level as a digit. Takes no memory.
@@ -18,30 +18,34 @@ fn digit(level: bool) -> u8
 }
 
 /// Appends the levels outside the pins, from pin 1 on.
-fn put_levels<D: Device>(text: &mut Vec<u8>, outside: u32) -> Result<(), OutOfMemory>
+fn put_levels<D: Device>(
+    device: &Loaded<D>,
+    text: &mut Vec<u8>,
+    outside: u32,
+) -> Result<(), OutOfMemory>
     ensures { OnOk result
         (text.new.items ≡ text.old.items ++ pin_digits D.table (is_on (bits 32 outside))) }
 {
-    for before in 0..D::PINS {
+    for before in 0..device.pins() {
         text.push(digit(level_at(outside, before + 1)))?;
     }
     Ok(())
 }
 
 /// Whether a cell is on the pin and its stored Q is 1. Takes no memory.
-fn is_on_at<D: Device>(stored: u32, cell: u8, pin: u8) -> bool
+fn is_on_at<D: Device>(device: &Loaded<D>, stored: u32, cell: u8, pin: u8) -> bool
     requires { cell < length D.table.cells }
     ensures { result ≡ ((cell_at D.table cell).pin == pin && is_on (bits 32 stored) cell) }
 {
-    cell_of::<D>(cell).pin == pin && level_at(stored, cell)
+    cell_of::<D>(device, cell).pin == pin && level_at(stored, cell)
 }
 
 /// The stored Q of the cell on a pin, 0 if there is no cell. Takes no memory.
-fn q_on<D: Device>(stored: u32, pin: u8) -> bool
+fn q_on<D: Device>(device: &Loaded<D>, stored: u32, pin: u8) -> bool
     ensures { result ≡ q_on D.table (bits 32 stored) pin }
 {
-    for cell in 0..D::CELLS {
-        if is_on_at::<D>(stored, cell, pin) {
+    for cell in 0..device.cells() {
+        if is_on_at::<D>(device, stored, cell, pin) {
             return true;
         }
     }
@@ -49,43 +53,55 @@ fn q_on<D: Device>(stored: u32, pin: u8) -> bool
 }
 
 /// Appends the stored Qs of the cells on the pins, from pin 1 on.
-fn put_stored<D: Device>(text: &mut Vec<u8>, stored: u32) -> Result<(), OutOfMemory>
+fn put_stored<D: Device>(
+    device: &Loaded<D>,
+    text: &mut Vec<u8>,
+    stored: u32,
+) -> Result<(), OutOfMemory>
     ensures { OnOk result
         (text.new.items ≡ text.old.items ++ pin_digits D.table (q_on D.table (bits 32 stored))) }
 {
-    for before in 0..D::PINS {
-        text.push(digit(q_on::<D>(stored, before + 1)))?;
+    for before in 0..device.pins() {
+        text.push(digit(q_on::<D>(device, stored, before + 1)))?;
     }
     Ok(())
 }
 
 /// A line's beginning: its word and the device.
-fn line_on<D: Device>(alloc: Global, word: &[u8]) -> Result<Vec<u8>, OutOfMemory>
+fn line_on<D: Device>(
+    alloc: Global,
+    device: &Loaded<D>,
+    word: &[u8],
+) -> Result<Vec<u8>, OutOfMemory>
     ensures { IfOk result (λ line. line.items ≡ word.now ++ device_text D.table.name) }
 {
     let mut line = Vec::from_slice(alloc, word)?;
-    line.extend_from_slice(D::NAME.text().as_bytes())?;
+    line.extend_from_slice(device.name().text().as_bytes())?;
     Ok(line)
 }
 
 /// The line on fuse files that behave alike.
-pub fn same_line<D: Device>(alloc: Global) -> Result<Vec<u8>, OutOfMemory>
+pub fn same_line<D: Device>(alloc: Global, device: &Loaded<D>) -> Result<Vec<u8>, OutOfMemory>
     ensures { IfOk result (λ line. line.items ≡ same_line D.table) }
 {
-    let mut line = line_on::<D>(alloc, b"same ")?;
+    let mut line = line_on::<D>(alloc, device, b"same ")?;
     line.push(b'\n')?;
     Ok(line)
 }
 
 /// The line on a state at which fuse files differ.
-pub fn differ_line<D: Device>(alloc: Global, state: &Difference) -> Result<Vec<u8>, OutOfMemory>
+pub fn differ_line<D: Device>(
+    alloc: Global,
+    device: &Loaded<D>,
+    state: &Difference,
+) -> Result<Vec<u8>, OutOfMemory>
     ensures { IfOk result (λ line. line.items ≡ differ_line D.table state.now) }
 {
-    let mut line = line_on::<D>(alloc, b"differ ")?;
+    let mut line = line_on::<D>(alloc, device, b"differ ")?;
     line.extend_from_slice(b" levels ")?;
-    put_levels::<D>(&mut line, state.outside)?;
+    put_levels::<D>(device, &mut line, state.outside)?;
     line.extend_from_slice(b" stored ")?;
-    put_stored::<D>(&mut line, state.stored)?;
+    put_stored::<D>(device, &mut line, state.stored)?;
     line.extend_from_slice(b" clock ")?;
     line.extend_from_slice(&[digit(state.clocked), b'\n'])?;
     Ok(line)

@@ -13,55 +13,68 @@ use crate::sources::LIMIT;
 use abel_compile::compile;
 use demo_source::demo_text;
 use device_sim::{Report, simulate};
-use devices::on_device;
+use devices::loaded;
 use jedec_file::fuse_sum;
 use jedec_reader::{FuseFile, read};
 use pld_base::{DeviceName, OutOfMemory};
-use pld_device::Device;
+use pld_device::{Device, Loaded};
 use std::alloc::Global;
+use std::marker::Brand;
 
 /// The fuse file of a compiled source, read back.
 ///
 /// Such a file is never refused; one of 4 GiB or more, which the reader does not take, is answered as lack of memory.
-fn read_back<D: Device>(alloc: Global, bytes: &[u8]) -> Result<FuseFile, OutOfMemory>
+fn read_back<D: Device>(
+    alloc: Global,
+    device: &Loaded<D>,
+    bytes: &[u8],
+) -> Result<FuseFile, OutOfMemory>
     ensures file { IfOk result (λ file. file_of D.table bytes.now ≡ Ok (contents D.table file)) }
     ensures fuses { IfOk result (λ file. length file.fuses ≡ D.table.fuses) }
 {
     if bytes.len() > u32::MAX as usize {
         return Err(OutOfMemory);
     }
-    match read::<D>(alloc, bytes) {
+    match read::<D>(alloc, device, bytes) {
         Ok(file) => Ok(file),
         Err(_) => Err(OutOfMemory),
     }
 }
 
 /// The run of a fuse file's vectors on the device with its fuses. That of a compiled source is never refused.
-fn run_of<D: Device>(alloc: Global, file: &FuseFile) -> Result<Report, OutOfMemory>
+fn run_of<D: Device>(
+    alloc: Global,
+    device: &Loaded<D>,
+    file: &FuseFile,
+) -> Result<Report, OutOfMemory>
     requires size { length file.now.fuses ≡ D.table.fuses }
     requires few { length file.now.vectors < 2 ^ 32 }
     ensures simulated { IfOk result (λ r. IsSimulated D.table (contents D.table file.now) r) }
     ensures only { IfOk result (λ r. IsTheOnlyList D.table (contents D.table file.now) r.list) }
 {
-    match simulate::<D>(alloc, file) {
+    match simulate::<D>(alloc, device, file) {
         Ok(report) => Ok(report),
         Err(_) => Err(OutOfMemory),
     }
 }
 
-/// How a demo ends with the fuse file and the summary of its source: the file is read back, and its vectors are run.
+/// How a demo ends with the fuse file and the summary of its source, for the device of this name: the file is read back, and
+/// its vectors are run.
 fn ending_for<'a, D: Device>(
     alloc: Global,
     seed: u16,
+    name: DeviceName,
     bytes: &[u8],
     summary: &[u8],
 ) -> Result<Ending<'a>, OutOfMemory>
+    requires { table_of name ≡ D.table }
     ensures { (cells : ℕ) (fuses : List Bool) → cells < 2 ^ 64 → summary.now ≡ summary_of D.table cells fuses
         → IfOk result (λ e. FileEnds seed cells D.table bytes.now (ending_seen e)) }
 {
-    let file = read_back::<D>(alloc, bytes)?;
-    let report = run_of::<D>(alloc, &file)?;
-    let cells = cells_told::<D>(summary);
+    let device = loaded::<D>(name);
+    let file = read_back::<D>(alloc, &device, bytes)?;
+    let report = run_of::<D>(alloc, &device, &file)?;
+    let cells = cells_told::<D>(&device, summary);
     let line = demo_line(alloc, seed, cells, &report, fuse_sum(file.fuses.levels()))?;
     if report.list.as_slice().is_empty() {
         Ok(Ending::plain(0, line))
@@ -70,27 +83,13 @@ fn ending_for<'a, D: Device>(
     }
 }
 
-/// The same for a device of this name.
-fn file_ending<'a>(
-    alloc: Global,
-    seed: u16,
-    device: DeviceName,
-    bytes: &[u8],
-    summary: &[u8],
-) -> Result<Ending<'a>, OutOfMemory>
-    ensures { (cells : ℕ) (fuses : List Bool) → cells < 2 ^ 64 → summary.now ≡ summary_of (table_of device) cells fuses
-        → IfOk result (λ e. FileEnds seed cells (table_of device) bytes.now (ending_seen e)) }
-{
-    on_device!(device, ending_for(alloc, seed, bytes, summary))
-}
-
 /// How a demo ends with its source: it is compiled, and the fuse file is run.
 fn source_ending<'a>(alloc: Global, seed: u16, source: &[u8]) -> Result<Ending<'a>, OutOfMemory>
     requires { length source.now ≤ limit }
     ensures { IfOk result (λ e. DemoEndsWithin seed source.now (ending_seen e)) }
 {
     match compile(alloc, source) {
-        Ok(compiled) => file_ending(
+        Ok(compiled) => ending_for::<Brand>(
             alloc,
             seed,
             compiled.device,

@@ -8,7 +8,7 @@ use crate::leading_digits::first_digits;
 use crate::numbered::put_numbered;
 use device_sim::Report;
 use pld_base::{OutOfMemory, put_hex};
-use pld_device::Device;
+use pld_device::{Device, Loaded};
 use std::alloc::Global;
 
 /// What follows so many bytes, nothing if there are fewer.
@@ -22,11 +22,11 @@ fn behind(text: &[u8], count: usize) -> &[u8]
 }
 
 /// The digits of the number of cells in the summary of a source. Takes no memory.
-pub fn cells_told<D: Device>(summary: &[u8]) -> &[u8]
+pub fn cells_told<'a, D: Device>(device: &Loaded<D>, summary: &'a [u8]) -> &'a [u8]
     ensures { (cells : ℕ) (fuses : List Bool) → cells < 2 ^ 64 → summary.now ≡ summary_of D.table cells fuses
         → result.now ≡ decimal cells }
 {
-    let front = "compiled ".len() + D::NAME.text().len() + " cells ".len();
+    let front = "compiled ".len() + device.name().text().len() + " cells ".len();
     first_digits(behind(summary, front))
 }
 

@@ -6,7 +6,7 @@ ghost use Rattle.abel_commands.specs.Simulating.{mismatch_line, run_line, run_li
 use crate::numbered::put_numbered;
 use device_sim::{Mismatch, Report};
 use pld_base::OutOfMemory;
-use pld_device::Device;
+use pld_device::{Device, Loaded};
 use std::alloc::Global;
 
 /// Appends the line on a mismatch.
@@ -37,6 +37,7 @@ fn put_mismatches(alloc: Global, text: &mut Vec<u8>, list: &[Mismatch]) -> Resul
 /// Appends the line on the whole run.
 fn put_run<D: Device>(
     alloc: Global,
+    device: &Loaded<D>,
     text: &mut Vec<u8>,
     vectors: usize,
     mismatches: usize,
@@ -45,7 +46,7 @@ fn put_run<D: Device>(
         ≡ text.old.items ++ run_line D.table vectors mismatches) }
 {
     text.extend_from_slice(b"simulated ")?;
-    text.extend_from_slice(D::NAME.text().as_bytes())?;
+    text.extend_from_slice(device.name().text().as_bytes())?;
     put_numbered(alloc, text, b" vectors ", vectors)?;
     put_numbered(alloc, text, b" mismatches ", mismatches)?;
     text.push(b'\n')?;
@@ -53,13 +54,23 @@ fn put_run<D: Device>(
 }
 
 /// The lines on a run: one for each mismatch, and the one on the whole.
-pub fn run_lines<D: Device>(alloc: Global, report: &Report) -> Result<Vec<u8>, OutOfMemory>
+pub fn run_lines<D: Device>(
+    alloc: Global,
+    device: &Loaded<D>,
+    report: &Report,
+) -> Result<Vec<u8>, OutOfMemory>
     ensures { IfOk result (λ text. text.items
         ≡ run_lines D.table report.now.vectors report.now.list) }
 {
     let mut text = Vec::new(alloc);
     let list = report.list.as_slice();
     put_mismatches(alloc, &mut text, list)?;
-    put_run::<D>(alloc, &mut text, report.vectors as usize, list.len())?;
+    put_run::<D>(
+        alloc,
+        device,
+        &mut text,
+        report.vectors as usize,
+        list.len(),
+    )?;
     Ok(text)
 }

@@ -8,7 +8,7 @@ ghost use Rattle.abel_commands.specs.Limit.{limit};
 use crate::fault_line::{fault_line, wrong_mode_line};
 use jedec_reader::{FuseFile, read};
 use pld_base::OutOfMemory;
-use pld_device::{Device, wrong_fuse};
+use pld_device::{Device, Loaded, wrong_fuse};
 use std::alloc::Global;
 
 /// What bytes amount to: the file, or the line on why they aren't one.
@@ -19,25 +19,34 @@ pub enum Taken {
 }
 
 /// A file that was read from bytes, unless a fuse has another level than the one that the device fixes.
-fn in_mode<D: Device>(alloc: Global, bytes: &[u8], file: FuseFile) -> Result<Taken, OutOfMemory>
+fn in_mode<D: Device>(
+    alloc: Global,
+    device: &Loaded<D>,
+    bytes: &[u8],
+    file: FuseFile,
+) -> Result<Taken, OutOfMemory>
     requires within { length bytes.now ≤ limit }
     requires read { file_of D.table bytes.now ≡ Ok (contents D.table file) }
     requires fuses { length file.fuses ≡ D.table.fuses }
     ensures { IfOk result (IsTaken D.table bytes.now) }
 {
-    match wrong_fuse::<D>(&file.fuses) {
+    match wrong_fuse::<D>(device, &file.fuses) {
         None => Ok(Taken::File(file)),
         Some(fuse) => Ok(Taken::Refused(wrong_mode_line(alloc, fuse)?)),
     }
 }
 
 /// The fuse file that bytes within the limit are, or the line on why they aren't one.
-pub fn take_file<D: Device>(alloc: Global, bytes: &[u8]) -> Result<Taken, OutOfMemory>
+pub fn take_file<D: Device>(
+    alloc: Global,
+    device: &Loaded<D>,
+    bytes: &[u8],
+) -> Result<Taken, OutOfMemory>
     requires { length bytes.now ≤ limit }
     ensures { IfOk result (IsTaken D.table bytes.now) }
 {
-    match read::<D>(alloc, bytes) {
-        Ok(file) => in_mode::<D>(alloc, bytes, file),
+    match read::<D>(alloc, device, bytes) {
+        Ok(file) => in_mode::<D>(alloc, device, bytes, file),
         Err(fault) => Ok(Taken::Refused(fault_line(alloc, bytes, &fault)?)),
     }
 }

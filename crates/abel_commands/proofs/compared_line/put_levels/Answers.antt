@@ -5,7 +5,7 @@ use Rattle.abel_commands.proofs.PinDigits.{one_more}
 use Rattle.abel_commands.proofs.compared_line.put_levels.Goals as goal
 
 pub level_at-requires : goal.level_at-requires
-level_at-requires g c = omega (arith, c.loop-before-test.true, c.PINS-before-end.ensures, g.met.D.Device.pins_is, g.met.D.Device.sound.sizes.pins_high)
+level_at-requires g c = omega (arith, c.loop-before-test.true, c.pins-before-end.ensures, g.D.Device.sound.sizes.pins_high)
 
 pub loop-before-preserved : goal.loop-before-preserved
 loop-before-preserved g c =
@@ -15,5 +15,5 @@ loop-before-preserved g c =
 pub returns : goal.returns
 returns g c =
     let end : c.loop-before.before ≡ g.D.Device.table.pins =
-    omega (arith, c.loop-before-test.false, c.loop-before.auto.before-end, c.PINS-before-end.ensures, g.met.D.Device.pins_is) in
+    omega (arith, c.loop-before-test.false, c.loop-before.auto.before-end, c.pins-before-end.ensures) in
     rw end at c.loop-before.invariant

@@ -12,5 +12,5 @@ loop-before-preserved g c =
 pub returns : goal.returns
 returns g c =
     let end : c.loop-before.before ≡ g.D.Device.table.pins =
-    omega (arith, c.loop-before-test.false, c.loop-before.auto.before-end, c.PINS-before-end.ensures, g.met.D.Device.pins_is) in
+    omega (arith, c.loop-before-test.false, c.loop-before.auto.before-end, c.pins-before-end.ensures) in
     rw end at c.loop-before.invariant

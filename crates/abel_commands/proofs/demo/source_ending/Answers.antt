@@ -9,9 +9,9 @@ returns-in-Ok c =
     let compiled = c.in-Ok.compiled in
     let right = c.in-Ok.ensures.answers in
     let cells = cells_of c.args.source.now compiled right in
-    IfOk-weaker c.file_ending.result _ _
+    IfOk-weaker c.ending_for.result _ _
     (λ e ends. inl (compiled, right, subst (λ (bytes : List ℕ). FileEnds c.args.seed cells (table_of compiled.device) bytes (ending_seen e)) c.deref.ensures.value ends))
-    (c.file_ending.ensures cells right.right.fuses (few_cells compiled.device right.right.placed) (c.deref-in-Ok.ensures.value ∙ right.summary))
+    (c.ending_for.ensures cells right.right.fuses (few_cells compiled.device right.right.placed) (c.deref-in-Ok.ensures.value ∙ right.summary))
 
 pub returns-in-Err : goal.returns-in-Err
 returns-in-Err c = IfOk-weaker c.refused_ending.result _ _ (λ e uncompiled. inr uncompiled) (c.refused_ending.ensures c.args.source.now c.in-Err.ensures.answers)
