@@ -11,7 +11,7 @@ use crate::pins::name_bytes;
 use crate::rows::cell_of_row;
 use fuse_listing::cell_of;
 use pld_base::OutOfMemory;
-use pld_device::Device;
+use pld_device::{Device, Loaded};
 use std::mem;
 
 /// From one column to the next.
@@ -37,12 +37,13 @@ pub fn column_at(column: u16) -> usize
 }
 
 /// Whether a row begins the rows of another cell than the row before it.
-fn is_group_begun<D: Device>(row: u16) -> bool {
-    row == 0 || cell_of_row::<D>(row) != cell_of_row::<D>(row - 1)
+fn is_group_begun<D: Device>(device: &Loaded<D>, row: u16) -> bool {
+    row == 0 || cell_of_row::<D>(device, row) != cell_of_row::<D>(device, row - 1)
 }
 
 /// Writes the line above the rows of a cell, or above a row that all registers share.
 fn put_group<D: Device>(
+    device: &Loaded<D>,
     page: &mut Page,
     design: Design,
     row: u16,
@@ -55,18 +56,18 @@ fn put_group<D: Device>(
         Piece::Number(down as usize),
         Piece::Markup("\">"),
     ])?;
-    match cell_of_row::<D>(row) {
+    match cell_of_row::<D>(device, row) {
         Some(cell) => {
-            let pin = cell_of::<D>(cell).pin;
+            let pin = cell_of::<D>(device, cell).pin;
             page.put(&[
                 Piece::Markup("pin "),
                 Piece::Number(usize::from(pin)),
                 Piece::Markup(" "),
                 Piece::Text(name_bytes(design, pin)),
             ])?;
-            put_control_fuses::<D>(page, design, cell)?;
+            put_control_fuses::<D>(device, page, design, cell)?;
         }
-        None => page.put(&[Piece::Markup(if D::RESET == Some(row) {
+        None => page.put(&[Piece::Markup(if device.reset() == Some(row) {
             "reset of all registers"
         } else {
             "preset of all registers"
@@ -76,8 +77,12 @@ fn put_group<D: Device>(
 }
 
 /// Writes the opening of a drawing of this height.
-fn put_drawing<D: Device>(page: &mut Page, height: usize) -> Result<(), OutOfMemory> {
-    let width = LEFT + usize::from(D::COLUMNS) * STEP + BEHIND;
+fn put_drawing<D: Device>(
+    device: &Loaded<D>,
+    page: &mut Page,
+    height: usize,
+) -> Result<(), OutOfMemory> {
+    let width = LEFT + usize::from(device.columns()) * STEP + BEHIND;
     page.put(&[
         Piece::Markup("<svg class=\"array\" role=\"img\" width=\""),
         Piece::Number(width),
@@ -93,12 +98,13 @@ fn put_drawing<D: Device>(page: &mut Page, height: usize) -> Result<(), OutOfMem
 
 /// Writes the drawing of a group of rows, which end so far down.
 fn put_group_drawing<D: Device>(
+    device: &Loaded<D>,
     page: &mut Page,
     rows: Page,
     row: u16,
     down: u32,
 ) -> Result<(), OutOfMemory> {
-    put_drawing::<D>(page, down as usize + LINE as usize)?;
+    put_drawing::<D>(device, page, down as usize + LINE as usize)?;
     page.put(&[
         Piece::Markup("<title>Rows up to "),
         Piece::Number(usize::from(row)),
@@ -106,63 +112,75 @@ fn put_group_drawing<D: Device>(
             "</title><desc>The rows of a cell or of a common control, each with its dots and, where it is in use, its product.</desc>",
         ),
     ])?;
-    put_stripes::<D>(page, down as usize + LINE as usize)?;
+    put_stripes::<D>(device, page, down as usize + LINE as usize)?;
     page.append(rows)?;
     page.put(&[Piece::Markup("</svg>\n")])
 }
 
 /// Writes the rows, those of a cell in a drawing of their own, so that none is cut at the end of a sheet.
-fn put_rows<D: Device>(page: &mut Page, design: Design) -> Result<(), OutOfMemory> {
+fn put_rows<D: Device>(
+    device: &Loaded<D>,
+    page: &mut Page,
+    design: Design,
+) -> Result<(), OutOfMemory> {
     let mut rows = Page::new(design.alloc);
     let mut last = 0u16;
     let mut down = 0u32;
-    for row in 0..D::ROWS {
-        if is_group_begun::<D>(row) {
+    for row in 0..device.rows() {
+        if is_group_begun::<D>(device, row) {
             let above = mem::replace(&mut rows, Page::new(design.alloc));
             if row != 0 {
-                put_group_drawing::<D>(page, above, last, down)?;
+                put_group_drawing::<D>(device, page, above, last, down)?;
             }
             down = LINE;
-            put_group::<D>(&mut rows, design, row, down)?;
+            put_group::<D>(device, &mut rows, design, row, down)?;
         }
-        let room = put_array_row::<D>(&mut rows, design, row, down)?;
+        let room = put_array_row::<D>(device, &mut rows, design, row, down)?;
         down = down.saturating_add(room);
         last = row;
     }
-    put_group_drawing::<D>(page, rows, last, down)
+    put_group_drawing::<D>(device, page, rows, last, down)
 }
 
 /// Writes the pins above the columns. They alone are repeated on each sheet: browsers misplace turned text in what they repeat.
-fn put_pin_drawing<D: Device>(page: &mut Page) -> Result<(), OutOfMemory> {
-    put_drawing::<D>(page, PINS)?;
+fn put_pin_drawing<D: Device>(device: &Loaded<D>, page: &mut Page) -> Result<(), OutOfMemory> {
+    put_drawing::<D>(device, page, PINS)?;
     page.put(&[Piece::Markup(
         "<title>The pins</title><desc>Above each pair of columns the number of its pin.</desc>",
     )])?;
-    put_stripes::<D>(page, PINS)?;
-    put_pins::<D>(page)?;
+    put_stripes::<D>(device, page, PINS)?;
+    put_pins::<D>(device, page)?;
     page.put(&[Piece::Markup("</svg>")])
 }
 
 /// Writes the levels that the columns carry.
-fn put_level_drawing<D: Device>(page: &mut Page, design: Design) -> Result<(), OutOfMemory> {
-    let height = levels_height::<D>(design)?;
-    put_drawing::<D>(page, height + 4)?;
+fn put_level_drawing<D: Device>(
+    device: &Loaded<D>,
+    page: &mut Page,
+    design: Design,
+) -> Result<(), OutOfMemory> {
+    let height = levels_height::<D>(device, design)?;
+    put_drawing::<D>(device, page, height + 4)?;
     page.put(&[Piece::Markup(
         "<title>The levels</title><desc>Above each column the level that it carries.</desc>",
     )])?;
-    put_stripes::<D>(page, height + 4)?;
-    put_levels::<D>(page, design, height)?;
+    put_stripes::<D>(device, page, height + 4)?;
+    put_levels::<D>(device, page, design, height)?;
     page.put(&[Piece::Markup("</svg>\n")])
 }
 
 /// Writes the plot of the array: a line a row with its first fuse and, if the row is in use, its product.
-pub fn put_array<D: Device>(page: &mut Page, design: Design) -> Result<(), OutOfMemory> {
+pub fn put_array<D: Device>(
+    device: &Loaded<D>,
+    page: &mut Page,
+    design: Design,
+) -> Result<(), OutOfMemory> {
     page.put(&[Piece::Markup(
         "<div class=\"wide\" tabindex=\"0\"><div class=\"plot\"><div class=\"heads\">",
     )])?;
-    put_pin_drawing::<D>(page)?;
+    put_pin_drawing::<D>(device, page)?;
     page.put(&[Piece::Markup("</div>\n<div class=\"rows\">")])?;
-    put_level_drawing::<D>(page, design)?;
-    put_rows::<D>(page, design)?;
+    put_level_drawing::<D>(device, page, design)?;
+    put_rows::<D>(device, page, design)?;
     page.put(&[Piece::Markup("</div></div></div>\n")])
 }

@@ -8,34 +8,40 @@ use crate::page::{Page, Piece};
 use crate::rows::{is_enable, is_whole};
 use fuse_listing::{Burned, is_in_use, is_opened, put_row};
 use pld_base::OutOfMemory;
-use pld_device::Device;
+use pld_device::{Device, Loaded};
 
 /// How many bytes of a product are on a line.
 const WIDTH: usize = 60;
 
 /// Writes the number of a row's first fuse.
-fn put_number<D: Device>(page: &mut Page, row: u16, down: u32) -> Result<(), OutOfMemory> {
+fn put_number<D: Device>(
+    device: &Loaded<D>,
+    page: &mut Page,
+    row: u16,
+    down: u32,
+) -> Result<(), OutOfMemory> {
     page.put(&[
         Piece::Markup("<text class=\"e\" x=\""),
         Piece::Number(LEFT - 6),
         Piece::Markup("\" y=\""),
         Piece::Number(down as usize + 3),
         Piece::Markup("\">"),
-        Piece::Number(usize::from(D::COLUMNS) * usize::from(row)),
+        Piece::Number(usize::from(device.columns()) * usize::from(row)),
         Piece::Markup("</text>"),
     ])
 }
 
 /// Writes a dot for each connection that is.
 fn put_dots<D: Device>(
+    device: &Loaded<D>,
     page: &mut Page,
     design: Design,
     row: u16,
     down: u32,
 ) -> Result<(), OutOfMemory> {
     page.put(&[Piece::Markup("<path class=\"dot\" d=\"M0 0")])?;
-    for column in 0..D::COLUMNS {
-        if !is_opened::<D>(design.levels(), row, column) {
+    for column in 0..device.columns() {
+        if !is_opened::<D>(device, design.levels(), row, column) {
             page.put(&[
                 Piece::Markup("M"),
                 Piece::Number(column_at(column)),
@@ -49,14 +55,14 @@ fn put_dots<D: Device>(
 }
 
 /// Writes the one line that represents the dots of a row whose connections all are.
-fn put_whole<D: Device>(page: &mut Page, down: u32) -> Result<(), OutOfMemory> {
+fn put_whole<D: Device>(device: &Loaded<D>, page: &mut Page, down: u32) -> Result<(), OutOfMemory> {
     page.put(&[
         Piece::Markup("<path class=\"whole\" d=\"M"),
         Piece::Number(LEFT),
         Piece::Markup(" "),
         Piece::Number(down as usize),
         Piece::Markup("h"),
-        Piece::Number(usize::from(D::COLUMNS) * STEP),
+        Piece::Number(usize::from(device.columns()) * STEP),
         Piece::Markup("\"/>"),
     ])
 }
@@ -100,17 +106,19 @@ fn put_lines(page: &mut Page, product: &[u8], left: usize) -> Result<u32, OutOfM
 
 /// Writes the product of a row, and answers how many lines it takes.
 fn put_product<D: Device>(
+    device: &Loaded<D>,
     page: &mut Page,
     design: Design,
     row: u16,
     down: u32,
 ) -> Result<u32, OutOfMemory> {
     let burned = Burned {
+        device,
         fuses: design.levels(),
         names: design.names,
     };
     let mut product = Vec::new(design.alloc);
-    if is_enable::<D>(row) {
+    if is_enable::<D>(device, row) {
         product.extend_from_slice(b"enable ")?;
     }
     put_row::<D>(design.alloc, &mut product, &burned, row)?;
@@ -119,7 +127,7 @@ fn put_product<D: Device>(
         Piece::Number(down as usize + 3),
         Piece::Markup("\">"),
     ])?;
-    let left = LEFT + usize::from(D::COLUMNS) * STEP + 8;
+    let left = LEFT + usize::from(device.columns()) * STEP + 8;
     let lines = put_lines(page, &product, left)?;
     page.put(&[Piece::Markup("</text>")])?;
     Ok(lines)
@@ -127,19 +135,20 @@ fn put_product<D: Device>(
 
 /// Writes a row under what ends so far down, and answers how much room it takes.
 pub fn put_array_row<D: Device>(
+    device: &Loaded<D>,
     page: &mut Page,
     design: Design,
     row: u16,
     down: u32,
 ) -> Result<u32, OutOfMemory> {
     let middle = down.saturating_add(LINE);
-    let is_used = is_in_use::<D>(design.levels(), row);
+    let is_used = is_in_use::<D>(device, design.levels(), row);
     page.put(&[Piece::Markup(if is_used { "<g>" } else { "<g class=\"dim\">" })])?;
-    put_number::<D>(page, row, middle)?;
-    if is_whole::<D>(design, row) {
-        put_whole::<D>(page, middle)?;
+    put_number::<D>(device, page, row, middle)?;
+    if is_whole::<D>(device, design, row) {
+        put_whole::<D>(device, page, middle)?;
     } else {
-        put_dots::<D>(page, design, row, middle)?;
+        put_dots::<D>(device, page, design, row, middle)?;
     }
     let lines = if is_used {
         put_product::<D>(page, design, row, middle)?

@@ -12,14 +12,20 @@ use crate::pins::{is_assigned, is_register, name_bytes};
 use crate::rows::rows_in_use;
 use fuse_listing::{Burned, cell_of, name_on, put_row, stores};
 use pld_base::OutOfMemory;
-use pld_device::{Device, Enable};
+use pld_device::{Device, Enable, Loaded};
 
 /// Writes a row of the array as a product, or 0.
-pub fn put_product<D: Device>(page: &mut Page, design: Design, row: u16) -> Result<(), OutOfMemory>
+pub fn put_product<D: Device>(
+    device: &Loaded<D>,
+    page: &mut Page,
+    design: Design,
+    row: u16,
+) -> Result<(), OutOfMemory>
     ensures { OnOk result (page.new ≡ page.old
         ++ escaped (row_text D.table design.entry.file.now.fuses (entries_of design.entry.names.now) row)) }
 {
     let burned = Burned {
+        device,
         fuses: design.levels(),
         names: design.names,
     };
@@ -53,11 +59,16 @@ fn put_use(page: &mut Page, used: usize, room: u8) -> Result<(), OutOfMemory> {
 }
 
 /// Writes what enables a cell.
-fn put_enable<D: Device>(page: &mut Page, design: Design, cell: u8) -> Result<(), OutOfMemory>
+fn put_enable<D: Device>(
+    device: &Loaded<D>,
+    page: &mut Page,
+    design: Design,
+    cell: u8,
+) -> Result<(), OutOfMemory>
     requires { cell < length D.table.cells }
 {
     page.put(&[Piece::Markup("<td><code>")])?;
-    match cell_of::<D>(cell).enable {
+    match cell_of::<D>(device, cell).enable {
         Enable::Row(row) => put_product::<D>(page, design, row)?,
         Enable::PinLow(pin) => {
             let name = name_bytes(design, pin);
@@ -79,6 +90,7 @@ fn put_enable<D: Device>(page: &mut Page, design: Design, cell: u8) -> Result<()
 
 /// Writes the row that all registers share, for a cell that is one.
 fn put_shared<D: Device>(
+    device: &Loaded<D>,
     page: &mut Page,
     design: Design,
     cell: u8,
@@ -87,7 +99,7 @@ fn put_shared<D: Device>(
     requires { cell < length D.table.cells }
 {
     match row {
-        Some(row) if is_register::<D>(design, cell) => {
+        Some(row) if is_register::<D>(device, design, cell) => {
             page.put(&[Piece::Markup("<td><code>")])?;
             put_product::<D>(page, design, row)?;
             page.put(&[Piece::Markup("</code></td>")])
@@ -109,10 +121,15 @@ fn put_name(page: &mut Page, name: &[u8]) -> Result<(), OutOfMemory> {
 }
 
 /// Writes the line of a cell that is assigned.
-fn put_used<D: Device>(page: &mut Page, design: Design, cell: u8) -> Result<(), OutOfMemory>
+fn put_used<D: Device>(
+    device: &Loaded<D>,
+    page: &mut Page,
+    design: Design,
+    cell: u8,
+) -> Result<(), OutOfMemory>
     requires { cell < length D.table.cells }
 {
-    let found = cell_of::<D>(cell);
+    let found = cell_of::<D>(device, cell);
     let levels = design.levels();
     page.put(&[
         Piece::Markup("<tr><th scope=\"row\">"),
@@ -122,31 +139,36 @@ fn put_used<D: Device>(page: &mut Page, design: Design, cell: u8) -> Result<(), 
     put_name(page, name_bytes(design, found.pin))?;
     page.put(&[
         Piece::Markup("<td>"),
-        Piece::Markup(if stores::<D>(levels, cell) {
+        Piece::Markup(if stores::<D>(device, levels, cell) {
             "registered"
         } else {
             "combinational"
         }),
         Piece::Markup("</td><td>"),
-        Piece::Markup(if lowers::<D>(design, cell) {
+        Piece::Markup(if lowers::<D>(device, design, cell) {
             "inverted"
         } else {
             "direct"
         }),
         Piece::Markup("</td>"),
     ])?;
-    put_use(page, rows_in_use::<D>(design, cell), found.room)?;
+    put_use(page, rows_in_use::<D>(device, design, cell), found.room)?;
     put_enable::<D>(page, design, cell)?;
-    put_shared::<D>(page, design, cell, D::RESET)?;
-    put_shared::<D>(page, design, cell, D::PRESET)?;
+    put_shared::<D>(device, page, design, cell, device.reset())?;
+    put_shared::<D>(device, page, design, cell, device.preset())?;
     page.put(&[Piece::Markup("</tr>\n")])
 }
 
 /// Writes the line of a cell that nothing assigns.
-fn put_spare<D: Device>(page: &mut Page, design: Design, cell: u8) -> Result<(), OutOfMemory>
+fn put_spare<D: Device>(
+    device: &Loaded<D>,
+    page: &mut Page,
+    design: Design,
+    cell: u8,
+) -> Result<(), OutOfMemory>
     requires { cell < length D.table.cells }
 {
-    let found = cell_of::<D>(cell);
+    let found = cell_of::<D>(device, cell);
     page.put(&[
         Piece::Markup("<tr class=\"dim\"><th scope=\"row\">"),
         Piece::Number(usize::from(found.pin)),
@@ -161,15 +183,19 @@ fn put_spare<D: Device>(page: &mut Page, design: Design, cell: u8) -> Result<(),
 }
 
 /// Writes the table of the cells.
-pub fn put_cells<D: Device>(page: &mut Page, design: Design) -> Result<(), OutOfMemory> {
+pub fn put_cells<D: Device>(
+    device: &Loaded<D>,
+    page: &mut Page,
+    design: Design,
+) -> Result<(), OutOfMemory> {
     page.put(&[Piece::Markup(
         "<div class=\"wide\" tabindex=\"0\"><table><caption>The cells, and how full they are</caption><thead><tr><th scope=\"col\">Pin</th><th scope=\"col\">Name</th><th scope=\"col\">Kind</th><th scope=\"col\">Polarity</th><th scope=\"col\">Products</th><th scope=\"col\">Enable</th><th scope=\"col\">Reset</th><th scope=\"col\">Preset</th></tr></thead><tbody>\n",
     )])?;
-    for cell in 0..D::CELLS {
-        if is_assigned(name_on(design.names, cell_of::<D>(cell).pin)) {
-            put_used::<D>(page, design, cell)?;
+    for cell in 0..device.cells() {
+        if is_assigned(name_on(design.names, cell_of::<D>(device, cell).pin)) {
+            put_used::<D>(device, page, design, cell)?;
         } else {
-            put_spare::<D>(page, design, cell)?;
+            put_spare::<D>(device, page, design, cell)?;
         }
     }
     page.put(&[Piece::Markup("</tbody></table></div>\n")])

@@ -8,7 +8,7 @@ use crate::page::{Page, Piece};
 use crate::pins::{Flow, flow_of, is_register, name_bytes, pin_at};
 use fuse_listing::{name_on, names_complement};
 use pld_base::OutOfMemory;
-use pld_device::{Device, cell_on};
+use pld_device::{Device, Loaded, cell_on};
 
 /// From one pin to the next one below it.
 const PITCH: usize = 26;
@@ -20,9 +20,9 @@ const BODY: usize = 132;
 const LEG: usize = 46;
 
 /// How many bytes the longest label shows, or a word of the package's own.
-fn longest<D: Device>(design: Design) -> u8 {
+fn longest<D: Device>(device: &Loaded<D>, design: Design) -> u8 {
     let mut most = 3u8;
-    for place in 0..D::PINS {
+    for place in 0..device.pins() {
         let length = label_length(name_bytes(design, pin_at::<D>(place)));
         if most < length {
             most = length;
@@ -40,10 +40,10 @@ fn left_of(longest: u8) -> usize
 }
 
 /// How high the drawing is: a line for each pin of a side, and room above and below.
-fn height<D: Device>() -> usize
+fn height<D: Device>(device: &Loaded<D>) -> usize
     ensures { 40 ≤ result }
 {
-    usize::from(D::PINS / 2) * PITCH + 40
+    usize::from(device.pins() / 2) * PITCH + 40
 }
 
 /// What a pin does, in a word.
@@ -71,28 +71,34 @@ fn arrow(flow: Flow, is_left: bool) -> &'static str {
 }
 
 /// Writes what a pin does, as a sentence of the description.
-fn put_sentence<D: Device>(page: &mut Page, design: Design, pin: u8) -> Result<(), OutOfMemory> {
+fn put_sentence<D: Device>(
+    device: &Loaded<D>,
+    page: &mut Page,
+    design: Design,
+    pin: u8,
+) -> Result<(), OutOfMemory> {
     page.put(&[
         Piece::Markup("Pin "),
         Piece::Number(usize::from(pin)),
         Piece::Markup(" "),
         Piece::Text(name_bytes(design, pin)),
         Piece::Markup(": "),
-        Piece::Markup(flow_word(flow_of::<D>(design, pin))),
+        Piece::Markup(flow_word(flow_of::<D>(device, design, pin))),
         Piece::Markup(". "),
     ])
 }
 
 /// Whether there is a register on a pin.
-fn has_register<D: Device>(design: Design, pin: u8) -> bool {
-    match cell_on::<D>(pin) {
-        Some(cell) => is_register::<D>(design, cell),
+fn has_register<D: Device>(device: &Loaded<D>, design: Design, pin: u8) -> bool {
+    match cell_on::<D>(device, pin) {
+        Some(cell) => is_register::<D>(device, design, cell),
         None => false,
     }
 }
 
 /// Writes the name of a pin, with its arrow.
 fn put_name<D: Device>(
+    device: &Loaded<D>,
     page: &mut Page,
     design: Design,
     pin: u8,
@@ -101,8 +107,8 @@ fn put_name<D: Device>(
     requires low { 46 ≤ edge }
     requires high { edge < 2 ^ 32 }
 {
-    let flow = flow_of::<D>(design, pin);
-    let is_left = pin <= D::PINS / 2;
+    let flow = flow_of::<D>(device, design, pin);
+    let is_left = pin <= device.pins() / 2;
     let (arrow_at, name_at) = if is_left {
         (edge - 26, edge - 38)
     } else {
@@ -131,6 +137,7 @@ fn put_name<D: Device>(
 
 /// Writes the leg of a pin with its number, and the marks of a register and of a complement.
 fn put_leg<D: Device>(
+    device: &Loaded<D>,
     page: &mut Page,
     design: Design,
     pin: u8,
@@ -139,7 +146,7 @@ fn put_leg<D: Device>(
     requires low { 46 ≤ edge }
     requires high { edge < 2 ^ 32 }
 {
-    let is_left = pin <= D::PINS / 2;
+    let is_left = pin <= device.pins() / 2;
     page.put(&[
         Piece::Markup("<path class=\"leg\" d=\"M"),
         Piece::Number(if is_left { edge - 14 } else { edge }),
@@ -150,7 +157,7 @@ fn put_leg<D: Device>(
         Piece::Number(usize::from(pin)),
         Piece::Markup("</text>"),
     ])?;
-    if has_register::<D>(design, pin) {
+    if has_register::<D>(device, design, pin) {
         page.put(&[
             Piece::Markup("<path class=\"reg\" d=\"M"),
             Piece::Number(if is_left { edge + 32 } else { edge - 44 }),
@@ -169,6 +176,7 @@ fn put_leg<D: Device>(
 
 /// Writes a pin.
 fn put_pin<D: Device>(
+    device: &Loaded<D>,
     page: &mut Page,
     design: Design,
     pin: u8,
@@ -177,11 +185,15 @@ fn put_pin<D: Device>(
     requires low { 1 ≤ pin }
     requires high { pin ≤ D.table.pins }
 {
-    let is_left = pin <= D::PINS / 2;
-    let down = if is_left { pin - 1 } else { D::PINS - pin };
+    let is_left = pin <= device.pins() / 2;
+    let down = if is_left {
+        pin - 1
+    } else {
+        device.pins() - pin
+    };
     let left = left_of(longest);
     let edge = if is_left { left } else { left + BODY };
-    let class = match flow_of::<D>(design, pin) {
+    let class = match flow_of::<D>(device, design, pin) {
         Flow::Unused => "<g class=\"dim\" transform=\"translate(0 ",
         _ => "<g transform=\"translate(0 ",
     };
@@ -191,15 +203,19 @@ fn put_pin<D: Device>(
         Piece::Markup(")\">"),
     ])?;
     put_title_if_long(page, name_bytes(design, pin))?;
-    put_leg::<D>(page, design, pin, edge)?;
-    put_name::<D>(page, design, pin, edge)?;
+    put_leg::<D>(device, page, design, pin, edge)?;
+    put_name::<D>(device, page, design, pin, edge)?;
     page.put(&[Piece::Markup("</g>\n")])
 }
 
 /// Writes the package with its notch and the device's name.
-fn put_body<D: Device>(page: &mut Page, longest: u8) -> Result<(), OutOfMemory> {
+fn put_body<D: Device>(
+    device: &Loaded<D>,
+    page: &mut Page,
+    longest: u8,
+) -> Result<(), OutOfMemory> {
     let left = left_of(longest);
-    let height = height::<D>();
+    let height = height::<D>(device);
     page.put(&[
         Piece::Markup("<path class=\"body\" d=\"M"),
         Piece::Number(left),
@@ -214,16 +230,20 @@ fn put_body<D: Device>(page: &mut Page, longest: u8) -> Result<(), OutOfMemory> 
         Piece::Markup(" "),
         Piece::Number(height / 2),
         Piece::Markup(")\">"),
-        Piece::Markup(D::NAME.text()),
+        Piece::Markup(device.name().text()),
         Piece::Markup("</text>\n"),
     ])
 }
 
 /// Writes the drawing of the chip.
-pub fn put_chip<D: Device>(page: &mut Page, design: Design) -> Result<(), OutOfMemory> {
-    let longest = longest::<D>(design);
+pub fn put_chip<D: Device>(
+    device: &Loaded<D>,
+    page: &mut Page,
+    design: Design,
+) -> Result<(), OutOfMemory> {
+    let longest = longest::<D>(device, design);
     let width = 2 * left_of(longest) + BODY;
-    let height = height::<D>();
+    let height = height::<D>(device);
     page.put(&[
         Piece::Markup("<svg class=\"chip\" role=\"img\" width=\""),
         Piece::Number(width),
@@ -234,16 +254,16 @@ pub fn put_chip<D: Device>(page: &mut Page, design: Design) -> Result<(), OutOfM
         Piece::Markup(" "),
         Piece::Number(height),
         Piece::Markup("\"><title>"),
-        Piece::Markup(D::NAME.text()),
+        Piece::Markup(device.name().text()),
         Piece::Markup(" from above</title><desc>"),
     ])?;
-    for place in 0..D::PINS {
-        put_sentence::<D>(page, design, pin_at::<D>(place))?;
+    for place in 0..device.pins() {
+        put_sentence::<D>(device, page, design, pin_at::<D>(place))?;
     }
     page.put(&[Piece::Markup("</desc>\n")])?;
-    put_body::<D>(page, longest)?;
-    for place in 0..D::PINS {
-        put_pin::<D>(page, design, pin_at::<D>(place), longest)?;
+    put_body::<D>(device, page, longest)?;
+    for place in 0..device.pins() {
+        put_pin::<D>(device, page, design, pin_at::<D>(place), longest)?;
     }
     page.put(&[Piece::Markup("</svg>\n")])
 }

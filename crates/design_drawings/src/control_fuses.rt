@@ -5,7 +5,7 @@ ghost use Rattle.std.specs.Prelude.{◌<◌, length};
 use crate::drawn_design::Design;
 use crate::page::{Page, Piece};
 use pld_base::OutOfMemory;
-use pld_device::{Device, FuseBit};
+use pld_device::{Device, FuseBit, Loaded};
 
 /// Writes a control fuse that is there: its number, its level, and what this says.
 fn put_fuse(
@@ -32,17 +32,18 @@ fn put_fuse(
 
 /// Writes the control fuses of a cell.
 pub fn put_control_fuses<D: Device>(
+    device: &Loaded<D>,
     page: &mut Page,
     design: Design,
     cell: u8,
 ) -> Result<(), OutOfMemory>
     requires { cell < length D.table.cells }
 {
-    put_fuse(page, design, D::inverted_at(cell), "inverted", "direct")?;
+    put_fuse(page, design, device.inverted_at(cell), "inverted", "direct")?;
     put_fuse(
         page,
         design,
-        D::registered_at(cell),
+        device.registered_at(cell),
         "registered",
         "combinational",
     )

@@ -16,22 +16,22 @@ use fuse_listing::{
     cell_of, complements_output, is_in_use, name_on, names_complement, says, stores,
 };
 use pld_base::OutOfMemory;
-use pld_device::{Device, Flip};
+use pld_device::{Device, Flip, Loaded};
 use std::alloc::Global;
 
 /// Whether a cell's pin is low if one of its rows is true; of a register, after the clock. Takes no memory.
-pub fn lowers<D: Device>(design: Design, cell: u8) -> bool
+pub fn lowers<D: Device>(device: &Loaded<D>, design: Design, cell: u8) -> bool
     requires { cell < length D.table.cells }
     ensures { result ≡ lowers_pin D.table design.entry.file.now.fuses cell }
 {
     let levels = design.levels();
-    match D::FLIP {
-        Flip::Always | Flip::AfterRegister => complements_output::<D>(levels, cell),
+    match device.flip() {
+        Flip::Always | Flip::AfterRegister => complements_output::<D>(device, levels, cell),
         Flip::BeforeRegister => {
-            if stores::<D>(levels, cell) {
-                says(levels, D::inverted_at(cell))
+            if stores::<D>(device, levels, cell) {
+                says(levels, device.inverted_at(cell))
             } else {
-                complements_output::<D>(levels, cell)
+                complements_output::<D>(device, levels, cell)
             }
         }
     }
@@ -57,16 +57,22 @@ fn sign(is_register: bool) -> &'static str
 }
 
 /// Whether a cell's equation assigns the complement of its pin's name.
-fn assigns_complement<D: Device>(design: Design, cell: u8, declared: &Declared) -> bool
+fn assigns_complement<D: Device>(
+    device: &Loaded<D>,
+    design: Design,
+    cell: u8,
+    declared: &Declared,
+) -> bool
     requires { cell < length D.table.cells }
     ensures { result ≡ complement_if (lowers_pin D.table design.entry.file.now.fuses cell)
         (names_complement (Some (view_declared declared.now))) }
 {
-    lowers::<D>(design, cell) != names_complement(Some(declared))
+    lowers::<D>(device, design, cell) != names_complement(Some(declared))
 }
 
 /// Writes the left side of the equation of a cell, by its pin's name.
 fn put_target<D: Device>(
+    device: &Loaded<D>,
     page: &mut Page,
     design: Design,
     cell: u8,
@@ -76,8 +82,8 @@ fn put_target<D: Device>(
     ensures { OnOk result (page.new ≡ page.old
         ++ target_item D.table design.entry.file.now.fuses cell (view_declared declared.now)) }
 {
-    let complement = assigns_complement::<D>(design, cell, declared);
-    let is_register = stores::<D>(design.levels(), cell);
+    let complement = assigns_complement::<D>(device, design, cell, declared);
+    let is_register = stores::<D>(device, design.levels(), cell);
     let text = literal(design.alloc, complement, declared.name.bytes())?;
     page.put(&[
         Piece::Markup("<dl><dt><code>"),
@@ -90,6 +96,7 @@ fn put_target<D: Device>(
 /// Writes a product on a line of its own, after a sign or not.
 #[tactic(auto, unfolding(crate::specs::Equations::product_item))]
 fn put_line<D: Device>(
+    device: &Loaded<D>,
     page: &mut Page,
     design: Design,
     front: &'static str,
@@ -104,45 +111,60 @@ fn put_line<D: Device>(
 }
 
 /// Writes the products after the first one.
-fn put_others<D: Device>(page: &mut Page, design: Design, rows: &[u16]) -> Result<(), OutOfMemory>
+fn put_others<D: Device>(
+    device: &Loaded<D>,
+    page: &mut Page,
+    design: Design,
+    rows: &[u16],
+) -> Result<(), OutOfMemory>
     ensures { OnOk result (page.new ≡ page.old
         ++ flat_map (product_item D.table design.entry.file.now.fuses (entries_of design.entry.names.now) (codes "# ")) rows.now) }
 {
     for row in rows {
-        put_line::<D>(page, design, "# ", *row)?;
+        put_line::<D>(device, page, design, "# ", *row)?;
     }
     Ok(())
 }
 
 /// Writes the products of rows in use.
-fn put_sum<D: Device>(page: &mut Page, design: Design, rows: &[u16]) -> Result<(), OutOfMemory>
+fn put_sum<D: Device>(
+    device: &Loaded<D>,
+    page: &mut Page,
+    design: Design,
+    rows: &[u16],
+) -> Result<(), OutOfMemory>
     ensures { OnOk result (page.new ≡ page.old
         ++ sum_items D.table design.entry.file.now.fuses (entries_of design.entry.names.now) rows.now) }
 {
     match rows {
         [] => page.put(&[Piece::Markup("<dd><code>0</code></dd>")]),
         [first, others @ ..] => {
-            put_line::<D>(page, design, "", *first)?;
-            put_others::<D>(page, design, others)
+            put_line::<D>(device, page, design, "", *first)?;
+            put_others::<D>(device, page, design, others)
         }
     }
 }
 
 /// The data rows of a cell that are in use.
-fn used_rows<D: Device>(design: Design, cell: u8) -> Result<Vec<u16>, OutOfMemory>
+fn used_rows<D: Device>(
+    device: &Loaded<D>,
+    design: Design,
+    cell: u8,
+) -> Result<Vec<u16>, OutOfMemory>
     requires { cell < length D.table.cells }
     ensures { IfOk result (λ rows. rows.items ≡ rows_in_use D.table design.entry.file.now.fuses cell) }
 {
-    let found = cell_of::<D>(cell);
+    let found = cell_of::<D>(device, cell);
     let levels = design.levels();
     let rows: Vec<u16> = (found.first..found.first + u16::from(found.room))
-        .filter(|row| is_in_use::<D>(levels, *row))
+        .filter(|row| is_in_use::<D>(device, levels, *row))
         .collect(design.alloc)?;
     Ok(rows)
 }
 
 /// Writes the equation of a cell, by its pin's name.
 fn put_equation<D: Device>(
+    device: &Loaded<D>,
     page: &mut Page,
     design: Design,
     cell: u8,
@@ -152,30 +174,35 @@ fn put_equation<D: Device>(
     ensures { OnOk result (page.new ≡ page.old
         ++ equation_item D.table design.entry.file.now.fuses (entries_of design.entry.names.now) cell (view_declared declared.now)) }
 {
-    put_target::<D>(page, design, cell, declared)?;
-    let rows = used_rows::<D>(design, cell)?;
-    put_sum::<D>(page, design, &rows)?;
+    put_target::<D>(device, page, design, cell, declared)?;
+    let rows = used_rows::<D>(device, design, cell)?;
+    put_sum::<D>(device, page, design, &rows)?;
     page.put(&[Piece::Markup("</dl>\n")])
 }
 
 /// Writes the equation of a cell whose pin's name is assigned.
-fn put_if_assigned<D: Device>(page: &mut Page, design: Design, cell: u8) -> Result<(), OutOfMemory>
+fn put_if_assigned<D: Device>(
+    device: &Loaded<D>,
+    page: &mut Page,
+    design: Design,
+    cell: u8,
+) -> Result<(), OutOfMemory>
     requires { cell < length D.table.cells }
     ensures { OnOk result (page.new ≡ page.old
         ++ assigned_item D.table design.entry.file.now.fuses (entries_of design.entry.names.now) cell) }
 {
-    if let Some(declared) = name_on(design.names, cell_of::<D>(cell).pin) {
+    if let Some(declared) = name_on(design.names, cell_of::<D>(device, cell).pin) {
         if declared.assigned {
-            put_equation::<D>(page, design, cell, declared)?;
+            put_equation::<D>(device, page, design, cell, declared)?;
         }
     }
     Ok(())
 }
 
 /// Whether some cell's pin's name is assigned. Takes no memory.
-pub fn has_equations<D: Device>(design: Design) -> bool {
-    for cell in 0..D::CELLS {
-        if is_assigned(name_on(design.names, cell_of::<D>(cell).pin)) {
+pub fn has_equations<D: Device>(device: &Loaded<D>, design: Design) -> bool {
+    for cell in 0..device.cells() {
+        if is_assigned(name_on(design.names, cell_of::<D>(device, cell).pin)) {
             return true;
         }
     }
@@ -183,12 +210,16 @@ pub fn has_equations<D: Device>(design: Design) -> bool {
 }
 
 /// Writes the equations of the assigned cells, in the order of the cells: their products are those of the listing.
-pub fn put_equations<D: Device>(page: &mut Page, design: Design) -> Result<(), OutOfMemory>
+pub fn put_equations<D: Device>(
+    device: &Loaded<D>,
+    page: &mut Page,
+    design: Design,
+) -> Result<(), OutOfMemory>
     ensures { OnOk result (page.new ≡ page.old
         ++ equation_items D.table design.entry.file.now.fuses (entries_of design.entry.names.now)) }
 {
-    for cell in 0..D::CELLS {
-        put_if_assigned::<D>(page, design, cell)?;
+    for cell in 0..device.cells() {
+        put_if_assigned::<D>(device, page, design, cell)?;
     }
     Ok(())
 }

@@ -8,7 +8,7 @@ use crate::drawn_design::Design;
 use crate::rows::{is_column_read, is_open};
 use abel_tree::Declared;
 use fuse_listing::{carry_at, cell_of, complements_output, is_in_use, name_on, pin_of, stores};
-use pld_device::{Device, Enable, cell_on};
+use pld_device::{Device, Enable, Loaded, cell_on};
 
 /// The source of a pin's level.
 #[derive(Clone, Copy, PartialEq, Eq)]
@@ -37,9 +37,11 @@ pub fn pin_at<D: Device>(place: u8) -> u8
 }
 
 /// Whether some row in use reads a pin. Takes no memory.
-pub fn is_read<D: Device>(design: Design, pin: u8) -> bool {
-    for column in 0..D::COLUMNS {
-        if pin_of::<D>(carry_at::<D>(column)) == pin && is_column_read::<D>(design, column) {
+pub fn is_read<D: Device>(device: &Loaded<D>, design: Design, pin: u8) -> bool {
+    for column in 0..device.columns() {
+        if pin_of::<D>(device, carry_at::<D>(device, column)) == pin
+            && is_column_read::<D>(device, design, column)
+        {
             return true;
         }
     }
@@ -57,17 +59,18 @@ pub fn is_assigned(name: Option<&Declared>) -> bool
 }
 
 /// Whether a cell is assigned, and a register. Takes no memory.
-pub fn is_register<D: Device>(design: Design, cell: u8) -> bool
+pub fn is_register<D: Device>(device: &Loaded<D>, design: Design, cell: u8) -> bool
     requires { cell < length D.table.cells }
 {
-    is_assigned(name_on(design.names, cell_of::<D>(cell).pin)) && stores::<D>(design.levels(), cell)
+    is_assigned(name_on(design.names, cell_of::<D>(device, cell).pin))
+        && stores::<D>(device, design.levels(), cell)
 }
 
 /// Whether a pin clocks or enables some register.
-fn serves_registers<D: Device>(design: Design, pin: u8) -> bool {
-    for cell in 0..D::CELLS {
-        if is_register::<D>(design, cell)
-            && (pin == D::CLOCK || cell_of::<D>(cell).enable == Enable::PinLow(pin))
+fn serves_registers<D: Device>(device: &Loaded<D>, design: Design, pin: u8) -> bool {
+    for cell in 0..device.cells() {
+        if is_register::<D>(device, design, cell)
+            && (pin == device.clock() || cell_of::<D>(device, cell).enable == Enable::PinLow(pin))
         {
             return true;
         }
@@ -76,19 +79,19 @@ fn serves_registers<D: Device>(design: Design, pin: u8) -> bool {
 }
 
 /// The source of the level of an assigned cell's pin.
-fn cell_flow<D: Device>(design: Design, cell: u8) -> Flow
+fn cell_flow<D: Device>(device: &Loaded<D>, design: Design, cell: u8) -> Flow
     requires { cell < length D.table.cells }
 {
-    let found = cell_of::<D>(cell);
+    let found = cell_of::<D>(device, cell);
     let Enable::Row(row) = found.enable else {
         return Flow::Out;
     };
-    if !is_in_use::<D>(design.levels(), row) {
+    if !is_in_use::<D>(device, design.levels(), row) {
         return Flow::Released;
     }
-    if is_open::<D>(design, row)
-        || stores::<D>(design.levels(), cell)
-        || !is_read::<D>(design, found.pin)
+    if is_open::<D>(device, design, row)
+        || stores::<D>(device, design.levels(), cell)
+        || !is_read::<D>(device, design, found.pin)
     {
         Flow::Out
     } else {
@@ -97,19 +100,19 @@ fn cell_flow<D: Device>(design: Design, cell: u8) -> Flow
 }
 
 /// The source of a pin's level. Takes no memory.
-pub fn flow_of<D: Device>(design: Design, pin: u8) -> Flow {
-    if pin == D::GROUND {
+pub fn flow_of<D: Device>(device: &Loaded<D>, design: Design, pin: u8) -> Flow {
+    if pin == device.ground() {
         return Flow::Ground;
     }
-    if pin == D::PINS {
+    if pin == device.pins() {
         return Flow::Supply;
     }
-    if let Some(cell) = cell_on::<D>(pin) {
+    if let Some(cell) = cell_on::<D>(device, pin) {
         if is_assigned(name_on(design.names, pin)) {
-            return cell_flow::<D>(design, cell);
+            return cell_flow::<D>(device, design, cell);
         }
     }
-    if is_read::<D>(design, pin) || serves_registers::<D>(design, pin) {
+    if is_read::<D>(device, design, pin) || serves_registers::<D>(device, design, pin) {
         Flow::In
     } else {
         Flow::Unused
@@ -117,10 +120,11 @@ pub fn flow_of<D: Device>(design: Design, pin: u8) -> Flow {
 }
 
 /// Whether a pin is that of an assigned register which holds it low after power-up: Q is 0 then. Takes no memory.
-pub fn is_low_register<D: Device>(design: Design, pin: u8) -> bool {
-    match cell_on::<D>(pin) {
+pub fn is_low_register<D: Device>(device: &Loaded<D>, design: Design, pin: u8) -> bool {
+    match cell_on::<D>(device, pin) {
         Some(cell) => {
-            is_register::<D>(design, cell) && !complements_output::<D>(design.levels(), cell)
+            is_register::<D>(device, design, cell)
+                && !complements_output::<D>(device, design.levels(), cell)
         }
         None => false,
     }

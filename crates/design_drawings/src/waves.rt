@@ -9,7 +9,7 @@ use crate::page::{Page, Piece};
 use crate::pins::{name_bytes, pin_at};
 use crate::strips::{LANE, LEFT, Run, STEP, STRIP, STRIPS, Strip, char_at};
 use pld_base::OutOfMemory;
-use pld_device::{Device, cell_on};
+use pld_device::{Device, Loaded, cell_on};
 
 /// Whether a drawn vector drives or tests a pin.
 fn is_tried(run: Run, pin: u8) -> bool
@@ -24,21 +24,21 @@ fn is_tried(run: Run, pin: u8) -> bool
 }
 
 /// Whether a pin has a lane: it is driven or tested, or has a name and a cell.
-fn has_lane<D: Device>(run: Run, pin: u8) -> bool
+fn has_lane<D: Device>(device: &Loaded<D>, run: Run, pin: u8) -> bool
     requires { 1 ≤ pin }
 {
-    if pin == D::GROUND || pin == D::PINS {
+    if pin == device.ground() || pin == device.pins() {
         return false;
     }
     let is_named = !name_bytes(run.design, pin).is_empty();
-    cell_on::<D>(pin).is_some() && is_named || is_tried(run, pin)
+    cell_on::<D>(device, pin).is_some() && is_named || is_tried(run, pin)
 }
 
 /// How high the lanes are together.
-fn lanes_height<D: Device>(run: Run) -> u32 {
+fn lanes_height<D: Device>(device: &Loaded<D>, run: Run) -> u32 {
     let mut height = 0u32;
-    for place in 0..D::PINS {
-        if has_lane::<D>(run, pin_at::<D>(place)) {
+    for place in 0..device.pins() {
+        if has_lane::<D>(device, run, pin_at::<D>(place)) {
             height = height.saturating_add(LANE);
         }
     }
@@ -106,14 +106,19 @@ fn put_strip_head(page: &mut Page, strip: Strip, height: u32) -> Result<(), OutO
 }
 
 /// Writes the drawing of the vectors of a strip.
-fn put_strip<D: Device>(page: &mut Page, run: Run, strip: Strip) -> Result<(), OutOfMemory> {
-    let height = lanes_height::<D>(run);
+fn put_strip<D: Device>(
+    device: &Loaded<D>,
+    page: &mut Page,
+    run: Run,
+    strip: Strip,
+) -> Result<(), OutOfMemory> {
+    let height = lanes_height::<D>(device, run);
     put_strip_head(page, strip, height)?;
     put_numbers(page, strip, height)?;
     let mut down = 16u32;
-    for place in 0..D::PINS {
+    for place in 0..device.pins() {
         let pin = pin_at::<D>(place);
-        if has_lane::<D>(run, pin) {
+        if has_lane::<D>(device, run, pin) {
             put_lane_name(page, run.design, pin, down)?;
             put_lane(page, run, pin, strip, down)?;
             down = down.saturating_add(LANE);
@@ -123,7 +128,11 @@ fn put_strip<D: Device>(page: &mut Page, run: Run, strip: Strip) -> Result<(), O
 }
 
 /// Writes the diagram of the vectors, in strips, and how many vectors there are that it does not draw.
-pub fn put_waves<D: Device>(page: &mut Page, run: Run) -> Result<(), OutOfMemory> {
+pub fn put_waves<D: Device>(
+    device: &Loaded<D>,
+    page: &mut Page,
+    run: Run,
+) -> Result<(), OutOfMemory> {
     let all = run.design.file.vectors.as_slice().len();
     for number in 0..STRIPS {
         let first = usize::from(number) * STRIP;
@@ -131,6 +140,7 @@ pub fn put_waves<D: Device>(page: &mut Page, run: Run) -> Result<(), OutOfMemory
             let rest = all - first;
             let count = if rest < STRIP { rest } else { STRIP };
             put_strip::<D>(
+                device,
                 page,
                 run,
                 Strip {

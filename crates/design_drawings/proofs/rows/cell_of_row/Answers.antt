@@ -14,4 +14,4 @@ loop-cell-preserved g c d low =
     ]
 
 pub returns-clause-found : goal.returns-clause-found
-returns-clause-found g c d low = c.loop-cell.invariant d (omega (arith, low, c.loop-cell-test.false, c.CELLS-cell-end.ensures, g.met.D.Device.cells_is))
+returns-clause-found g c d low = c.loop-cell.invariant d (omega (arith, low, c.loop-cell-test.false, c.cells-cell-end.ensures))
