@@ -11,9 +11,10 @@ use crate::telling::put_place;
 use abel_tree::{Meaning, Module, Names};
 use abel_vectors::SourceSections;
 use compile_phases::{CompileFault, netlist_of, parts_of, scope_of, sections_of};
+use design_drawings::Design;
 use fuse_listing::name_on;
 use pld_base::{ListOf, OutOfMemory, put_decimal, with_level};
-use pld_device::Device;
+use pld_device::{Device, Loaded};
 use std::alloc::Global;
 
 /// The pins that have an active-low name, bit p for pin p.
@@ -32,6 +33,7 @@ fn low_pins(names: &Names) -> u32 {
 /// The outputs with active-low names that are costly; no netlist is made if there is no such name.
 fn costly_outputs<D: Device>(
     alloc: Global,
+    device: &Loaded<D>,
     module: &Module,
     names: &Names,
 ) -> Result<ListOf<CostlyPolarity>, CompileFault>
@@ -42,13 +44,13 @@ fn costly_outputs<D: Device>(
         return Ok(ListOf::from_vec(Vec::new(alloc)));
     }
     let source = parts_of(alloc, module)?;
-    let scope = scope_of::<D>(alloc, names)?;
+    let scope = scope_of::<D>(alloc, device, names)?;
     let SourceSections {
         contributions,
         vectors: _,
     } = sections_of::<D>(alloc, &source, &scope)?;
     let net = netlist_of::<D>(alloc, &source, &scope, contributions)?;
-    match costly_polarities::<D>(alloc, &net, pins) {
+    match costly_polarities::<D>(alloc, device, &net, pins) {
         Ok(list) => Ok(list),
         Err(OutOfMemory) => Err(CompileFault::OutOfMemory),
     }
@@ -73,19 +75,20 @@ fn put_costs(
 
 /// Appends the warnings on active-low outputs that take several times the products of their complement.
 pub fn put_costly_outputs<D: Device>(
-    alloc: Global,
+    device: &Loaded<D>,
     text: &mut Vec<u8>,
+    design: Design,
     module: &Module,
-    names: &Names,
     input: Input,
 ) -> Result<(), CompileFault>
-    requires names { AreNamesFor D.table (view_module module.now) names.now }
+    requires names { AreNamesFor D.table (view_module module.now) design.names.now }
     requires within { length input.bytes.now ≤ 1048576 }
 {
-    let list = costly_outputs::<D>(alloc, module, names)?;
+    let alloc = design.alloc;
+    let list = costly_outputs::<D>(alloc, device, module, design.names)?;
     let origins = origins_of(alloc, input.bytes)?;
     for found in list.as_slice() {
-        if let Some(declared) = name_on(names, found.pin) {
+        if let Some(declared) = name_on(design.names, found.pin) {
             put_place(alloc, text, input.name, origins.at(declared.place).source)?;
             put_costs(alloc, text, declared.name.bytes(), *found)?;
         }

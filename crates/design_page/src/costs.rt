@@ -13,9 +13,8 @@ use bit_expr::{CellWanted, Netlist};
 use fit_plans::{Covering, Workspace};
 use fitter::{SoundFit, cell_wanted, pair_count, turn_mask};
 use pld_base::{ListOf, OutOfMemory, level_at};
-use pld_device::{Cell, Device};
+use pld_device::{Cell, Device, Loaded};
 use std::alloc::Global;
-use std::marker::PhantomData;
 
 /// An output that takes at least three times the rows of its other polarity, and how many each takes.
 #[derive(Clone, Copy)]
@@ -84,7 +83,7 @@ fn costly_at<D: Device>(
     ensures told { IfOk result (TellsCell D.table fit.now.over.net.now cell
         (is_asked pins (cell_at D.table cell)) (cell_wanted fit.now.over.net.now cell)) }
 {
-    let found = D::cell(cell);
+    let found = fit.device.cell(cell);
     if !level_at(pins, found.pin) {
         return Ok(None);
     }
@@ -116,6 +115,7 @@ fn add_found(
 /// polarity, in the order of the cells. None if the device leaves no choice. It makes one pool for all covers.
 pub fn costly_polarities<D: Device>(
     alloc: Global,
+    device: &Loaded<D>,
     net: &Netlist,
     pins: u32,
 ) -> Result<ListOf<CostlyPolarity>, OutOfMemory>
@@ -127,14 +127,14 @@ pub fn costly_polarities<D: Device>(
     let fit = SoundFit::<D> {
         over: Covering {
             net,
-            flip: D::FLIP,
-            turned: turn_mask::<D>(net),
-            vars: pair_count::<D>(),
+            flip: device.flip(),
+            turned: turn_mask::<D>(device, net),
+            vars: pair_count::<D>(device),
         },
-        device: PhantomData,
+        device,
     };
     let mut list = Vec::new(alloc);
-    for cell in 0..D::CELLS {
+    for cell in 0..device.cells() {
         let found = costly_at(&mut space, &fit, cell, pins)?;
         add_found(&mut list, found)?;
     }

@@ -10,7 +10,7 @@ use design_drawings::{
 };
 use jedec_file::{byte_sum, fuse_sum};
 use pld_base::{OutOfMemory, put_hex};
-use pld_device::Device;
+use pld_device::{Device, Loaded};
 use shown_text::printable;
 
 /// What a page is made of, beside the design.
@@ -96,6 +96,7 @@ fn put_title(page: &mut Page, design: Design, title: &[u8]) -> Result<(), OutOfM
 
 /// Writes the head: what the design is, and its result.
 fn put_head<D: Device>(
+    device: &Loaded<D>,
     page: &mut Page,
     design: Design,
     parts: Parts,
@@ -105,7 +106,7 @@ fn put_head<D: Device>(
     put_title(page, design, parts.title)?;
     page.put(&[
         Piece::Markup("<dl class=\"facts\"><dt>Device</dt><dd>"),
-        Piece::Markup(D::NAME.text()),
+        Piece::Markup(device.name().text()),
         Piece::Markup("</dd>\n<dt>Summary</dt><dd><code>"),
         Piece::Text(parts.summary),
         Piece::Markup("</code></dd>\n<dt>Fuse sum</dt>"),
@@ -125,35 +126,44 @@ fn put_head<D: Device>(
 }
 
 /// Writes the part of the cells, with their equations.
-fn put_cell_part<D: Device>(page: &mut Page, design: Design) -> Result<(), OutOfMemory> {
+fn put_cell_part<D: Device>(
+    device: &Loaded<D>,
+    page: &mut Page,
+    design: Design,
+) -> Result<(), OutOfMemory> {
     put_heading(page, "cells", "Cells")?;
-    put_cells::<D>(page, design)?;
+    put_cells::<D>(device, page, design)?;
     page.put(&[Piece::Markup("<h3>Equations</h3>\n")])?;
-    if !has_equations::<D>(design) {
+    if !has_equations::<D>(device, design) {
         return page.put(&[Piece::Markup("<p>No cell is used.</p>\n")]);
     }
     page.put(&[Piece::Markup("<div class=\"sums\">\n")])?;
-    put_equations::<D>(page, design)?;
+    put_equations::<D>(device, page, design)?;
     page.put(&[Piece::Markup("</div>\n")])
 }
 
 /// Writes the parts from the chip to the fuses.
-fn put_drawings<D: Device>(page: &mut Page, design: Design) -> Result<(), OutOfMemory> {
+fn put_drawings<D: Device>(
+    device: &Loaded<D>,
+    page: &mut Page,
+    design: Design,
+) -> Result<(), OutOfMemory> {
     put_heading(page, "chip", "Chip")?;
     page.put(&[Piece::Markup(
         "<p class=\"hint\">From above. An arrow shows where a level goes; a triangle marks a register, a circle at a leg a name that is the complement of its pin's level. Pins that are not used are faint.</p>\n",
     )])?;
-    put_chip::<D>(page, design)?;
-    put_cell_part::<D>(page, design)?;
+    put_chip::<D>(device, page, design)?;
+    put_cell_part::<D>(device, page, design)?;
     put_heading(page, "fuses", "Fuses")?;
     page.put(&[Piece::Markup(
         "<p class=\"hint\">A dot is a connection that stands. A line instead of dots is a row whose connections all stand, which is always 0. The number before a row is that of its first fuse.</p>\n",
     )])?;
-    put_array::<D>(page, design)
+    put_array::<D>(device, page, design)
 }
 
 /// Writes the part of the vectors.
 fn put_vectors<D: Device>(
+    device: &Loaded<D>,
     page: &mut Page,
     design: Design,
     outcome: &Outcome,
@@ -173,6 +183,7 @@ fn put_vectors<D: Device>(
                 "<p class=\"hint\">A line is a level that the test or the device drives, a dashed line in the middle a pin that neither drives. A dot marks what was tested and agrees; in red stand what was expected and what was found (H high, L low, Z released).</p>\n",
             )])?;
             put_waves::<D>(
+                device,
                 page,
                 Run {
                     design,
@@ -187,14 +198,15 @@ fn put_vectors<D: Device>(
 
 /// The page of a design.
 pub fn drawn_page<D: Device>(
+    device: &Loaded<D>,
     design: Design,
     parts: Parts,
     outcome: &Outcome,
 ) -> Result<Vec<u8>, OutOfMemory> {
     let mut page = Page::new(design.alloc);
     put_head::<D>(&mut page, design, parts, outcome)?;
-    put_drawings::<D>(&mut page, design)?;
-    put_vectors::<D>(&mut page, design, outcome)?;
+    put_drawings::<D>(device, &mut page, design)?;
+    put_vectors::<D>(device, &mut page, design, outcome)?;
     if !parts.source.is_empty() {
         put_heading(&mut page, "source", "Source")?;
         put_text(&mut page, design.alloc, parts.source, None)?;

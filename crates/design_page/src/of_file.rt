@@ -2,6 +2,7 @@
 
 ghost use Rattle.std.specs.Prelude.{◌≡◌, ◌≤◌, ◌<◌, ◌^◌, length};
 ghost use Rattle.abel_commands.specs.Limit.{limit};
+ghost use Rattle.devices.specs.Devices.{table_of};
 
 use crate::drawn::{Parts, drawn_page};
 use crate::made::{Input, Made, without_end};
@@ -10,20 +11,26 @@ use crate::pin_names::pin_names;
 use abel_commands::checked_line::checked_line;
 use abel_commands::{Taken, read_files_have_few_vectors, take_file};
 use design_drawings::Design;
-use devices::on_device;
+use devices::loaded;
 use jedec_reader::FuseFile;
 use pld_base::{DeviceName, OutOfMemory};
-use pld_device::Device;
+use pld_device::{Device, Loaded};
 use std::alloc::Global;
+use std::marker::Brand;
 
 /// What results from a fuse file that is read.
-fn made_of<D: Device>(alloc: Global, input: Input, file: &FuseFile) -> Result<Made, OutOfMemory>
+fn made_of<D: Device>(
+    alloc: Global,
+    device: &Loaded<D>,
+    input: Input,
+    file: &FuseFile,
+) -> Result<Made, OutOfMemory>
     requires fuses { length file.now.fuses ≡ D.table.fuses }
     requires few { length file.now.vectors < 2 ^ 32 }
 {
-    let outcome = outcome_of::<D>(alloc, file)?;
-    let names = pin_names::<D>(alloc, file)?;
-    let checked = checked_line::<D>(alloc, file)?;
+    let outcome = outcome_of::<D>(alloc, device, file)?;
+    let names = pin_names::<D>(alloc, device, file)?;
+    let checked = checked_line::<D>(alloc, device, file)?;
     let design = Design {
         alloc,
         names: &names,
@@ -38,19 +45,21 @@ fn made_of<D: Device>(alloc: Global, input: Input, file: &FuseFile) -> Result<Ma
     };
     Ok(Made {
         status: outcome.status(),
-        report: outcome.lines::<D>(alloc)?,
-        page: Some(drawn_page::<D>(design, parts, &outcome)?),
+        report: outcome.lines::<D>(alloc, device)?,
+        page: Some(drawn_page::<D>(device, design, parts, &outcome)?),
     })
 }
 
-/// What results from bytes as a fuse file of a device.
-fn made_for<D: Device>(alloc: Global, input: Input) -> Result<Made, OutOfMemory>
-    requires { length input.bytes.now ≤ limit }
+/// What results from bytes as a fuse file of the device of this name.
+fn made_for<D: Device>(alloc: Global, name: DeviceName, input: Input) -> Result<Made, OutOfMemory>
+    requires table { table_of name ≡ D.table }
+    requires within { length input.bytes.now ≤ limit }
 {
     read_files_have_few_vectors();
-    let taken = take_file::<D>(alloc, input.bytes)?;
+    let device = loaded::<D>(name);
+    let taken = take_file::<D>(alloc, &device, input.bytes)?;
     match taken {
-        Taken::File(file) => made_of::<D>(alloc, input, &file),
+        Taken::File(file) => made_of::<D>(alloc, &device, input, &file),
         Taken::Refused(line) => Made::told(alloc, 4, &[&line]),
     }
 }
@@ -59,5 +68,5 @@ fn made_for<D: Device>(alloc: Global, input: Input) -> Result<Made, OutOfMemory>
 pub fn page_of_file(alloc: Global, device: DeviceName, input: Input) -> Result<Made, OutOfMemory>
     requires { length input.bytes.now ≤ limit }
 {
-    on_device!(device, made_for(alloc, input))
+    made_for::<Brand>(alloc, device, input)
 }

@@ -2,6 +2,7 @@
 
 ghost use Rattle.std.specs.Prelude.{◌≡◌, ◌≤◌, ◌<◌, ◌^◌, length};
 ghost use Rattle.abel_commands.specs.Limit.{limit};
+ghost use Rattle.devices.specs.Devices.{table_of};
 
 use crate::costly::put_costly_outputs;
 use crate::drawn::{Parts, drawn_page};
@@ -14,14 +15,14 @@ use crate::unfit::put_unfit;
 use crate::warned::put_warnings;
 use abel_commands::{LIMIT, Taken, read_files_have_few_vectors, take_file};
 use abel_compile::{CompileFault, Compiled, compile};
-use abel_tree::{Module, Names};
+use abel_tree::Module;
 use compile_phases::{module_of, names_of, parts_of};
 use design_drawings::Design;
-use devices::on_device;
-use jedec_reader::FuseFile;
+use devices::loaded;
 use pld_base::OutOfMemory;
-use pld_device::Device;
+use pld_device::{Device, Loaded};
 use std::alloc::Global;
+use std::marker::Brand;
 
 /// The bytes of a string without its quotes.
 fn unquoted(text: &[u8]) -> &[u8] {
@@ -49,17 +50,16 @@ struct Source<'a> {
 
 /// The page of a source whose fuse file is read again.
 fn made_of<D: Device>(
-    alloc: Global,
+    device: &Loaded<D>,
     source: Source,
-    names: &Names,
-    file: &FuseFile,
+    design: Design,
 ) -> Result<Made, OutOfMemory>
     requires text { length source.input.bytes.now ≤ limit }
-    requires fuses { length file.now.fuses ≡ D.table.fuses }
-    requires few { length file.now.vectors < 2 ^ 32 }
+    requires fuses { length design.file.now.fuses ≡ D.table.fuses }
+    requires few { length design.file.now.vectors < 2 ^ 32 }
 {
-    let outcome = outcome_of::<D>(alloc, file)?;
-    let design = Design { alloc, names, file };
+    let alloc = design.alloc;
+    let outcome = outcome_of::<D>(alloc, device, design.file)?;
     let parts = Parts {
         name: source.module.name.text.bytes(),
         title: title_of(source.module),
@@ -70,26 +70,34 @@ fn made_of<D: Device>(
     let mut made = Made {
         status: outcome.status(),
         report: joined(alloc, &[&source.compiled.summary])?,
-        page: Some(drawn_page::<D>(design, parts, &outcome)?),
+        page: Some(drawn_page::<D>(device, design, parts, &outcome)?),
     };
-    put_vectors::<D>(alloc, &mut made.report, &outcome)?;
-    put_warnings::<D>(&mut made.report, design, source.module, source.input)?;
+    put_vectors::<D>(alloc, device, &mut made.report, &outcome)?;
+    put_warnings::<D>(
+        device,
+        &mut made.report,
+        design,
+        source.module,
+        source.input,
+    )?;
     Ok(made)
 }
 
-/// The page of a compiled source. Its fuse file is taken as `simulate` takes one.
+/// The page of a source that is compiled for this device. Its fuse file is taken as `simulate` takes one.
 fn made_for<D: Device>(
     alloc: Global,
     input: Input,
     compiled: &Compiled,
     module: Module,
 ) -> Result<Made, CompileFault>
-    requires { length input.bytes.now ≤ limit }
+    requires table { table_of compiled.now.device ≡ D.table }
+    requires within { length input.bytes.now ≤ limit }
 {
     read_files_have_few_vectors();
-    let placed = placed_module::<D>(alloc, module)?;
+    let device = loaded::<D>(compiled.device);
+    let placed = placed_module::<D>(alloc, &device, module)?;
     let parts = parts_of(alloc, &placed)?;
-    let names = names_of::<D>(alloc, &parts)?;
+    let names = names_of::<D>(alloc, &device, &parts)?;
     let source = Source {
         input,
         compiled,
@@ -99,11 +107,22 @@ fn made_for<D: Device>(
     if bytes.len() > LIMIT {
         return Ok(Made::told(alloc, 4, &[b"error TooLong\n"])?);
     }
-    let taken = take_file::<D>(alloc, bytes)?;
+    let taken = take_file::<D>(alloc, &device, bytes)?;
     match taken {
         Taken::File(file) => {
-            let mut made = made_of::<D>(alloc, source, &names, &file)?;
-            put_costly_outputs::<D>(alloc, &mut made.report, source.module, &names, source.input)?;
+            let design = Design {
+                alloc,
+                names: &names,
+                file: &file,
+            };
+            let mut made = made_of::<D>(&device, source, design)?;
+            put_costly_outputs::<D>(
+                &device,
+                &mut made.report,
+                design,
+                source.module,
+                source.input,
+            )?;
             Ok(made)
         }
         Taken::Refused(line) => Ok(Made::told(alloc, 4, &[&line])?),
@@ -115,9 +134,8 @@ fn made_compiled(alloc: Global, input: Input) -> Result<Made, CompileFault>
     requires { length input.bytes.now ≤ limit }
 {
     let compiled = compile(alloc, input.bytes)?;
-    let device = compiled.device;
     let module = module_of(alloc, input.bytes)?;
-    on_device!(device, made_for(alloc, input, &compiled, module))
+    made_for::<Brand>(alloc, input, &compiled, module)
 }
 
 /// The page of a source that does not fit, with a line on each cell that is over its room.

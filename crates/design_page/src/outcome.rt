@@ -8,7 +8,7 @@ use design_drawings::DRAWN;
 use device_sim::{Report, simulate, traces};
 use jedec_reader::FuseFile;
 use pld_base::{ListOf, OutOfMemory, Trace};
-use pld_device::Device;
+use pld_device::{Device, Loaded};
 use std::alloc::Global;
 
 /// What the vectors of a fuse file gave, with what the pins show at the first of them; or the line on why they were not run.
@@ -19,15 +19,19 @@ pub enum Outcome {
 }
 
 /// Runs the vectors of a fuse file.
-pub fn outcome_of<D: Device>(alloc: Global, file: &FuseFile) -> Result<Outcome, OutOfMemory>
+pub fn outcome_of<D: Device>(
+    alloc: Global,
+    device: &Loaded<D>,
+    file: &FuseFile,
+) -> Result<Outcome, OutOfMemory>
     requires fuses { length file.now.fuses ≡ D.table.fuses }
     requires few { length file.now.vectors < 2 ^ 32 }
 {
-    let report = match simulate::<D>(alloc, file) {
+    let report = match simulate::<D>(alloc, device, file) {
         Ok(report) => report,
         Err(fault) => return Ok(Outcome::NotRun(sim_fault_line(alloc, &fault)?)),
     };
-    match traces::<D>(alloc, file, DRAWN) {
+    match traces::<D>(alloc, device, file, DRAWN) {
         Ok(shown) => Ok(Outcome::Ran(report, shown)),
         Err(fault) => Ok(Outcome::NotRun(sim_fault_line(alloc, &fault)?)),
     }
@@ -44,10 +48,14 @@ impl Outcome {
     }
 
     /// The lines of `simulate`.
-    pub fn lines<D: Device>(&self, alloc: Global) -> Result<Vec<u8>, OutOfMemory> {
+    pub fn lines<D: Device>(
+        &self,
+        alloc: Global,
+        device: &Loaded<D>,
+    ) -> Result<Vec<u8>, OutOfMemory> {
         match self {
             Outcome::NotRun(line) => Ok(Vec::from_slice(alloc, line)?),
-            Outcome::Ran(report, _) => run_lines::<D>(alloc, report),
+            Outcome::Ran(report, _) => run_lines::<D>(alloc, device, report),
         }
     }
 }

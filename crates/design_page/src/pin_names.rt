@@ -6,33 +6,38 @@ use abel_tree::{Attributes, Declared, Meaning, Names};
 use fuse_listing::{cell_of, count_in_use, is_in_use, name_on};
 use jedec_reader::FuseFile;
 use pld_base::{ListOf, NameText, OutOfMemory, Place, put_decimal};
-use pld_device::{Device, Enable};
+use pld_device::{Device, Enable, Loaded};
 use std::alloc::Global;
 
 /// Whether a fuse file uses a cell: some row of it is in use.
-fn is_used<D: Device>(levels: &[bool], cell: u8) -> bool
+fn is_used<D: Device>(device: &Loaded<D>, levels: &[bool], cell: u8) -> bool
     requires { cell < length D.table.cells }
 {
-    let found = cell_of::<D>(cell);
+    let found = cell_of::<D>(device, cell);
     let is_enabled = match found.enable {
-        Enable::Row(row) => is_in_use::<D>(levels, row),
+        Enable::Row(row) => is_in_use::<D>(device, levels, row),
         Enable::PinLow(_) => false,
     };
-    is_enabled || count_in_use::<D>(levels, found.first, found.room) != 0
+    is_enabled || count_in_use::<D>(device, levels, found.first, found.room) != 0
 }
 
 /// Whether a fuse file uses the cell on a pin.
-fn is_assigned<D: Device>(levels: &[bool], pin: u8) -> bool {
-    for cell in 0..D::CELLS {
-        if cell_of::<D>(cell).pin == pin {
-            return is_used::<D>(levels, cell);
+fn is_assigned<D: Device>(device: &Loaded<D>, levels: &[bool], pin: u8) -> bool {
+    for cell in 0..device.cells() {
+        if cell_of::<D>(device, cell).pin == pin {
+            return is_used::<D>(device, levels, cell);
         }
     }
     false
 }
 
 /// The name of a pin: `p` and its number, as `decompile` writes it.
-fn named<D: Device>(alloc: Global, levels: &[bool], pin: u8) -> Result<Declared, OutOfMemory> {
+fn named<D: Device>(
+    alloc: Global,
+    device: &Loaded<D>,
+    levels: &[bool],
+    pin: u8,
+) -> Result<Declared, OutOfMemory> {
     let mut text = Vec::from_slice(alloc, b"p")?;
     put_decimal(alloc, &mut text, usize::from(pin))?;
     Ok(Declared {
@@ -43,7 +48,7 @@ fn named<D: Device>(alloc: Global, levels: &[bool], pin: u8) -> Result<Declared,
             negated: false,
         },
         attributes: Attributes(0),
-        assigned: is_assigned::<D>(levels, pin),
+        assigned: is_assigned::<D>(device, levels, pin),
     })
 }
 
@@ -56,16 +61,20 @@ pub fn name_of_pin(names: &Names, pin: u8) -> &[u8] {
 }
 
 /// The names of a fuse file's pins, those of cells in use assigned.
-pub fn pin_names<D: Device>(alloc: Global, file: &FuseFile) -> Result<Names, OutOfMemory> {
+pub fn pin_names<D: Device>(
+    alloc: Global,
+    device: &Loaded<D>,
+    file: &FuseFile,
+) -> Result<Names, OutOfMemory> {
     let mut list = Vec::new(alloc);
-    for before in 0..D::PINS {
+    for before in 0..device.pins() {
         let pin = before + 1;
-        if pin != D::GROUND && pin != D::PINS {
-            list.push(named::<D>(alloc, file.fuses.levels(), pin)?)?;
+        if pin != device.ground() && pin != device.pins() {
+            list.push(named::<D>(alloc, device, file.fuses.levels(), pin)?)?;
         }
     }
     Ok(Names {
         list: ListOf::from_vec(list),
-        device: D::NAME,
+        device: device.name(),
     })
 }

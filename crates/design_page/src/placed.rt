@@ -7,21 +7,29 @@ ghost use Rattle.placer.specs.Following.{HasNumberedNames};
 
 use abel_tree::{Module, Names};
 use compile_phases::{CompileFault, declared_of, parts_of, placed_of};
-use pld_device::Device;
+use pld_device::{Device, Loaded};
 use std::alloc::Global;
 
 /// The names that a module declares, before its signals are placed.
-fn names_in<D: Device>(alloc: Global, module: &Module) -> Result<Names, CompileFault>
+fn names_in<D: Device>(
+    alloc: Global,
+    device: &Loaded<D>,
+    module: &Module,
+) -> Result<Names, CompileFault>
     ensures { IfOk result (AreDeclaredBy D.table (view_module module.now)) }
 {
     let source = parts_of(alloc, module)?;
-    declared_of::<D>(alloc, &source)
+    declared_of::<D>(alloc, device, &source)
 }
 
 /// The placed module, whose names have numbers.
-pub fn placed_module<D: Device>(alloc: Global, module: Module) -> Result<Module, CompileFault>
+pub fn placed_module<D: Device>(
+    alloc: Global,
+    device: &Loaded<D>,
+    module: Module,
+) -> Result<Module, CompileFault>
     ensures { IfOk result (λ m. HasNumberedNames D.table (view_module m)) }
 {
-    let names = names_in::<D>(alloc, &module)?;
-    placed_of::<D>(alloc, module, &names)
+    let names = names_in::<D>(alloc, device, &module)?;
+    placed_of::<D>(alloc, device, module, &names)
 }

@@ -5,7 +5,7 @@ use crate::made::Input;
 use crate::outcome::Outcome;
 use crate::places::Found;
 use pld_base::{OutOfMemory, Place, put_decimal};
-use pld_device::Device;
+use pld_device::{Device, Loaded};
 use shown_text::excerpt_of;
 use std::alloc::Global;
 
@@ -86,15 +86,16 @@ pub fn put_refusal(
 /// Appends what is said of the vectors of a compiled source: that all agree, or the lines of `simulate`.
 pub fn put_vectors<D: Device>(
     alloc: Global,
+    device: &Loaded<D>,
     text: &mut Vec<u8>,
     outcome: &Outcome,
 ) -> Result<(), OutOfMemory> {
     let Outcome::Ran(report, _) = outcome else {
-        text.extend_from_slice(&outcome.lines::<D>(alloc)?)?;
+        text.extend_from_slice(&outcome.lines::<D>(alloc, device)?)?;
         return Ok(());
     };
     if !report.list.as_slice().is_empty() {
-        text.extend_from_slice(&outcome.lines::<D>(alloc)?)?;
+        text.extend_from_slice(&outcome.lines::<D>(alloc, device)?)?;
     } else if report.vectors == 1 {
         text.extend_from_slice(b"1 vector agrees\n")?;
     } else if report.vectors != 0 {

@@ -3,6 +3,7 @@
 ghost use Rattle.std.specs.Prelude.{◌≤◌, length};
 ghost use Rattle.abel_tree.specs.View.{view_module};
 ghost use Rattle.compile_phases.specs.Phases.{AreNamesFor};
+ghost use Rattle.devices.specs.Devices.{table_of};
 
 use crate::pin_names::name_of_pin;
 use crate::placed::placed_module;
@@ -11,28 +12,30 @@ use abel_vectors::SourceSections;
 use compile_phases::{
     CompileFault, device_named, module_of, names_of, netlist_of, parts_of, scope_of, sections_of,
 };
-use devices::on_device;
+use devices::loaded;
 use fitter::{FitFault, Overfull, cells_over_room};
 use name_uses::ModuleParts;
-use pld_base::{ListOf, OutOfMemory, put_decimal};
-use pld_device::Device;
+use pld_base::{DeviceName, ListOf, OutOfMemory, put_decimal};
+use pld_device::{Device, Loaded};
 use std::alloc::Global;
+use std::marker::Brand;
 
 /// The cells that are over their room, none if the fit has another fault.
 fn overfull_cells<D: Device>(
     alloc: Global,
+    device: &Loaded<D>,
     source: &ModuleParts<'_>,
     names: &Names,
 ) -> Result<ListOf<Overfull>, CompileFault>
     requires { AreNamesFor D.table (view_module source.now) names.now }
 {
-    let scope = scope_of::<D>(alloc, names)?;
+    let scope = scope_of::<D>(alloc, device, names)?;
     let SourceSections {
         contributions,
         vectors: _,
     } = sections_of::<D>(alloc, source, &scope)?;
     let net = netlist_of::<D>(alloc, source, &scope, contributions)?;
-    match cells_over_room::<D>(alloc, &net) {
+    match cells_over_room::<D>(alloc, device, &net) {
         Ok(list) => Ok(list),
         Err(FitFault::OutOfMemory) => Err(CompileFault::OutOfMemory),
         Err(_) => Ok(ListOf::from_vec(Vec::new(alloc))),
@@ -58,16 +61,20 @@ fn put_cell(
     Ok(())
 }
 
-/// Appends a line on each cell of a module that is over its room.
+/// Appends a line on each cell of a module that is over its room, on the device of this name.
 fn put_cells<D: Device>(
     alloc: Global,
+    name: DeviceName,
     text: &mut Vec<u8>,
     module: Module,
-) -> Result<(), CompileFault> {
-    let placed = placed_module::<D>(alloc, module)?;
+) -> Result<(), CompileFault>
+    requires { table_of name ≡ D.table }
+{
+    let device = loaded::<D>(name);
+    let placed = placed_module::<D>(alloc, &device, module)?;
     let source = parts_of(alloc, &placed)?;
-    let names = names_of::<D>(alloc, &source)?;
-    let cells = overfull_cells::<D>(alloc, &source, &names)?;
+    let names = names_of::<D>(alloc, &device, &source)?;
+    let cells = overfull_cells::<D>(alloc, &device, &source, &names)?;
     for over in cells.as_slice() {
         put_cell(alloc, text, &names, *over)?;
     }
@@ -80,7 +87,7 @@ fn put_source_cells(alloc: Global, text: &mut Vec<u8>, bytes: &[u8]) -> Result<(
 {
     let module = module_of(alloc, bytes)?;
     let device = device_named(alloc, &module)?;
-    on_device!(device, put_cells(alloc, text, module))
+    put_cells::<Brand>(alloc, device, text, module)
 }
 
 /// Appends a line on each cell that is over its room, of a source that does not fit; nothing of one that is refused before.

@@ -10,7 +10,7 @@ use design_drawings::{Design, Flow, flow_of, is_low_register};
 use name_uses::ModuleParts;
 use placer::seen_in;
 use pld_base::{NameText, OutOfMemory, level_at};
-use pld_device::Device;
+use pld_device::{Device, Loaded};
 use reports::{Cause, Warning, warnings};
 use std::alloc::Global;
 
@@ -42,11 +42,11 @@ fn warning_on(alloc: Global, declared: &Declared, cause: Cause) -> Result<Warnin
 }
 
 /// The numbers of the names whose pins no fuse uses.
-fn idle_pins<D: Device>(design: Design) -> Result<Vec<usize>, OutOfMemory> {
+fn idle_pins<D: Device>(device: &Loaded<D>, design: Design) -> Result<Vec<usize>, OutOfMemory> {
     let mut found = Vec::new(design.alloc);
     for (number, declared) in design.names.list.as_slice().iter().enumerate() {
         if let Meaning::Pin { pin, negated: _ } = declared.meaning {
-            if flow_of::<D>(design, pin) == Flow::Unused {
+            if flow_of::<D>(device, design, pin) == Flow::Unused {
                 found.push(number)?;
             }
         }
@@ -56,12 +56,13 @@ fn idle_pins<D: Device>(design: Design) -> Result<Vec<usize>, OutOfMemory> {
 
 /// Adds the pins that nothing assigns and no section reads.
 fn add_unused<D: Device>(
+    device: &Loaded<D>,
     found: &mut Vec<Warning>,
     design: Design,
     module: &Module,
 ) -> Result<(), OutOfMemory> {
     let names = design.names.list.as_slice();
-    let idle = idle_pins::<D>(design)?;
+    let idle = idle_pins::<D>(device, design)?;
     let (asked, _) = idle.split_at(idle.len().min(MOST_PINS));
     let source = ModuleParts::new(design.alloc, module)?;
     let seen = seen_in(design.alloc, names, &source, asked)?;
@@ -76,10 +77,14 @@ fn add_unused<D: Device>(
 }
 
 /// Adds the active-low registers that are asserted after power-up.
-fn add_asserted<D: Device>(found: &mut Vec<Warning>, design: Design) -> Result<(), OutOfMemory> {
+fn add_asserted<D: Device>(
+    device: &Loaded<D>,
+    found: &mut Vec<Warning>,
+    design: Design,
+) -> Result<(), OutOfMemory> {
     for declared in design.names.list.as_slice() {
         if let Meaning::Pin { pin, negated } = declared.meaning {
-            if negated && is_low_register::<D>(design, pin) {
+            if negated && is_low_register::<D>(device, design, pin) {
                 found.push(warning_on(design.alloc, declared, Cause::AssertedAtPowerUp)?)?;
             }
         }
@@ -127,6 +132,7 @@ fn put_list(
 
 /// Appends the warnings on a compiled source.
 pub fn put_warnings<D: Device>(
+    device: &Loaded<D>,
     text: &mut Vec<u8>,
     design: Design,
     module: &Module,
@@ -136,8 +142,8 @@ pub fn put_warnings<D: Device>(
 {
     let of_source = warnings(design.alloc, module, design.names)?;
     let mut of_pins = Vec::new(design.alloc);
-    add_unused::<D>(&mut of_pins, design, module)?;
-    add_asserted::<D>(&mut of_pins, design)?;
+    add_unused::<D>(device, &mut of_pins, design, module)?;
+    add_asserted::<D>(device, &mut of_pins, design)?;
     put_list(design.alloc, text, input, of_source.as_slice())?;
     put_list(design.alloc, text, input, &of_pins)
 }
