@@ -15,7 +15,7 @@ use std::marker::Model;
 /// The fuses of a device; contracts see their levels.
 #[derive(Drop)]
 pub struct DeviceFuses<'a, D: Device> {
-    device: &'a Loaded<D>,
+    pub(crate) device: &'a Loaded<D>,
     levels: Vec<bool>,
     array: FuseArray<'a, D>,
 }

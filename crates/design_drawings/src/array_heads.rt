@@ -123,7 +123,7 @@ pub fn put_levels<D: Device>(
     down: usize,
 ) -> Result<(), OutOfMemory> {
     for column in 0..device.columns() {
-        put_head::<D>(page, design, column, down)?;
+        put_head::<D>(device, page, design, column, down)?;
     }
     page.put(&[Piece::Markup("\n")])
 }

@@ -151,7 +151,7 @@ pub fn put_array_row<D: Device>(
         put_dots::<D>(device, page, design, row, middle)?;
     }
     let lines = if is_used {
-        put_product::<D>(page, design, row, middle)?
+        put_product::<D>(device, page, design, row, middle)?
     } else {
         1
     };

@@ -69,7 +69,7 @@ fn put_enable<D: Device>(
 {
     page.put(&[Piece::Markup("<td><code>")])?;
     match cell_of::<D>(device, cell).enable {
-        Enable::Row(row) => put_product::<D>(page, design, row)?,
+        Enable::Row(row) => put_product::<D>(device, page, design, row)?,
         Enable::PinLow(pin) => {
             let name = name_bytes(design, pin);
             if name.is_empty() {
@@ -101,7 +101,7 @@ fn put_shared<D: Device>(
     match row {
         Some(row) if is_register::<D>(device, design, cell) => {
             page.put(&[Piece::Markup("<td><code>")])?;
-            put_product::<D>(page, design, row)?;
+            put_product::<D>(device, page, design, row)?;
             page.put(&[Piece::Markup("</code></td>")])
         }
         _ => page.put(&[Piece::Markup("<td>–</td>")]),
@@ -153,7 +153,7 @@ fn put_used<D: Device>(
         Piece::Markup("</td>"),
     ])?;
     put_use(page, rows_in_use::<D>(device, design, cell), found.room)?;
-    put_enable::<D>(page, design, cell)?;
+    put_enable::<D>(device, page, design, cell)?;
     put_shared::<D>(device, page, design, cell, device.reset())?;
     put_shared::<D>(device, page, design, cell, device.preset())?;
     page.put(&[Piece::Markup("</tr>\n")])

@@ -106,7 +106,7 @@ fn put_line<D: Device>(
         ++ product_item D.table design.entry.file.now.fuses (entries_of design.entry.names.now) front.now row) }
 {
     page.put(&[Piece::Markup("<dd><code>"), Piece::Markup(front)])?;
-    put_product::<D>(page, design, row)?;
+    put_product::<D>(device, page, design, row)?;
     page.put(&[Piece::Markup("</code></dd>")])
 }
 

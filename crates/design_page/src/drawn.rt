@@ -204,7 +204,7 @@ pub fn drawn_page<D: Device>(
     outcome: &Outcome,
 ) -> Result<Vec<u8>, OutOfMemory> {
     let mut page = Page::new(design.alloc);
-    put_head::<D>(&mut page, design, parts, outcome)?;
+    put_head::<D>(device, &mut page, design, parts, outcome)?;
     put_drawings::<D>(device, &mut page, design)?;
     put_vectors::<D>(device, &mut page, design, outcome)?;
     if !parts.source.is_empty() {
