@@ -5,7 +5,7 @@ import re
 
 from .names import Names
 from .records import Declaration
-from .tables import ATTRIBUTES, DECLARING, NODES, PARTIAL, PARTS, UNCONNECTED
+from .tables import ATTRIBUTES, DECLARING, EITHER, NODES, PARTIAL, PARTS, UNCONNECTED, V10, WIDE
 from .tokens import Token, split, squeeze
 
 
@@ -62,7 +62,7 @@ def look(s: Names, d: Declaration, string: Token, word: str) -> None:
         s.say.cant(string, f'{string.text}: these devices have no latches (HAZARDS.md, Latches)')
     elif lower not in ATTRIBUTES:
         s.say.cant(string, f'{word} in {string.text}: no attribute that I know')
-    elif lower in ('neg', 'pos') and s.device == 'GAL22V10':
+    elif lower in ('neg', 'pos') and s.device in EITHER:
         now = 'invert' if lower == 'neg' else 'buffer'
         for name in d.names:
             if name in s.registers and name in s.signals \
@@ -105,7 +105,7 @@ def fix_pins(s: Names) -> None:
 
 
 def supplies(s: Names, d: Declaration) -> None:
-    size = 24 if s.device == 'GAL22V10' else 20
+    size = 24 if s.device in WIDE else 20
     dead = [k for k, name in enumerate(d.names) if name in s.signals and (
         s.signals[name].pin in (size // 2, size) or s.signals[name].plcc in UNCONNECTED)]
     if not dead:
@@ -128,7 +128,7 @@ def supplies(s: Names, d: Declaration) -> None:
 
 def nodes(s: Names, d: Declaration) -> None:
     inputs = {name: NODES[value] for name, value in zip(d.names, d.numbers)
-              if s.device == 'GAL22V10' and value in NODES}
+              if s.device in V10 and value in NODES}
     if inputs and len(inputs) < len(d.names):
         s.say.cant(d.first, 'nodes 25 and 26 beside others: declare them alone')
     elif inputs:

@@ -4,7 +4,7 @@ from __future__ import annotations
 import re
 
 from .names import Names
-from .tables import COUNTERPARTS, DEVICES, PLCC, REGISTERED, UNCONNECTED
+from .tables import COUNTERPARTS, DEVICES, PLCC, REGISTERED, UNCONNECTED, V10
 from .tokens import Token, numeral, squeeze
 
 
@@ -16,8 +16,9 @@ def fix_device(s: Names) -> None:
     given = token.text.strip("'").upper()
     old = re.sub(r'[\s_/]', '', given)
     s.device = old if given in DEVICES else counterpart(s, token, old)
-    if s.device in ('P22V10', 'GAL22V10'):
+    if s.device == 'P22V10':
         s.device = 'GAL22V10'
+    if s.device in V10:
         package(s, token, old)
 
 

@@ -5,7 +5,7 @@ import re
 
 from .names import Names
 from .records import Statement
-from .tables import BY_COMPLEMENT, EXTENSIONS, INPUTS, NO_EXTENSIONS, PRESETS, RESETS
+from .tables import BY_COMPLEMENT, EITHER, EXTENSIONS, INPUTS, NO_EXTENSIONS, PRESETS, RESETS
 from .tokens import Token, squeeze, written
 
 
@@ -36,7 +36,7 @@ def fix_extensions(s: Names) -> None:
 
 def fix_extension(s: Names, x: Token, assigned: Statement | None) -> None:
     """An extension of another name, or one that only other devices have."""
-    gal, word, name = s.device == 'GAL22V10', x.word, squeeze(s.before(x))
+    gal, word, name = s.device in EITHER, x.word, squeeze(s.before(x))
     old, same = name + x.text, ''
     if word in EXTENSIONS and (gal or word == '.C'):
         x.out = EXTENSIONS[word] if x.text.isupper() else EXTENSIONS[word].lower()

@@ -11,7 +11,7 @@ from .module import Module
 from .names import Names
 from .registers import Registers
 from .states import States
-from .tables import PRESETS, RESETS
+from .tables import EITHER, PRESETS, RESETS, UNREAD
 from .text import Report
 from .tokens import SIGNS, Token
 from .vectors import fix_vectors
@@ -64,9 +64,8 @@ class Source(Names):
 def look(s: Names) -> None:
     """Says what abel will refuse, by the lines of the old source."""
     loops(s)
-    if s.device in ('P16L8', 'GAL16V8C'):
-        unread(s)
-    if s.device == 'GAL22V10':
+    unread(s)
+    if s.device in EITHER:
         other_resets(s)
     for table in s.module.of('TRUTH_TABLE'):
         if table.double:
@@ -100,10 +99,10 @@ def loops(s: Names) -> None:
 
 
 def unread(s: Names) -> None:
-    """Pins 12 and 19, which have no way back into the array."""
+    """Pins that have no way into the array, or must not be read."""
     values = [a.right for a in s.assignments] + [t.left for t in s.module.of('TRUTH_TABLE')]
     read = {name for value in values for name in s.reads(value)}
-    for pin in (12, 19):
+    for pin in UNREAD.get(s.device, ()):
         name = s.on(pin)
         if name in read and name:
             s.say.cant(s.signals[name].token, f"{name}: pin {pin} of a {s.device} can't be read: "

@@ -3,6 +3,7 @@ from __future__ import annotations
 
 from .names import Names
 from .records import Declaration, Part, Statement
+from .tables import EITHER
 from .tokens import numeral, squeeze, written
 
 
@@ -41,7 +42,7 @@ class States:
         starts = [r.left[0].text for x in diagrams for r in x.rows
                   if r.first.word == 'ASYNC_RESET' and r.left] + mine[:1]
         bits = self.bits[name] = max(1, (len(mine) - 1).bit_length())
-        down = 'invert' in s.signals[name].words or s.device not in ('', 'GAL22V10')
+        down = 'invert' in s.signals[name].words or s.device not in ('', *EITHER)
         for k, n in enumerate(sorted(mine, key=lambda n: n != starts[0])):
             self.codes[n] = 2 ** bits - 1 - k if down else k
         stem = s.free(name[:28], '_', [str(k) for k in range(bits)])
@@ -49,7 +50,7 @@ class States:
         key = d.tokens[d.at]
         key.out = 'pin'
         if not any(x.word == 'ISTYPE' for x in d.tokens):
-            key.after += " istype 'reg,buffer'" if s.device == 'GAL22V10' else " istype 'reg'"
+            key.after += " istype 'reg,buffer'" if s.device in EITHER else " istype 'reg'"
         d.last.after += f' {name} = [{token.out}];'
         s.say.change(token, squeeze(d.tokens),
                      f'{bits} registers, on pins that are free (see list)')
@@ -89,7 +90,7 @@ class States:
         code = self.codes.get(squeeze(reset.left), s.value(reset.left))
         inverts = s.inverts(members)
         wanted = 2 ** self.bits.get(name, len(members)) - 1 if inverts == {True} else 0
-        if s.device != 'GAL22V10' or not alone or code != wanted or len(inverts) > 1:
+        if s.device not in EITHER or not alone or code != wanted or len(inverts) > 1:
             return s.say.cant(reset.first, f'{squeeze(s.between(reset.first, reset.last))}: a '
                               'reset at once makes every register of a 22V10 0 (DEVICES.md)')
         register = members[-1] if members and name not in self.bits else name

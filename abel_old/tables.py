@@ -45,7 +45,16 @@ PARTS = {
 
 # The devices that stay as they are.
 DEVICES = {'P16L8', 'P16R4', 'P16R6', 'P16R8', 'P22V10', 'GAL22V10', 'GAL16V8C', 'GAL16V8R4',
-           'GAL16V8R6', 'GAL16V8R8'}
+           'GAL16V8R6', 'GAL16V8R8', 'P20L8', 'P20R4', 'P20R6', 'P20R8', 'P20L10', 'P16P8',
+           'P18P8', 'GAL18V10', 'ATF22V10C'}
+# Those with 24 pins; the 22V10s among them; those whose cells are registers or not, of either
+# polarity, with a reset and a preset.
+WIDE = {'GAL22V10', 'ATF22V10C', 'P20L8', 'P20R4', 'P20R6', 'P20R8', 'P20L10'}
+V10 = {'GAL22V10', 'ATF22V10C'}
+EITHER = V10 | {'GAL18V10'}
+# The pins that no equation may read.
+UNREAD = {'P16L8': (12, 19), 'GAL16V8C': (12, 19), 'P16P8': (12, 19), 'P20L8': (15, 22),
+          'P20L10': (14, 23), 'ATF22V10C': (4,)}
 # A part's maker and number without grade and package; what is written, and what is said.
 COUNTERPARTS = [
     (r'P 22V10', 'P22V10', ''),
