@@ -62,6 +62,7 @@ pub fn has_read_path_on<D: Device>(
         // on it
         matches!(extension, None | Some(Extension::Pin))
             && pair_of_pin::<D>(device, pin).is_some()
+            && pin != device.power_down()
             && (declared.assigned || !has_wrong_kind_on::<D>(device, pin, false))
     }
 }
