@@ -37,6 +37,7 @@ impl Part for Mixed {
             reset: Some(0),
             preset: Some(10),
             flip: Flip::BeforeRegister,
+            power_down: 0,
         }
     }
 
