@@ -43,6 +43,7 @@ impl Part for Bench {
             reset: None,
             preset: None,
             flip: Flip::AfterRegister,
+            power_down: 0,
         }
     }
 

@@ -14,10 +14,9 @@ use std::alloc::Global;
 use std::marker::Brand;
 use test_rows::{Found, Report, Section};
 
-/// What is asked of a device: a number by its name, or an entry at a number.
+/// What a device says at a number.
 #[derive(Clone, Copy)]
-enum Question {
-    Named,
+enum Entry {
     Cell,
     LowPin,
     Pair,
@@ -26,16 +25,23 @@ enum Question {
     Fixed,
 }
 
+/// What is asked of a device: its numbers by their names, or entries.
+#[derive(Clone, Copy)]
+enum Question {
+    Numbers,
+    At(Entry),
+}
+
 /// The question of a section's name.
 fn question_of(name: &str) -> Option<Question> {
     let questions = [
-        ("numbers", Question::Named),
-        ("cells", Question::Cell),
-        ("pin 11 at the cells", Question::LowPin),
-        ("pairs", Question::Pair),
-        ("pins of pairs", Question::PairPin),
-        ("switches", Question::Switch),
-        ("fixed fuses", Question::Fixed),
+        ("numbers", Question::Numbers),
+        ("cells", Question::At(Entry::Cell)),
+        ("pin 11 at the cells", Question::At(Entry::LowPin)),
+        ("pairs", Question::At(Entry::Pair)),
+        ("pins of pairs", Question::At(Entry::PairPin)),
+        ("switches", Question::At(Entry::Switch)),
+        ("fixed fuses", Question::At(Entry::Fixed)),
     ];
     for (words, question) in questions {
         if words == name {
@@ -45,7 +51,19 @@ fn question_of(name: &str) -> Option<Question> {
     None
 }
 
-/// A question to a device, at one number or at several.
+/// Appends the entry at a number.
+fn put_entry<D: Device>(device: &Loaded<D>, entry: Entry, number: u8, found: &mut Found) {
+    match entry {
+        Entry::Cell => put_cell::<D>(device, number, found),
+        Entry::LowPin => put_low_pin::<D>(device, number, found),
+        Entry::Pair => put_pair::<D>(device, u16::from(number), found),
+        Entry::PairPin => put_pair_pin::<D>(device, u16::from(number), found),
+        Entry::Switch => put_switch::<D>(device, u16::from(number), found),
+        Entry::Fixed => put_fixed::<D>(device, u16::from(number), found),
+    }
+}
+
+/// A question to a device, at one word or at several.
 #[derive(Drop)]
 struct LookUp<'a, D: Device> {
     device: &'a Loaded<D>,
@@ -53,28 +71,14 @@ struct LookUp<'a, D: Device> {
 }
 
 impl<'a, D: Device> LookUp<'a, D> {
-    /// Appends the answer at a word, which is a number but for `Named`.
+    /// Appends the answer at a word.
     fn put_answer(&self, word: &str, found: &mut Found) {
-        let number = match word.parse::<u8>() {
-            Ok(number) => number,
-            Err(_) => return self.put_named(word, found),
-        };
-        match self.question {
-            Question::Named => found.text("no name"),
-            Question::Cell => put_cell::<D>(self.device, number, found),
-            Question::LowPin => put_low_pin::<D>(self.device, number, found),
-            Question::Pair => put_pair::<D>(self.device, u16::from(number), found),
-            Question::PairPin => put_pair_pin::<D>(self.device, u16::from(number), found),
-            Question::Switch => put_switch::<D>(self.device, u16::from(number), found),
-            Question::Fixed => put_fixed::<D>(self.device, u16::from(number), found),
-        }
-    }
-
-    /// Appends what the device says to a word that is no number.
-    fn put_named(&self, word: &str, found: &mut Found) {
-        match self.question {
-            Question::Named => put_named::<D>(self.device, word, found),
-            _ => found.text("no number"),
+        match (self.question, word.parse::<u8>()) {
+            (Question::Numbers, _) => put_named::<D>(self.device, word, found),
+            (Question::At(entry), Ok(number)) => {
+                put_entry::<D>(self.device, entry, number, found)
+            }
+            (Question::At(_), Err(_)) => found.text("no number"),
         }
     }
 }

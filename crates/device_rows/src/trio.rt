@@ -42,6 +42,7 @@ impl Part for Trio {
             reset: None,
             preset: None,
             flip: Flip::Always,
+            power_down: 0,
         }
     }
 

@@ -41,6 +41,7 @@ impl Part for Turned {
             reset: Some(0),
             preset: Some(5),
             flip: Flip::BeforeRegister,
+            power_down: 0,
         }
     }
 
