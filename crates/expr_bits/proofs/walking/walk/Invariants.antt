@@ -5,8 +5,8 @@ use Rattle.expr_bits.proofs.walking.walk.Given as goal
 
 abbrev pub invariant-turns : goal.invariant-turns
 invariant-turns g l =
-    Walking (context_for g.D.Device.table l.on.scope) l.fn.exprs l.exprs l.values (tasks_of (entries_of l.on.scope) l.work.items) (task_of (entries_of l.on.scope) l.fn.whole)
+    Walking (context_for g.D.Device.table l.on.scope.now) l.fn.exprs l.exprs l.values (tasks_of (entries_of l.on.scope.now) l.work.items) (task_of (entries_of l.on.scope.now) l.fn.whole)
 
 -- each turn leaves less work, by weight
 abbrev pub decreases-turns : goal.decreases-turns
-decreases-turns g l = stack_weight (entries_of l.on.scope) l.work.items
+decreases-turns g l = stack_weight (entries_of l.on.scope.now) l.work.items
