@@ -4,5 +4,5 @@ use Rattle.fitter.proofs.fitting.entries.Given as goal
 
 abbrev pub invariant-loop-cell : goal.invariant-loop-cell
 invariant-loop-cell g l = record {
-  below : EntriesBelow g.D.Device.table l.fit.over.net l.rows.plans.items l.rows.forms.items l.cell l.list.items;
+  below : EntriesBelow g.D.Device.table l.fit.over.net.now l.rows.plans.items l.rows.forms.items l.cell l.list.items;
 }
