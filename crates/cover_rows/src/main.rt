@@ -10,7 +10,6 @@ mod minimised;
 mod operations;
 mod pairs;
 mod plans;
-mod small;
 
 use std::io::{self, Write};
 use test_rows::sections;

@@ -1,9 +1,9 @@
 //! The fuses of a small plan in the sample device.
 
-use crate::small::{Small, small_device};
 use covers::Cube;
 use fit_plans::{CellForm, CellPlan, Plan, device_fuses, planned_fuses};
 use pld_base::ListOf;
+use pld_device::{Sample, load};
 use std::alloc::{AllocError, Global};
 use test_rows::Found;
 
@@ -43,12 +43,22 @@ const FORMS: [CellForm; 2] = [
 /// The fuses of the plan, past the array those that are given.
 fn fuses_over_ones(alloc: Global) -> Result<Vec<bool>, AllocError> {
     let control = vec![in alloc; true; 60]?;
-    planned_fuses::<Small>(alloc, &small_device(), &plan(alloc)?, &control)
+    planned_fuses::<Sample>(
+        alloc,
+        &load::<Sample, Sample>(&Sample),
+        &plan(alloc)?,
+        &control,
+    )
 }
 
 /// The fuses of the plan, past the array those of the forms of the cells.
 fn fuses_of_forms(alloc: Global) -> Result<Vec<bool>, AllocError> {
-    device_fuses::<Small>(alloc, &small_device(), &plan(alloc)?, &FORMS)
+    device_fuses::<Sample>(
+        alloc,
+        &load::<Sample, Sample>(&Sample),
+        &plan(alloc)?,
+        &FORMS,
+    )
 }
 
 /// Fuses in rows of eight columns, and after the array of six rows without a part.

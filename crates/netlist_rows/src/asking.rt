@@ -1,8 +1,8 @@
 //! The rows of a section, each asked what its section asks.
 
 use crate::mixed::mixed_device;
-use crate::small::small_device;
 use crate::{chains, fits, netlists, refusals, runs, sums, unfit};
+use pld_device::{Sample, load};
 use std::alloc::Global;
 use test_rows::{Found, Report, Row, Section, halves};
 
@@ -22,7 +22,7 @@ fn ask(alloc: Global, section: &str, names: &Found, text: &str, found: &mut Foun
         "runs" => runs::put_run(alloc, names, text, found),
         "sources that don't fit the sample" => unfit::put_fault(
             alloc,
-            &small_device(),
+            &load::<Sample, Sample>(&Sample),
             text,
             found,
         ),
@@ -70,7 +70,12 @@ fn report_rows(alloc: Global, section: &Section) -> Found {
 /// The report on a section; one of fits has blocks.
 pub(crate) fn report(alloc: Global, section: &Section) -> Found {
     match section.name {
-        "fits of the sample" => fits::report(alloc, &small_device(), section, true),
+        "fits of the sample" => fits::report(
+            alloc,
+            &load::<Sample, Sample>(&Sample),
+            section,
+            true,
+        ),
         "fits of the mixed device" => fits::report(alloc, &mixed_device(), section, true),
         "fits with don't-cares" => fits::report(alloc, &mixed_device(), section, false),
         _ => report_rows(alloc, section),

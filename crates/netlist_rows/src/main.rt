@@ -12,7 +12,6 @@ mod netlists;
 mod places;
 mod refusals;
 mod runs;
-mod small;
 mod sources;
 mod sums;
 mod unfit;

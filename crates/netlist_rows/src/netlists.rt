@@ -5,10 +5,10 @@ ghost use Rattle.netlist_rows.specs.Drawn.{IsDrawn};
 
 use crate::drawing::{Drawn, draw};
 use crate::places::{put_number, put_place, put_word};
-use crate::small::{Small, small_device};
 use crate::sources::row_module;
 use bit_expr::{CellWanted, Leaf, Netlist};
 use gathering::{Gathered, Link, gather_up};
+use pld_device::{Sample, load};
 use std::alloc::Global;
 use test_rows::Found;
 
@@ -92,7 +92,13 @@ fn gathered_up(alloc: Global, drawn: Drawn) -> Option<Gathered>
         contributions,
         vectors: _,
     } = drawn;
-    gather_up::<Small>(alloc, &small_device(), &names, contributions).ok()
+    gather_up::<Sample>(
+        alloc,
+        &load::<Sample, Sample>(&Sample),
+        &names,
+        contributions,
+    )
+    .ok()
 }
 
 /// The netlist of equations: its nodes, its cells, a few pairs of columns, and the leaves of its signals with their names.
@@ -103,7 +109,10 @@ pub(crate) fn put_netlist(
     found: &mut Found,
 ) -> Option<()> {
     let module = row_module(alloc, names, "equations", text, "")?;
-    let gathered = gathered_up(alloc, draw::<Small>(alloc, &small_device(), module)?)?;
+    let gathered = gathered_up(
+        alloc,
+        draw::<Sample>(alloc, &load::<Sample, Sample>(&Sample), module)?,
+    )?;
     put_net(&gathered.net, found);
     for link in gathered.links.as_slice() {
         put_leaf(link, found);

@@ -6,7 +6,6 @@ ghost use Rattle.netlist_rows.specs.Drawn.{IsDrawn};
 
 use crate::drawing::{Drawn, draw, names_of, scope_of};
 use crate::places::{put_refusal, put_word};
-use crate::small::{Small, small_device};
 use crate::sources::row_module;
 use abel_tree::{Module, Names};
 use design_checks::{
@@ -15,6 +14,7 @@ use design_checks::{
 };
 use name_uses::ModuleParts;
 use pld_base::OutOfMemory;
+use pld_device::{Sample, load};
 use std::alloc::Global;
 use test_rows::Found;
 
@@ -32,8 +32,8 @@ fn put_faults(alloc: Global, drawn: &Drawn, found: &mut Found) -> Result<(), Out
     requires { IsDrawn sample drawn.now }
 {
     let given = &drawn.contributions;
-    let device = small_device();
-    let scope = scope_of::<Small>(alloc, &device, &drawn.names)?;
+    let device = load::<Sample, Sample>(&Sample);
+    let scope = scope_of::<Sample>(alloc, &device, &drawn.names)?;
     let wrong = first_refused(Rule::Kinds, &scope, given);
     put_refused("WrongKind", wrong, found);
     found.text(";");
@@ -58,7 +58,7 @@ pub(crate) fn put_signals(
     let module = row_module(alloc, names, "equations", text, "")?;
     put_faults(
         alloc,
-        &draw::<Small>(alloc, &small_device(), module)?,
+        &draw::<Sample>(alloc, &load::<Sample, Sample>(&Sample), module)?,
         found,
     )
     .ok()
@@ -73,8 +73,8 @@ fn use_of(
 ) -> Result<Option<RefusedUse>, OutOfMemory>
     requires { AreNamesFor sample (view_module module.now) names.now }
 {
-    let device = small_device();
-    let scope = scope_of::<Small>(alloc, &device, names)?;
+    let device = load::<Sample, Sample>(&Sample);
+    let scope = scope_of::<Sample>(alloc, &device, names)?;
     let source = ModuleParts::new(alloc, module)?;
     first_use(alloc, rule, &scope, &source)
 }
@@ -83,7 +83,7 @@ fn use_of(
 pub(crate) fn put_uses(alloc: Global, names: &Found, text: &str, found: &mut Found) -> Option<()> {
     let front = "equations n = 1; R := 0; R.OE = !e; Y =";
     let module = row_module(alloc, names, front, text, ";")?;
-    let names = names_of::<Small>(alloc, &small_device(), &module)?;
+    let names = names_of::<Sample>(alloc, &load::<Sample, Sample>(&Sample), &module)?;
     let missing = use_of(alloc, UseRule::Extensions, &module, &names).ok()?;
     put_refused("refused", missing, found);
     found.text(";");
@@ -96,8 +96,8 @@ pub(crate) fn put_uses(alloc: Global, names: &Found, text: &str, found: &mut Fou
 fn put_level(alloc: Global, drawn: &Drawn, found: &mut Found) -> Result<(), OutOfMemory>
     requires { IsDrawn sample drawn.now }
 {
-    let device = small_device();
-    let scope = scope_of::<Small>(alloc, &device, &drawn.names)?;
+    let device = load::<Sample, Sample>(&Sample);
+    let scope = scope_of::<Sample>(alloc, &device, &drawn.names)?;
     let other = first_refused(Rule::Levels, &scope, &drawn.contributions);
     put_refused("refused", other, found);
     Ok(())
@@ -113,7 +113,7 @@ pub(crate) fn put_levels(
     let module = row_module(alloc, names, "equations", text, "")?;
     put_level(
         alloc,
-        &draw::<Small>(alloc, &small_device(), module)?,
+        &draw::<Sample>(alloc, &load::<Sample, Sample>(&Sample), module)?,
         found,
     )
     .ok()
@@ -123,10 +123,10 @@ pub(crate) fn put_levels(
 fn check(alloc: Global, drawn: &Drawn) -> Result<(), DesignFault>
     requires { IsDrawn sample drawn.now }
 {
-    let device = small_device();
-    let scope = scope_of::<Small>(alloc, &device, &drawn.names)?;
+    let device = load::<Sample, Sample>(&Sample);
+    let scope = scope_of::<Sample>(alloc, &device, &drawn.names)?;
     let source = ModuleParts::new(alloc, &drawn.module)?;
-    check_signals::<Small>(alloc, &source, &scope, &drawn.contributions)
+    check_signals::<Sample>(alloc, &source, &scope, &drawn.contributions)
 }
 
 /// The first refusal of the signals of equations.
@@ -137,7 +137,10 @@ pub(crate) fn put_design(
     found: &mut Found,
 ) -> Option<()> {
     let module = row_module(alloc, names, "equations", text, "")?;
-    match check(alloc, &draw::<Small>(alloc, &small_device(), module)?) {
+    match check(
+        alloc,
+        &draw::<Sample>(alloc, &load::<Sample, Sample>(&Sample), module)?,
+    ) {
         Ok(()) => put_word("none", found),
         Err(DesignFault::WrongKind(place, name)) => put_refusal("WrongKind", place, name, found),
         Err(DesignFault::NoSuchControl(place, name)) => {

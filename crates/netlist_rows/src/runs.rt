@@ -5,9 +5,9 @@ ghost use Rattle.netlist_rows.specs.Prelude.{sample, ModuleTree, plain_netlist, 
 
 use crate::drawing::{ModuleNet, draw, gathered};
 use crate::places::{put_number, put_word};
-use crate::small::{Small, small_device};
 use crate::sources::row_module;
 use pld_base::{Point, level_at};
+use pld_device::{Sample, load};
 use pld_machine::{rest, step, trace};
 use source_machine::SourceLogic;
 use std::alloc::Global;
@@ -71,8 +71,8 @@ fn put_steps(
     requires module { plain_netlist made.now.net ≡ netlist_of sample source }
     requires same { MeansTheSame sample source (plain_netlist made.now.net) }
 {
-    let device = small_device();
-    let Ok(logic) = SourceLogic::<Small>::new(alloc, &device, &made.net, inverted) else {
+    let device = load::<Sample, Sample>(&Sample);
+    let Ok(logic) = SourceLogic::<Sample>::new(alloc, &device, &made.net, inverted) else {
         return None;
     };
     let mut at = rest(&logic, 0, 0b11);
@@ -88,9 +88,9 @@ fn put_steps(
 /// that invert, if any do.
 pub(crate) fn put_run(alloc: Global, names: &Found, text: &str, found: &mut Found) -> Option<()> {
     let module = row_module(alloc, names, "", "", "")?;
-    let device = small_device();
-    let drawn = draw::<Small>(alloc, &device, module)?;
-    let (made, _vectors) = gathered::<Small>(alloc, &device, drawn)?;
+    let device = load::<Sample, Sample>(&Sample);
+    let drawn = draw::<Sample>(alloc, &device, module)?;
+    let (made, _vectors) = gathered::<Sample>(alloc, &device, drawn)?;
     let (cells, levels) = match text.split_once(':') {
         Some(both) => both,
         None => ("", text),

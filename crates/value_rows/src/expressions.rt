@@ -5,12 +5,12 @@ ghost use Rattle.bit_expr.specs.Arena.{arena};
 ghost use Rattle.set_expr.specs.Answer.{AreIn};
 
 use crate::places::{put_blank, put_fault, put_shape};
-use crate::small::{Small, small_device};
 use crate::sources::{ROW, module_of, source_of};
 use abel_tree::{Expr, Module, Section, Stmt};
 use bit_expr::{ExprFault, ExprId, Exprs};
 use expr_bits::DeviceScope;
 use pld_base::{Place, Point};
+use pld_device::{Sample, load};
 use section_targets::meet;
 use set_expr::{Scope, SectionFault, Shape, Shaped};
 use std::alloc::Global;
@@ -105,7 +105,7 @@ fn put_number(shape: Shape, number: u32, unknown: u32, found: &mut Found) {
 fn put_value(
     alloc: Global,
     module: &Module,
-    names: &DeviceScope<'_, Small>,
+    names: &DeviceScope<'_, Sample>,
     found: &mut Found,
 ) -> Option<()> {
     let expr = value_of(module)?;
@@ -131,7 +131,7 @@ fn put_value(
 }
 
 /// The bits of an expression that isn't refused.
-fn shaped_of(alloc: Global, module: &Module, names: &DeviceScope<'_, Small>) -> Option<Shaped> {
+fn shaped_of(alloc: Global, module: &Module, names: &DeviceScope<'_, Sample>) -> Option<Shaped> {
     let expr = value_of(module)?;
     let checked = match names.scope().check(alloc, expr) {
         Ok(checked) => checked,
@@ -148,7 +148,7 @@ fn shaped_of(alloc: Global, module: &Module, names: &DeviceScope<'_, Small>) -> 
 fn put_width(
     alloc: Global,
     module: &Module,
-    names: &DeviceScope<'_, Small>,
+    names: &DeviceScope<'_, Sample>,
     found: &mut Found,
 ) -> Option<()> {
     let shaped = shaped_of(alloc, module, names)?;
@@ -160,7 +160,7 @@ fn put_width(
 fn put_met(
     alloc: Global,
     module: &Module,
-    names: &DeviceScope<'_, Small>,
+    names: &DeviceScope<'_, Sample>,
     width: usize,
     found: &mut Found,
 ) -> Option<()> {
@@ -180,7 +180,7 @@ fn put_met(
 /// The first refusal of the constants of a row.
 fn put_constants(alloc: Global, names: &Found, text: &str, found: &mut Found) -> Option<()> {
     let module = module_of(alloc, names, "", text, "")?;
-    let source = source_of::<Small>(alloc, &small_device(), module)?;
+    let source = source_of::<Sample>(alloc, &load::<Sample, Sample>(&Sample), module)?;
     let scope = Scope::new(alloc, &source.names).ok()?;
     put_fault(scope.check_constants().err(), found);
     Some(())
@@ -191,7 +191,7 @@ fn put_asked(
     alloc: Global,
     question: &str,
     module: &Module,
-    names: &DeviceScope<'_, Small>,
+    names: &DeviceScope<'_, Sample>,
     found: &mut Found,
 ) -> Option<()> {
     if let Some(width) = question.strip_prefix("ids in positions, ") {
@@ -218,9 +218,9 @@ pub(crate) fn ask(
     if question == "constants" {
         return put_constants(alloc, names, text, found);
     }
-    let device = small_device();
+    let device = load::<Sample, Sample>(&Sample);
     let module = module_of(alloc, names, FRONT, text, ";")?;
-    let source = source_of::<Small>(alloc, &device, module)?;
+    let source = source_of::<Sample>(alloc, &device, module)?;
     let known = Scope::new(alloc, &source.names).ok()?;
     let names = DeviceScope::new(alloc, &device, known).ok()?;
     put_asked(alloc, question, &source.module, &names, found)

@@ -5,7 +5,6 @@ mod asking;
 mod bases;
 mod expressions;
 mod places;
-mod small;
 mod sources;
 mod statements;
 mod tables;

@@ -4,11 +4,11 @@ ghost use Rattle.abel_tree.specs.Entries.{entries_of};
 ghost use Rattle.set_expr.specs.Scopes.{AreInOrder, ArePlaced};
 
 use crate::places::{put_blank, put_fault, put_place};
-use crate::small::{Small, small_device};
 use crate::sources::{Source, module_of, source_of};
 use abel_tree::{Module, Section, Stmt};
 use bit_expr::ExprId;
 use equations::walk_statements;
+use pld_device::{Sample, load};
 use section_targets::{SectionScope, Walked};
 use set_expr::{Contribution, Guard, Scope};
 use std::alloc::Global;
@@ -62,11 +62,11 @@ fn walked_of(alloc: Global, source: &Source) -> Option<Walked>
     requires placed { ArePlaced source.now.names }
 {
     let known = Scope::new(alloc, &source.names).ok()?;
-    let device = small_device();
+    let device = load::<Sample, Sample>(&Sample);
     let scope = SectionScope::new(alloc, &device, known).ok()?;
     let stmts = statements_of(&source.module)?;
     let mut walked = Walked::new(alloc);
-    walk_statements::<Small>(alloc, &scope, ALWAYS, stmts, &mut walked).ok()?;
+    walk_statements::<Sample>(alloc, &scope, ALWAYS, stmts, &mut walked).ok()?;
     Some(walked)
 }
 
@@ -79,7 +79,7 @@ pub(crate) fn ask(
     found: &mut Found,
 ) -> Option<()> {
     let module = module_of(alloc, names, "equations", text, "")?;
-    let source = source_of::<Small>(alloc, &small_device(), module)?;
+    let source = source_of::<Sample>(alloc, &load::<Sample, Sample>(&Sample), module)?;
     let walked = walked_of(alloc, &source)?;
     match question {
         "refusals" => {

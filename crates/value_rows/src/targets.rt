@@ -4,10 +4,10 @@ ghost use Rattle.std.specs.Prelude.{◌≡◌, ◌<◌, true, length};
 ghost use Rattle.abel_tree.specs.Entries.{entries_of};
 
 use crate::places::{put_blank, put_fault, put_place};
-use crate::small::{Small, small_device};
 use crate::sources::{ROW, Source, module_of, source_of};
 use bit_expr::{Exprs, Leaf, Node};
 use pld_base::Place;
+use pld_device::{Sample, load};
 use section_targets::{Aim, Assigned, Giver, Giving, Way, add_node, check_aims, give};
 use set_expr::{Contribution, Gives, Guard, Scope};
 use std::alloc::Global;
@@ -112,8 +112,8 @@ fn put_data(
         complement,
         clocked,
     };
-    let device = small_device();
-    match check_aims::<Small>(&device, scope, way, &aims, before) {
+    let device = load::<Sample, Sample>(&Sample);
+    match check_aims::<Sample>(&device, scope, way, &aims, before) {
         Ok(fault) => put_fault(fault, found),
         Err(_) => return None,
     }
@@ -137,7 +137,11 @@ fn put_refused(
 /// Puts what results from a case.
 pub(crate) fn ask(alloc: Global, names: &Found, text: &str, found: &mut Found) -> Option<()> {
     let module = module_of(alloc, names, "", "", "")?;
-    let Source { module: _, names } = source_of::<Small>(alloc, &small_device(), module)?;
+    let Source { module: _, names } = source_of::<Sample>(
+        alloc,
+        &load::<Sample, Sample>(&Sample),
+        module,
+    )?;
     let scope = Scope::new(alloc, &names).ok()?;
     match text {
         "an and with the guard" => put_given(alloc, &scope, found),

@@ -1,11 +1,11 @@
 //! Test vectors: their characters, and their refusals; headers and entries by themselves.
 
 use crate::places::{put_blank, put_fault};
-use crate::small::{Small, small_device};
 use crate::sources::{ROW, module_of, source_of};
 use abel_tree::{Expr, Module, Section, Vectors};
 use abel_vectors::{read_side, vectors};
 use pld_base::Place;
+use pld_device::{Sample, load};
 use set_expr::{Scope, SectionFault};
 use std::alloc::Global;
 use test_rows::Found;
@@ -31,8 +31,8 @@ fn put_chars(
     if before > 9999 {
         return None;
     }
-    let device = small_device();
-    match vectors::<Small>(alloc, &device, scope, section, before) {
+    let device = load::<Sample, Sample>(&Sample);
+    match vectors::<Sample>(alloc, &device, scope, section, before) {
         Ok(list) => {
             for vector in list.as_slice() {
                 put_blank(found);
@@ -154,7 +154,7 @@ pub(crate) fn ask(
 ) -> Option<()> {
     let (front, back) = around(question);
     let module = module_of(alloc, names, front, text, back)?;
-    let source = source_of::<Small>(alloc, &small_device(), module)?;
+    let source = source_of::<Sample>(alloc, &load::<Sample, Sample>(&Sample), module)?;
     let scope = Scope::new(alloc, &source.names).ok()?;
     put_asked(alloc, question, &source.module, &scope, found)
 }
