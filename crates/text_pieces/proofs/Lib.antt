@@ -2,9 +2,9 @@ pub mod Alike
 pub mod ArgumentSteps
 pub mod BlockSteps
 pub mod Common
-pub mod Marked
 pub mod OpenPlaces
 pub mod Pieces
 pub mod Stacked
+pub mod Stopped
 pub mod Tables
 pub mod Told

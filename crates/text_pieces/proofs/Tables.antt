@@ -1,6 +1,6 @@
 -- What a table says of its places, when one is asked and when one is set.
-use Rattle.std.proofs.Common.{◌≡◌, ℕ, zero, suc, ◌+◌, List, [], ◌∷◌, get_or, set, replicate, ◌-◌, take, drop, refl, sym, ap, ◌∙◌, arith, ◌==◌}
-use Rattle.text_pieces.proofs.Common.{count_by, NoMark, Tells}
+use Rattle.std.proofs.Common.{◌≡◌, ℕ, Bool, zero, suc, ◌+◌, List, [], ◌∷◌, get_or, set, replicate, ◌-◌, take, drop, refl, sym, ap, ◌∙◌, arith}
+use Rattle.text_pieces.proofs.Common.{count_by, FreeOf, Tells}
 
 -- a fact of a number is one of an equal number
 moved : (fact : ℕ → Type 0) (a b : ℕ) → a ≡ b → fact a → fact b
@@ -21,10 +21,10 @@ asked fact es table k e t s r n =
     let q : e ≡ get_or es k 0 = r ∙ ap (λ (w : List ℕ). get_or w k 0) s in
     moved (fact k) (get_or es k 0) e (sym q) (tells_first fact es k t (λ z. n (q ∙ z)))
 
--- the same of marks, where 0 says something too
-pub asked_mark : (text es table : List ℕ) (k e : ℕ) → Tells (NoMark text) 0 es → table ≡ es → e ≡ get_or table k 0 → NoMark text k e
-asked_mark text es table k zero t s r = let z : 0 - k ≡ 0 = omega arith in (ap (λ (n : ℕ). count_by (λ b. b == 63) (take n (drop k text))) z, omega arith)
-asked_mark text es table k (suc e) t s r = asked (NoMark text) es table k (suc e) t s r (λ z. omega (arith, z))
+-- the same of stops, where 0 says something too
+pub asked_stop : (is : ℕ → Bool) (text es table : List ℕ) (k e : ℕ) → Tells (FreeOf is text) 0 es → table ≡ es → e ≡ get_or table k 0 → FreeOf is text k e
+asked_stop is text es table k zero t s r = let z : 0 - k ≡ 0 = omega arith in (ap (λ (n : ℕ). count_by is (take n (drop k text))) z, omega arith)
+asked_stop is text es table k (suc e) t s r = asked (FreeOf is text) es table k (suc e) t s r (λ z. omega (arith, z))
 
 tells_set_at : (fact : ℕ → ℕ → Type 0) (from : ℕ) (es : List ℕ) (k v : ℕ) → Tells fact from es → fact (from + k) v → Tells fact from (set es k v)
 tells_set_at fact from [] zero v t h = t

@@ -1,9 +1,9 @@
 -- What is known of a text is known of a piece of it, and of each text that a piece begins.
-use Rattle.std.proofs.Common.{◌≡◌, ℕ, suc, ◌+◌, ◌-◌, ◌<◌, ◌≤◌, List, ◌++◌, Option, None, Some, length, take, drop, sym, ap, ◌∙◌, arith, length-drop, length-take, ◌==◌, IfSome}
-use Rattle.text_pieces.proofs.Common.{count_by, drop-drop, drop-take, take-take, take-append-le, closing, argument_end, ClosesAt, EndsAt, NoMark}
+use Rattle.std.proofs.Common.{◌≡◌, ℕ, Bool, suc, ◌+◌, ◌-◌, ◌<◌, ◌≤◌, List, ◌++◌, Option, None, Some, length, take, drop, sym, ap, ◌∙◌, arith, length-drop, length-take, IfSome}
+use Rattle.text_pieces.proofs.Common.{count_by, drop-drop, drop-take, take-take, take-append-le, closing, argument_end, ClosesAt, EndsAt, FreeOf}
 use Rattle.text_pieces.specs.declared.mode.Mode.TheVariants as mode
 use Rattle.text_pieces.proofs.Alike.{closing_alike, end_alike}
-use Rattle.text_pieces.proofs.Marked.{fewer}
+use Rattle.text_pieces.proofs.Stopped.{fewer}
 
 pub length_is : (text piece : List ℕ) (from to : ℕ) → take (to - from) (drop from text) ≡ piece → to ≤ length text → length piece ≡ to - from
 length_is text piece from to is inside = omega (arith, ap length is, length-take (to - from) (drop from text), length-drop from text, inside)
@@ -47,12 +47,12 @@ module _ (text piece : List ℕ) (from to at : ℕ) (is : piece ≡ take (to - f
       let near : n < to - (from + at) = omega (arith, more, less) in
       end_alike n 0 0 mode.Plain (drop (from + at) text) (drop at piece) e short (begins n near)
 
-  pub unmarked_within : (end n : ℕ) → NoMark text (from + at) end → n ≤ end - (from + at) → n ≤ to - (from + at) → NoMark (drop at piece) 0 n
-  unmarked_within end n c few near =
-      let none = fewer (drop (from + at) text) n (end - (from + at)) few c.0 in
+  pub free_within : (is : ℕ → Bool) (end n : ℕ) → FreeOf is text (from + at) end → n ≤ end - (from + at) → n ≤ to - (from + at) → FreeOf is (drop at piece) 0 n
+  free_within is end n c few near =
+      let none = fewer is (drop (from + at) text) n (end - (from + at)) few c.0 in
       let same : take n (drop at piece) ≡ take n (drop (from + at) text) = ap (take n) rest_is ∙ take-take n (to - (from + at)) (drop (from + at) text) near in
       let z : n - 0 ≡ n = omega arith in
-      (ap (λ (k : ℕ). count_by (λ b. b == 63) (take k (drop at piece))) z ∙ ap (count_by (λ b. b == 63)) same ∙ none, omega (arith, rest_length, near))
+      (ap (λ (k : ℕ). count_by is (take k (drop at piece))) z ∙ ap (count_by is) same ∙ none, omega (arith, rest_length, near))
 
 -- a text that begins with these bytes
 module _ (front more : List ℕ) (n : ℕ) where

@@ -1,6 +1,6 @@
 -- What is known of a text's places: the end of the block that begins there, the end of the
--- argument, and up to which place there is no question mark.
-use Rattle.std.specs.Prelude.{ℕ, ◌+◌, ◌-◌, ◌==◌, ◌≡◌, ◌≤◌, List, [], ◌∷◌, length, take, drop, Some}
+-- argument, and up to which place there is no byte of some kind.
+use Rattle.std.specs.Prelude.{ℕ, Bool, ◌+◌, ◌-◌, ◌≡◌, ◌≤◌, List, [], ◌∷◌, length, take, drop, Some}
 use Rattle.std.specs.List.{count_by}
 use Rattle.text_pieces.specs.Brackets.{closing, argument_end}
 use Rattle.text_pieces.specs.declared.mode.Mode.TheVariants as mode
@@ -13,9 +13,9 @@ ClosesAt text from end = closing 0 mode.Plain (drop from text) ≡ Some (drop en
 abbrev pub EndsAt : List ℕ → ℕ → ℕ → Type 0
 EndsAt text from end = argument_end 0 0 mode.Plain (drop from text) ≡ Some (drop end text)
 
--- no question mark is between two places
-abbrev pub NoMark : List ℕ → ℕ → ℕ → Type 0
-NoMark text from end = (count_by (λ b. b == 63) (take (end - from) (drop from text)) ≡ 0) × (end ≤ length text)
+-- no such byte is between two places
+abbrev pub FreeOf : (ℕ → Bool) → List ℕ → ℕ → ℕ → Type 0
+FreeOf is text from end = (count_by is (take (end - from) (drop from text)) ≡ 0) × (end ≤ length text)
 
 -- what a table says of its places from one on; 0 says nothing
 abbrev pub Tells : (ℕ → ℕ → Type 0) → ℕ → List ℕ → Type 0

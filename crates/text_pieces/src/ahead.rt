@@ -1,6 +1,6 @@
 //! A look ahead at a text in pieces, byte by byte.
 
-ghost use Rattle.std.specs.Prelude.{◌≡◌, ◌==◌, ℕ, ◌+◌, ◌<◌, ◌≤◌, ◌^◌, List, [], ◌∷◌, ◌++◌, length, take, drop, IfOk, IfSome, IfNone, Some};
+ghost use Rattle.std.specs.Prelude.{◌≡◌, ◌==◌, ◌||◌, ℕ, ◌+◌, ◌<◌, ◌≤◌, ◌^◌, List, [], ◌∷◌, ◌++◌, length, take, drop, IfOk, IfSome, IfNone, Some};
 ghost use Rattle.std.specs.List.{count_by};
 ghost use Rattle.text_pieces.specs.Brackets.{closing, argument_end};
 ghost use Rattle.text_pieces.specs.Stacks.{ahead, joined, rest_of, stacked};
@@ -8,6 +8,7 @@ ghost use Rattle.text_pieces.specs.declared.mode.Mode.TheVariants as mode;
 
 use crate::piece::Piece;
 use crate::place::Place;
+use crate::stop::Stop;
 use std::alloc::{AllocError, Global};
 use std::marker::Model;
 
@@ -181,6 +182,14 @@ impl<'r, 'a> Ahead<'r, 'a> {
         ensures none { count_by (λ b. b == 63) (take result (ahead self.now)) ≡ 0 }
         ensures within { result ≤ length (ahead self.now) }
     {
-        self.place.unmarked_len()
+        self.place.free_len(Stop::Question)
+    }
+
+    /// So many of the next bytes neither end an argument nor nest anything in it.
+    pub fn unbracketed_len(&self) -> usize
+        ensures none { count_by (λ b. b == 39 || b == 40 || b == 41 || b == 44 || b == 91 || b == 93) (take result (ahead self.now)) ≡ 0 }
+        ensures within { result ≤ length (ahead self.now) }
+    {
+        self.place.free_len(Stop::Argument)
     }
 }

@@ -2,9 +2,12 @@
 
 ghost use Rattle.std.specs.Prelude.{◌≡◌, IfOk, IfSome};
 ghost use Rattle.text_pieces.specs.Homes.{home_bytes};
-ghost use Rattle.text_pieces.specs.Known.{ClosesAt, EndsAt, NoMark};
+ghost use Rattle.text_pieces.specs.Known.{ClosesAt, EndsAt, FreeOf};
+ghost use Rattle.text_pieces.specs.Stops.{is_stop};
 
+use crate::stop::Stop;
 use crate::text::Text;
+use crate::watch::Watch;
 use std::alloc::AllocError;
 use std::rc::Rc;
 
@@ -37,6 +40,14 @@ impl<'a> Home<'a> {
         }
     }
 
+    /// A watch over a text that is kept.
+    pub fn watch(&self) -> Result<Option<Watch>, AllocError> {
+        match self {
+            Home::Lent(_bytes, _offset) => Ok(None),
+            Home::Kept(text) => Ok(Some(Watch::new(Rc::downgrade(text)?))),
+        }
+    }
+
     /// The place of a byte in the source.
     pub fn offset(&self, place: usize) -> usize {
         match self {
@@ -65,13 +76,13 @@ impl<'a> Home<'a> {
         }
     }
 
-    /// A place up to which no question mark is from this one on.
-    pub fn mark(&self, place: usize) -> usize
-        ensures { NoMark (home_bytes self.now) place result }
+    /// A place up to which no stop is from this one on.
+    pub fn stop(&self, stop: Stop, place: usize) -> usize
+        ensures { FreeOf (is_stop stop) (home_bytes self.now) place result }
     {
         match self {
             Home::Lent(_bytes, _offset) => 0,
-            Home::Kept(text) => text.mark(place),
+            Home::Kept(text) => text.stop(stop, place),
         }
     }
 }

@@ -6,14 +6,17 @@ mod arguments;
 mod blocks;
 mod ends;
 mod home;
-mod marks;
 mod mode;
 mod piece;
 mod place;
 mod rest;
+mod stop;
+mod stops;
 mod text;
+mod watch;
 
 pub use ahead::Ahead;
 pub use mode::Mode;
 pub use piece::Piece;
 pub use rest::Rest;
+pub use watch::Watch;

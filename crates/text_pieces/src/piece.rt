@@ -2,11 +2,14 @@
 
 ghost use Rattle.std.specs.Prelude.{◌≡◌, ◌+◌, ◌-◌, ◌<◌, ◌≤◌, ◌^◌, ◌++◌, [], ◌∷◌, length, take, drop, IfNone, IfOk, OnOk, IfSome};
 ghost use Rattle.text_pieces.specs.Homes.{home_bytes};
-ghost use Rattle.text_pieces.specs.Known.{ClosesAt, EndsAt, NoMark};
+ghost use Rattle.text_pieces.specs.Known.{ClosesAt, EndsAt, FreeOf};
 ghost use Rattle.text_pieces.specs.Stacks.{joined};
+ghost use Rattle.text_pieces.specs.Stops.{is_stop};
 
 use crate::home::Home;
+use crate::stop::Stop;
 use crate::text::{NOWHERE, Text};
+use crate::watch::Watch;
 use std::alloc::{AllocError, Global};
 use std::marker::Model;
 use std::rc::Rc;
@@ -88,6 +91,11 @@ impl<'a> Piece<'a> {
             place += 1;
         }
         Ok(())
+    }
+
+    /// A watch over the text that it is of, if that is kept.
+    pub fn watch(&self) -> Result<Option<Watch>, AllocError> {
+        self.home.watch()
     }
 
     pub fn len(&self) -> usize
@@ -172,13 +180,13 @@ impl<'a> Piece<'a> {
         Some(end - place)
     }
 
-    /// So many bytes from one of them on are no question marks.
-    pub fn unmarked_len(&self, at: usize) -> usize
+    /// So many bytes from one of them on are no stops.
+    pub fn free_len(&self, stop: Stop, at: usize) -> usize
         requires { at ≤ length self.now }
-        ensures { NoMark (drop at self.now) 0 result }
+        ensures { FreeOf (is_stop stop) (drop at self.now) 0 result }
     {
         let place = self.from + at;
-        let end = self.home.mark(place).min(self.to);
+        let end = self.home.stop(stop, place).min(self.to);
         end.saturating_sub(place)
     }
 }

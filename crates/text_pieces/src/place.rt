@@ -1,11 +1,13 @@
 //! A place in a text in pieces.
 
 ghost use Rattle.std.specs.Prelude.{◌≡◌, ◌<◌, ◌≤◌, ◌^◌, ◌++◌, length, take, drop, IfOk, IfSome, true, false};
-ghost use Rattle.text_pieces.specs.Known.{ClosesAt, EndsAt, NoMark};
+ghost use Rattle.text_pieces.specs.Known.{ClosesAt, EndsAt, FreeOf};
 ghost use Rattle.text_pieces.specs.Places.{at_of, text_at, IsPlace, IsSettled};
 ghost use Rattle.text_pieces.specs.Stacks.{joined, stacked};
+ghost use Rattle.text_pieces.specs.Stops.{is_stop};
 
 use crate::piece::Piece;
+use crate::stop::Stop;
 use std::alloc::{AllocError, Global};
 
 /// A place in a piece. `front` is what is left of it, and after that are the pieces below, the last one first.
@@ -130,11 +132,11 @@ impl<'r, 'a> Place<'r, 'a> {
         self.here.argument_len(self.at())
     }
 
-    /// So many bytes from here on are no question marks.
-    pub fn unmarked_len(self) -> usize
+    /// So many bytes from here on are no stops.
+    pub fn free_len(self, stop: Stop) -> usize
         requires { IsPlace self }
-        ensures { NoMark self.entry.front.now 0 result }
+        ensures { FreeOf (is_stop stop) self.entry.front.now 0 result }
     {
-        self.here.unmarked_len(self.at())
+        self.here.free_len(stop, self.at())
     }
 }

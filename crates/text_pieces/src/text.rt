@@ -1,11 +1,13 @@
 //! A text that is kept, with what was found of it once.
 
 ghost use Rattle.std.specs.Prelude.{◌≡◌, ◌<◌, ◌^◌, length, IfOk, IfSome, slice_index};
-ghost use Rattle.text_pieces.specs.Known.{ClosesAt, EndsAt, NoMark};
+ghost use Rattle.text_pieces.specs.Known.{ClosesAt, EndsAt, FreeOf};
+ghost use Rattle.text_pieces.specs.Stops.{is_stop};
 
 use crate::arguments::argument_ends;
 use crate::blocks::block_ends;
-use crate::marks::marks;
+use crate::stop::Stop;
+use crate::stops::stops;
 use std::alloc::{AllocError, Global};
 use std::marker::Model;
 
@@ -13,25 +15,28 @@ use std::marker::Model;
 pub const NOWHERE: u32 = u32::MAX;
 
 /// Bytes, their places in the source, and for each place in them: the brace that closes the block that begins there, the
-/// comma or parenthesis that ends the argument, and the next question mark. 0 if the first two aren't known.
+/// comma or parenthesis that ends the argument, and the next stop of either kind. 0 if the first two aren't known.
 #[derive(Drop)]
 pub struct Text {
     bytes: Vec<u8>,
     offsets: Vec<u32>,
     block_ends: Vec<u32>,
     argument_ends: Vec<u32>,
-    marks: Vec<u32>,
+    questions: Vec<u32>,
+    brackets: Vec<u32>,
 }
 
 impl Model for Text {
     ghost use Rattle.std.specs.Prelude.{◌<◌, ◌^◌, List, ℕ, length};
-    ghost use Rattle.text_pieces.specs.Known.{ClosesAt, EndsAt, NoMark, Tells};
+    ghost use Rattle.text_pieces.specs.Known.{ClosesAt, EndsAt, FreeOf, Tells};
+    ghost use Rattle.text_pieces.specs.Stops.{is_stop};
+    ghost use Rattle.text_pieces.specs.declared.stop.Stop.TheVariants as stop;
 
     ghost Value = { List ℕ };
 
     ghost view = { λ t. t.bytes.items };
 
-    ghost invariant = { λ t. (Tells (ClosesAt t.bytes.items) 0 t.block_ends.items) × (Tells (EndsAt t.bytes.items) 0 t.argument_ends.items) × (Tells (NoMark t.bytes.items) 0 t.marks.items) };
+    ghost invariant = { λ t. (Tells (ClosesAt t.bytes.items) 0 t.block_ends.items) × (Tells (EndsAt t.bytes.items) 0 t.argument_ends.items) × (Tells (FreeOf (is_stop stop.Question) t.bytes.items) 0 t.questions.items) × (Tells (FreeOf (is_stop stop.Argument) t.bytes.items) 0 t.brackets.items) };
 }
 
 /// What a table has at a place; 0 after its end.
@@ -52,13 +57,15 @@ impl Text {
     {
         let block_ends = block_ends(alloc, &bytes)?;
         let argument_ends = argument_ends(alloc, &bytes)?;
-        let marks = marks(alloc, &bytes)?;
+        let questions = stops(alloc, &bytes, Stop::Question)?;
+        let brackets = stops(alloc, &bytes, Stop::Argument)?;
         Ok(Text {
             bytes,
             offsets,
             block_ends,
             argument_ends,
-            marks,
+            questions,
+            brackets,
         })
     }
 
@@ -92,10 +99,13 @@ impl Text {
         if end == 0 { None } else { Some(end) }
     }
 
-    /// A place up to which no question mark is from this one on.
-    pub fn mark(&self, place: usize) -> usize
-        ensures { NoMark self.now place result }
+    /// A place up to which no stop is from this one on.
+    pub fn stop(&self, stop: Stop, place: usize) -> usize
+        ensures { FreeOf (is_stop stop) self.now place result }
     {
-        entry(&self.marks, place)
+        match stop {
+            Stop::Question => entry(&self.questions, place),
+            Stop::Argument => entry(&self.brackets, place),
+        }
     }
 }
