@@ -104,6 +104,54 @@ argument_over (b ∷ w) v i j brackets q o s h e =
     let ss = absent 93 b w s in
     argument_over w v (nested 40 41 i b) j brackets qs.behind os.behind ss.behind r.stay (r.sum j e) ∙ sym (argument_step b i brackets (w ++ v) r.some qs.first os.first ss.first)
 
+-- ---- bytes that neither end nor nest anything
+
+-- whether a byte may end an argument, or nest something in it
+abbrev bracket_at : ℕ → Bool
+bracket_at b = b == 39 || b == 40 || b == 41 || b == 44 || b == 91 || b == 93
+
+all_false : (a b c d e f : Bool) → (a || b || c || d || e || f) ≡ false → (a ≡ false) × (b ≡ false) × (c ≡ false) × (d ≡ false) × (e ≡ false) × (f ≡ false)
+all_false true b c d e f h = absurd cc
+all_false false true c d e f h = absurd cc
+all_false false false true d e f h = absurd cc
+all_false false false false true e f h = absurd cc
+all_false false false false false true f h = absurd cc
+all_false false false false false false f h = (refl, refl, refl, refl, refl, h)
+
+-- the first byte isn't one if none is, and none is after it
+free_first : (b : ℕ) (w : List ℕ) → count_by bracket_at (b ∷ w) ≡ 0 → (bracket_at b ≡ false) × (count_by bracket_at w ≡ 0)
+free_first b w e =
+    let cons = sum_by-cons (λ c. if bracket_at c then 1 else 0) b w in
+    elim (bool_cases (bracket_at b)) [
+      | inl t ↦ absurd (omega (arith, e, cons ∙ ap (λ (x : Bool). (if x then 1 else 0) + count_by bracket_at w) t))
+      | inr f ↦ (f, omega (arith, e, cons ∙ ap (λ (x : Bool). (if x then 1 else 0) + count_by bracket_at w) f))
+    ]
+
+free_step : (b i j : ℕ) (rest : List ℕ) → bracket_at b ≡ false → argument_end i j mode.Plain (b ∷ rest) ≡ argument_end i j mode.Plain rest
+free_step b i j rest h =
+    let f = all_false (b == 39) (b == 40) (b == 41) (b == 44) (b == 91) (b == 93) h in
+    let c : ends_argument i j mode.Plain b ≡ false = ap (λ (t : Bool). i == 0 && (t || b == 44 && j == 0)) f.2 ∙ ap (λ (t : Bool). i == 0 && (t && j == 0)) f.3 ∙ and_false (i == 0) in
+    let parens : nested 40 41 i b ≡ i = ap (λ (t : Bool). if t then i + 1 else if b == 41 then i - 1 else i) f.1 ∙ ap (λ (t : Bool). if t then i - 1 else i) f.2 in
+    let brackets : nested 91 93 j b ≡ j = ap (λ (t : Bool). if t then j + 1 else if b == 93 then j - 1 else j) f.4 ∙ ap (λ (t : Bool). if t then j - 1 else j) f.5 in
+    let plain : quoting mode.Plain b ≡ mode.Plain = ap (λ (t : Bool). if t then mode.Quoted else mode.Plain) f.0 in
+    ap (λ (t : Bool). if t then Some (b ∷ rest) else argument_end (nested 40 41 i b) (nested 91 93 j b) (quoting mode.Plain b) rest) c
+    ∙ ap (λ (k : ℕ). argument_end k (nested 91 93 j b) (quoting mode.Plain b) rest) parens ∙ ap (λ (k : ℕ). argument_end i k (quoting mode.Plain b) rest) brackets
+    ∙ ap (λ (m : Mode). argument_end i j m rest) plain
+
+free_over : (w v : List ℕ) (i j : ℕ) → count_by bracket_at w ≡ 0 → argument_end i j mode.Plain v ≡ argument_end i j mode.Plain (w ++ v)
+free_over [] v i j e = refl
+free_over (b ∷ w) v i j e =
+    let f = free_first b w e in
+    free_over w v i j f.1 ∙ sym (free_step b i j (w ++ v) f.0)
+
+pub unbracketed_on : (m : Mode) (i j n : ℕ) (old new : List ℕ) → true ≡ is_plain m → count_by (λ b. b == 39 || b == 40 || b == 41 || b == 44 || b == 91 || b == 93) (take n old) ≡ 0
+    → new ≡ drop n old → argument_end i j m new ≡ argument_end i j m old
+unbracketed_on mode.Plain i j n old new p e d = ap (argument_end i j mode.Plain) d ∙ free_over (take n old) (drop n old) i j e ∙ ap (argument_end i j mode.Plain) (take-append-drop n old)
+unbracketed_on mode.Quoted i j n old new p e d = absurd cc
+unbracketed_on mode.Escaped i j n old new p e d = absurd cc
+unbracketed_on mode.Note i j n old new p e d = absurd cc
+unbracketed_on mode.Line i j n old new p e d = absurd cc
+
 -- ---- stretches ahead
 
 pub take_within : (n m : ℕ) (w : List ℕ) → n ≤ m → take n (take m w) ≡ take n w

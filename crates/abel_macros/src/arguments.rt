@@ -8,7 +8,7 @@ ghost use Rattle.text_pieces.specs.declared.mode.Mode.TheVariants as mode;
 
 use crate::blocks::open_in;
 use crate::gaps::{is_next, skip_any, skip_byte, skip_gap};
-use crate::stretches::{STRETCH, skip_enclosed};
+use crate::stretches::{STRETCH, skip_enclosed, skip_unbracketed};
 use crate::trimming::trimmed;
 use std::alloc::{AllocError, Global};
 use text_pieces::{Ahead, Mode, Piece};
@@ -20,8 +20,8 @@ fn ends_argument(parens: usize, brackets: usize, mode: Mode, byte: u8) -> bool
     mode.is_plain() && parens == 0 && (byte == b')' || byte == b',' && brackets == 0)
 }
 
-/// Passes an argument up to the comma or parenthesis that ends it, if there is one, byte by byte. So many bytes are passed
-/// singly before stretches are tried again.
+/// Passes an argument up to the comma or parenthesis that ends it, if there is one: byte by byte, but for those of which it is
+/// known that they neither end nor nest anything. So many are passed singly before stretches are tried again.
 fn skip_argument(at: &mut Ahead) -> bool
     ensures yes { result ≡ true → spec.argument_end 0 0 mode.Plain (ahead at.old) ≡ Some (ahead at.new) }
     ensures no { result ≡ false → spec.argument_end 0 0 mode.Plain (ahead at.old) ≡ None }
@@ -41,6 +41,7 @@ fn skip_argument(at: &mut Ahead) -> bool
         parens = open_in(mode, b'(', b')', parens, byte);
         brackets = open_in(mode, b'[', b']', brackets, byte);
         mode = mode.quoting(byte);
+        skip_unbracketed(at, mode, parens, brackets);
         if singly > 0 {
             singly -= 1;
         } else {

@@ -10,6 +10,7 @@ mod gaps;
 mod lengths;
 mod operator;
 mod readings;
+mod room;
 mod stretches;
 mod tables;
 mod tellings;

@@ -118,6 +118,20 @@ pub fn skip_enclosed(at: &mut Ahead, mode: Mode, parens: usize, brackets: usize)
     open
 }
 
+/// Passes bytes of the plain text of which it is known that they neither end an argument nor nest anything in it. So many
+/// parentheses and brackets are open before them, and after them.
+#[tactic(auto, using(crate::proofs::Passed::unbracketed_on))]
+pub fn skip_unbracketed(at: &mut Ahead, mode: Mode, _parens: usize, _brackets: usize)
+    ensures value { spec.argument_end _parens _brackets mode (ahead at.new) ≡ spec.argument_end _parens _brackets mode (ahead at.old) }
+    ensures fewer { length (ahead at.new) ≤ length (ahead at.old) }
+    ensures whole { at.new.whole ≡ at.old.whole }
+    ensures further { at.old.passed ≤ at.new.passed }
+{
+    if mode.is_plain() {
+        at.skip(at.unbracketed_len());
+    }
+}
+
 /// Passes stretches in which a byte isn't; how many bytes these are.
 #[tactic(auto, using(crate::proofs::Passed::none_more))]
 pub fn skip_without(at: &mut Ahead, byte: u8) -> usize

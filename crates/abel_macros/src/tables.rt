@@ -8,6 +8,7 @@ ghost use Rattle.abel_macros.specs.Kept.{tables_of, IsResult};
 ghost use Rattle.abel_macros.specs.Rules as spec;
 
 use crate::call::{Call, KeptCall};
+use crate::room::{ROOM, Room};
 use crate::wholes::{length_within, whole};
 use indexmap::IndexMap;
 use pld_base::OutOfMemory;
@@ -35,19 +36,15 @@ impl<'a> Model for Macro<'a> {
     ghost invariant = { λ m. length (joined m.block.items) < 2 ^ 63 };
 }
 
-/// How many bytes of texts in pieces are made one piece in all. Each takes 17 bytes of memory, and stays as long as any part of
-/// the piece does.
-const ROOM: usize = 1 << 21;
-
-/// The macros, the values of names and the radix in force; the call that was kept last, which is one of these macros; and how
-/// many bytes more may be kept.
+/// The macros, the values of names and the radix in force; the call that was kept last, which is one of these macros; and the
+/// room for texts that are kept.
 #[derive(Drop)]
 pub struct Tables<'a> {
     macros: IndexMap<Vec<u8>, Macro<'a>>,
     values: IndexMap<Vec<u8>, u32>,
     radix: u32,
     last: Option<KeptCall<'a>>,
-    room: usize,
+    room: Room,
 }
 
 impl<'a> Model for Tables<'a> {
@@ -60,7 +57,7 @@ impl<'a> Model for Tables<'a> {
 
     ghost view = { λ t. record { macros = by_bytes t.macros.entries; values = by_bytes t.values.entries; radix = t.radix } };
 
-    ghost invariant = { λ t. (2 ≤ t.radix) × (t.radix ≤ 16) × IfSome t.last (λ c. IsResult (under (by_bytes t.macros.entries)) c.name.items (names c.arguments.items) (joined c.text.items)) × (t.room ≤ 2097152) };
+    ghost invariant = { λ t. (2 ≤ t.radix) × (t.radix ≤ 16) × IfSome t.last (λ c. IsResult (under (by_bytes t.macros.entries)) c.name.items (names c.arguments.items) (joined c.text.items)) };
 }
 
 impl<'a> Macro<'a> {
@@ -103,7 +100,7 @@ impl<'a> Tables<'a> {
             values: IndexMap::new(alloc),
             radix: 10,
             last: None,
-            room: ROOM,
+            room: Room::new(alloc),
         }
     }
 
@@ -150,6 +147,13 @@ impl<'a> Tables<'a> {
         self.macro_of(name).is_some() || self.value(name).is_some()
     }
 
+    /// The longest text of so many pieces that it is worth to make one piece.
+    pub fn worth(&mut self, pieces: usize) -> usize
+        ensures { self.new ≡ self.old }
+    {
+        self.room.worth(pieces)
+    }
+
     /// One piece of a text in pieces, if it has at most so many bytes and there is room to keep them.
     pub fn whole(
         &mut self,
@@ -160,11 +164,15 @@ impl<'a> Tables<'a> {
         ensures text { IfOk result (λ o. IfSome o (λ w. joined w.items ≡ joined pieces.now)) }
         ensures same { self.new ≡ self.old }
     {
-        let Some(count) = length_within(pieces, most.min(self.room)) else {
+        let Some(count) = length_within(pieces, most.min(ROOM)) else {
             return Ok(None);
         };
-        self.room -= count;
-        Ok(Some(whole(alloc, pieces)?))
+        if !self.room.has(alloc, count)? {
+            return Ok(None);
+        }
+        let piece = Piece::kept(alloc, pieces)?;
+        self.room.hold(&piece, count)?;
+        Ok(Some(whole(alloc, piece)?))
     }
 
     /// A macro with its block in one piece, if there is room to keep that: then it is quick to find if a block within it

@@ -22,12 +22,11 @@ pub fn length_within(pieces: &[Piece], most: usize) -> Option<usize>
     Some(most - left)
 }
 
-/// One piece of all these bytes.
-pub fn whole<'a>(alloc: Global, pieces: &[Piece<'a>]) -> Result<Vec<Piece<'a>>, AllocError>
-    requires { length (joined pieces.now) < 2 ^ 32 }
-    ensures { IfOk result (λ w. joined w.items ≡ joined pieces.now) }
+/// A text of one piece.
+pub fn whole<'a>(alloc: Global, piece: Piece<'a>) -> Result<Vec<Piece<'a>>, AllocError>
+    ensures { IfOk result (λ w. joined w.items ≡ piece.entry) }
 {
     let mut one = Vec::new(alloc);
-    one.push(Piece::kept(alloc, pieces)?)?;
+    one.push(piece)?;
     Ok(one)
 }
