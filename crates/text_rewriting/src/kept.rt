@@ -9,11 +9,8 @@ use abel_macros::{Call, Tables};
 use std::alloc::{AllocError, Global};
 use text_pieces::Piece;
 
-/// A result of so many pieces is made one piece, if they have at most so many bytes each: that takes about as much time and
-/// memory as the pieces do.
+/// A result of so many pieces may be made one piece.
 const MANY: usize = 8;
-
-const SMALL: usize = 64;
 
 /// The fewest bytes of a result that is kept with its call. To replace again what makes fewer costs little.
 const LONG: usize = 1024;
@@ -50,7 +47,7 @@ fn keep_call<'a>(
 }
 
 impl<'a> Gathered<'a> {
-    /// Makes one piece of many small ones, if there is room to keep it, and says whether it did.
+    /// Makes one piece of many, if it is worth that and there is room to keep it, and says whether it did.
     fn settle(&mut self, alloc: Global, tables: &mut Tables<'a>) -> Result<bool, AllocError>
         ensures text { self.new ≡ self.old }
         ensures tables { tables.new ≡ tables.old }
@@ -59,7 +56,7 @@ impl<'a> Gathered<'a> {
         if count < MANY {
             return Ok(false);
         }
-        let most = count.saturating_mul(SMALL);
+        let most = tables.worth(count);
         let Some(whole) = tables.whole(alloc, self.pieces(), most)? else {
             return Ok(false);
         };
