@@ -9,6 +9,6 @@ pub use Rattle.pld_base.specs.declared.place.Place.{Place}
 pub use Rattle.text_rewriting.proofs.Replaces.{take_next}
 pub use Rattle.text_rewriting.specs.Fronts.{IsFront, changed}
 pub use Rattle.text_rewriting.specs.Marks.{DefinesNone, last}
-pub use Rattle.abel_expand.specs.Origins.{StandsThere, lesser, own_behind, own_left, to_come}
+pub use Rattle.abel_expand.specs.Origins.{StandsThere, call_at, called_by, goes_on, lesser, next_at, own_behind, own_left, to_come}
 pub use Rattle.abel_expand.specs.Runs.{HasEnded, IsRefusal, IsRefused, Reading, after, bytes_given, bytes_waiting, turned}
 pub use Rattle.abel_expand.specs.Stands.{IsOwnEnd, Stands, left_to_do}

@@ -1,6 +1,6 @@
 -- What is known of the source's own end, where bytes are taken from the rest and put before it.
 use Rattle.std.proofs.Common.{◌≡◌, ◌-◌, ◌+◌, ◌<◌, ◌≤◌, ℕ, List, ◌∷◌, ◌++◌, length, take, drop, refl, sym, ap, ◌∙◌, arith, add-one, length-drop, length-append}
-use Rattle.abel_expand.proofs.Common.{drop-append-add, append_assoc, drop-drop, take-append-drop, Place, Kept, Tables, Done, Rewritten, move, last, limit, after, Reading, lesser, own_behind, own_left, to_come, StandsThere, IsOwnEnd, Stands}
+use Rattle.abel_expand.proofs.Common.{call_at, called_by, goes_on, next_at, drop-append-add, append_assoc, drop-drop, take-append-drop, Place, Kept, Tables, Done, Rewritten, move, last, limit, after, Reading, lesser, own_behind, own_left, to_come, StandsThere, IsOwnEnd, Stands}
 use Rattle.abel_expand.specs.declared.standing.Origin.TheVariants as origin
 
 -- the last bytes stay where bytes are taken
@@ -63,6 +63,24 @@ module _ (text : List ℕ) (turns own : ℕ) (rest : List ℕ) (o : IsOwnEnd tex
             let i : n ≤ length behind = omega (arith, below) in
             last_before n result behind rest' e i ∙ last_behind n k rest behind b h i ∙ o.ends n (omega (arith, below)) (omega (arith, i, l));
       }
+
+-- the outermost call stays where a turn does bytes
+pub call_done : (text : List ℕ) (turns call : ℕ) (t : Tables) (w behind : List ℕ) → call_at turns text ≡ call → move (after turns text).tables (after turns text).rest ≡ Done t w behind
+    → call_at (turns + 1) text ≡ call
+call_done text turns call t w behind e m =
+    ap (λ (n : ℕ). call_at n text) (add-one turns) ∙ ap (called_by (length text) (own_left turns text) (length (after turns text).rest) (call_at turns text)) m ∙ e
+
+-- where the source goes on, by the parts of a reader of which nothing waits
+pub next_is : (text : List ℕ) (turns own call : ℕ) (rest : List ℕ) → own_left turns text ≡ own → call_at turns text ≡ call → (after turns text).rest ≡ rest
+    → next_at turns text ≡ goes_on (length text) own (length rest) call
+next_is text turns own call rest counted called left =
+    ap (λ (n : ℕ). goes_on (length text) n (length (after turns text).rest) (call_at turns text)) counted
+    ∙ ap (λ (w : List ℕ). goes_on (length text) own (length w) (call_at turns text)) left ∙ ap (goes_on (length text) own (length rest)) called
+
+-- and is there after a rewriting
+pub call_rewritten : (text : List ℕ) (turns : ℕ) (result behind : List ℕ) → move (after turns text).tables (after turns text).rest ≡ Rewritten result behind → call_at (turns + 1) text ≡ next_at turns text
+call_rewritten text turns result behind m =
+    ap (λ (n : ℕ). call_at n text) (add-one turns) ∙ ap (called_by (length text) (own_left turns text) (length (after turns text).rest) (call_at turns text)) m
 
 -- what waits and what follows it are what is said and the rest
 module _ (text : List ℕ) (turns given done rewritings : ℕ) (k : Kept) (waiting : List ℕ) (copied : ℕ) (rest : List ℕ) (place : Place)

@@ -7,7 +7,7 @@ ghost use Rattle.text_rewriting.specs.Fronts.{changed, IsChange};
 ghost use Rattle.text_rewriting.specs.Marks.{DefinesNone};
 ghost use Rattle.abel_expand.specs.Runs.{after, bytes_given, bytes_waiting, byte_in, refusal_in, HasEnded, IsExpanded, IsRefusal};
 ghost use Rattle.abel_expand.specs.declared.standing.Origin.TheVariants as origin;
-ghost use Rattle.abel_expand.specs.Origins.{StandsThere};
+ghost use Rattle.abel_expand.specs.Origins.{StandsThere, next_at};
 ghost use Rattle.abel_expand.specs.Stands.{left_to_do};
 
 use crate::fault::ExpandFault;
@@ -44,13 +44,14 @@ pub struct Reader<'a> {
 impl<'a> Model for Reader<'a> {
     ghost use Rattle.std.specs.Prelude.{◌≡◌, ◌≤◌, None, length, drop};
     ghost use Rattle.abel_expand.specs.Runs.{Reading};
+    ghost use Rattle.abel_expand.specs.Origins.{call_at};
     ghost use Rattle.abel_expand.specs.Stands.{IsOwnEnd, Stands};
 
     ghost Value = { Reading };
 
     ghost view = { λ r. record { text = r.text.now; turns = r.turns; given = r.given; refused = r.refused; standing = r.standing } };
 
-    ghost invariant = { λ r. (r.at ≤ length r.said.items) × (r.refused ≡ None → Stands r.text.now r.turns r.given r.done r.rewritings r.tables (drop r.at r.said.items) r.copied r.rest r.place) × (r.refused ≡ None → IsOwnEnd r.text.now r.turns r.own r.rest) × (r.own ≤ length r.text.now) × (r.call ≤ length r.text.now) × (r.form ≤ length r.text.now) × (r.standing.offset ≤ length r.text.now) };
+    ghost invariant = { λ r. (r.at ≤ length r.said.items) × (r.refused ≡ None → Stands r.text.now r.turns r.given r.done r.rewritings r.tables (drop r.at r.said.items) r.copied r.rest r.place) × (r.refused ≡ None → IsOwnEnd r.text.now r.turns r.own r.rest) × (r.own ≤ length r.text.now) × (r.call ≤ length r.text.now) × (r.form ≤ length r.text.now) × (r.standing.offset ≤ length r.text.now) × (r.refused ≡ None → call_at r.turns r.text.now ≡ r.call) };
 }
 
 /// Defines something.
@@ -122,24 +123,38 @@ impl<'a> Reader<'a> {
         matches!(self.standing.origin, Origin::Call)
     }
 
+    /// Where the source may have the byte that was given last. Only of a byte that is the source's own it is said that it
+    /// does.
+    fn origin(&self) -> usize
+        ensures { self.now.standing.origin ≡ origin.Source → result ≡ self.now.standing.offset }
+    {
+        match self.standing.origin {
+            Origin::Source => self.standing.offset,
+            Origin::Form | Origin::Call => self.rest.rest().offset_before(),
+        }
+    }
+
     /// If the source has this byte, which was given last: in the block of a macro or an argument, if it is of one. None of a
     /// byte that the source doesn't have, as the digits of a value.
     pub fn origin_of(&self, byte: u8) -> Option<usize>
-        ensures { IfSome result (λ at. slice_get self.now.text at ≡ Some byte) }
+        ensures found { IfSome result (λ at. slice_get self.now.text at ≡ Some byte) }
+        ensures own { self.now.standing.origin ≡ origin.Source → slice_get self.now.text self.now.standing.offset ≡ Some byte → result ≡ Some self.now.standing.offset }
     {
-        let at = self.rest.rest().offset_before();
+        let at = self.origin();
         match self.text.get(at) {
             Some(found) if *found == byte => Some(at),
             _ => None,
         }
     }
 
-    /// The offset in the source from which nothing was given yet.
+    /// The offset in the source from which nothing was given yet: that of the outermost call, if a macro is being read.
     pub fn next_offset(&self) -> usize
-        ensures { result ≤ length self.now.text }
+        ensures within { result ≤ length self.now.text }
+        ensures place { self.now.refused ≡ None → bytes_waiting self.now ≡ [] → result ≡ next_at self.now.turns self.now.text }
     {
         let left = self.rest.rest().len();
-        copied_at(self.text.len(), self.own, left, self.call).offset
+        let next = copied_at(self.text.len(), self.own, left, self.call);
+        next.offset
     }
 
     /// Gives the next byte that waits.

@@ -2,7 +2,7 @@
 
 ghost use Rattle.std.specs.Prelude.{◌≡◌, ◌<◌, ◌≤◌, ◌+◌};
 ghost use Rattle.abel_expand.specs.declared.standing.Origin.TheVariants as origin;
-ghost use Rattle.abel_expand.specs.Origins.{lesser};
+ghost use Rattle.abel_expand.specs.Origins.{goes_on, lesser};
 
 /// What a byte of the expanded text is of.
 #[derive(Clone, Copy)]
@@ -30,6 +30,7 @@ pub fn copied_at(length: usize, own: usize, left: usize, call: usize) -> Standin
     ensures call { result.origin ≡ origin.Call → own < left }
     ensures before { own < left → result.origin ≡ origin.Call }
     ensures within { result.offset ≤ length }
+    ensures place { result.offset ≡ goes_on length own left call }
 {
     if left <= own {
         Standing {

@@ -1,10 +1,10 @@
 -- What each front makes of the parts of a reader, and which refusal it is.
 use Rattle.std.proofs.Common.{◌≡◌, ◌-◌, ◌+◌, ◌<◌, ◌++◌, ◌∙◌, ap, sym, subst, ℕ, List, [], None, false, length, take, drop, refl, arith}
-use Rattle.abel_expand.proofs.Common.{Kept, tables_of, move, BadDirective, Unsupported, TooLong, ExpansionLimit, changed, IsFront, DefinesNone, Reading, bytes_given, bytes_waiting, after, IsRefusal, lesser, IsOwnEnd, Stands, left_to_do}
+use Rattle.abel_expand.proofs.Common.{Kept, tables_of, move, BadDirective, Unsupported, TooLong, ExpansionLimit, changed, IsFront, DefinesNone, Reading, bytes_given, bytes_waiting, after, IsRefusal, goes_on, lesser, IsOwnEnd, Stands, left_to_do}
 use Rattle.abel_expand.specs.declared.fault.ExpandFault.TheVariants as fault
 use Rattle.text_rewriting.specs.declared.front.Front.{Front}
 use Rattle.text_rewriting.specs.Gathering.{Gathering}
-use Rattle.abel_expand.proofs.Ending.{own_done, own_rewritten}
+use Rattle.abel_expand.proofs.Ending.{own_done, own_rewritten, call_done, next_is, call_rewritten}
 use Rattle.abel_expand.proofs.Turning.{rest_is, move_is, copy_turn, said_turn, rewriting_turn, limit_refused, too_long, refused_as, is_refused, room}
 use Rattle.abel_expand.proofs.reader.Reader.act.Goals as goal
 
@@ -41,7 +41,7 @@ invariant_of-self c =
     let none : drop i.given (after i.turns i.text.now).done ≡ [] = ap bytes_waiting c.self.view_is ∙ c.requires.given in
     let s = c.self.invariant.1 r in
     let f = subst (λ (x : Front). IsFront (tables_of i.tables) i.rest (1048576 - i.done) (move (tables_of i.tables) i.rest) x) c.in-Copy.is c.in_ok-count.ensures in
-    (c.self.invariant.0, λ _. (copy_turn i.text.now i.turns i.given i.done i.rewritings i.tables (drop i.at i.said.items) i.copied i.rest i.place s none (1048576 - i.done) c.in-Copy.count f).0, λ n. own_done i.text.now i.turns i.own i.rest (c.self.invariant.2 r) (tables_of i.tables) (take c.in-Copy.count i.rest) (drop c.in-Copy.count i.rest) 0 i.rest (move_is i.text.now i.turns i.given i.done i.rewritings i.tables (drop i.at i.said.items) i.copied i.rest i.place s none ∙ f.0) refl (omega arith), c.self.invariant.3, c.self.invariant.4, c.self.invariant.5, c.self.invariant.6)
+    (c.self.invariant.0, λ _. (copy_turn i.text.now i.turns i.given i.done i.rewritings i.tables (drop i.at i.said.items) i.copied i.rest i.place s none (1048576 - i.done) c.in-Copy.count f).0, λ n. own_done i.text.now i.turns i.own i.rest (c.self.invariant.2 r) (tables_of i.tables) (take c.in-Copy.count i.rest) (drop c.in-Copy.count i.rest) 0 i.rest (move_is i.text.now i.turns i.given i.done i.rewritings i.tables (drop i.at i.said.items) i.copied i.rest i.place s none ∙ f.0) refl (omega arith), c.self.invariant.3, c.self.invariant.4, c.self.invariant.5, c.self.invariant.6, λ n. call_done i.text.now i.turns i.call (tables_of i.tables) (take c.in-Copy.count i.rest) (drop c.in-Copy.count i.rest) (c.self.invariant.7 r) (move_is i.text.now i.turns i.given i.done i.rewritings i.tables (drop i.at i.said.items) i.copied i.rest i.place s none ∙ f.0))
 
 pub invariant_of-self-in-Said : goal.invariant_of-self-in-Said
 invariant_of-self-in-Said c =
@@ -50,7 +50,7 @@ invariant_of-self-in-Said c =
     let none : drop i.given (after i.turns i.text.now).done ≡ [] = ap bytes_waiting c.self.view_is ∙ c.requires.given in
     let s = c.self.invariant.1 r in
     let f = subst (λ (x : Front). IsFront (tables_of i.tables) i.rest (1048576 - i.done) (move (tables_of i.tables) i.rest) x) c.in-Said.is c.in_ok-count.ensures in
-    (omega arith, λ _. subst (λ (n : ℕ). Stands i.text.now (i.turns + 1) i.given (i.done + n) i.rewritings c.change_tables.new.tables c.in-Said.bytes.items 0 c.skip.new.self i.place) (omega (arith, c.len.ensures)) (said_turn i.text.now i.turns i.given i.done i.rewritings i.tables (drop i.at i.said.items) i.copied i.rest i.place s none c.change_tables.new.tables (1048576 - i.done) c.in-Said.change c.in-Said.bytes c.in-Said.end c.skip.new.self f c.in_ok-change_tables-in-Said.ensures c.skip.ensures).0, λ n. own_done i.text.now i.turns i.own i.rest (c.self.invariant.2 r) (changed c.in-Said.change (tables_of i.tables)) c.in-Said.bytes.items (drop c.in-Said.end i.rest) c.in-Said.end c.skip.new.self (move_is i.text.now i.turns i.given i.done i.rewritings i.tables (drop i.at i.said.items) i.copied i.rest i.place s none ∙ f.0) c.skip.ensures f.2, c.self.invariant.3, c.self.invariant.4, c.copied_at-here.ensures.within, c.self.invariant.6)
+    (omega arith, λ _. subst (λ (n : ℕ). Stands i.text.now (i.turns + 1) i.given (i.done + n) i.rewritings c.change_tables.new.tables c.in-Said.bytes.items 0 c.skip.new.self i.place) (omega (arith, c.len.ensures)) (said_turn i.text.now i.turns i.given i.done i.rewritings i.tables (drop i.at i.said.items) i.copied i.rest i.place s none c.change_tables.new.tables (1048576 - i.done) c.in-Said.change c.in-Said.bytes c.in-Said.end c.skip.new.self f c.in_ok-change_tables-in-Said.ensures c.skip.ensures).0, λ n. own_done i.text.now i.turns i.own i.rest (c.self.invariant.2 r) (changed c.in-Said.change (tables_of i.tables)) c.in-Said.bytes.items (drop c.in-Said.end i.rest) c.in-Said.end c.skip.new.self (move_is i.text.now i.turns i.given i.done i.rewritings i.tables (drop i.at i.said.items) i.copied i.rest i.place s none ∙ f.0) c.skip.ensures f.2, c.self.invariant.3, c.self.invariant.4, c.copied_at-here.ensures.within, c.self.invariant.6, λ n. call_done i.text.now i.turns i.call (changed c.in-Said.change (tables_of i.tables)) c.in-Said.bytes.items (drop c.in-Said.end i.rest) (c.self.invariant.7 r) (move_is i.text.now i.turns i.given i.done i.rewritings i.tables (drop i.at i.said.items) i.copied i.rest i.place s none ∙ f.0))
 
 pub returns-then-self-eq65536-clause-refused : goal.returns-then-self-eq65536-clause-refused
 returns-then-self-eq65536-clause-refused c =
@@ -87,6 +87,9 @@ invariant_of-self-in-Rewritten c =
       c.copied_at-here.ensures.within,
       c.self.invariant.5,
       c.self.invariant.6,
+      λ n. call_rewritten i.text.now i.turns c.in-Rewritten.result.text (drop c.in-Rewritten.end i.rest) (move_is i.text.now i.turns i.given i.done i.rewritings i.tables (drop i.at i.said.items) i.copied i.rest i.place s none ∙ f.0)
+          ∙ next_is i.text.now i.turns i.own i.call i.rest (c.self.invariant.2 r).counted (c.self.invariant.7 r) (rest_is i.text.now i.turns i.given i.done i.rewritings i.tables (drop i.at i.said.items) i.copied i.rest i.place s none)
+          ∙ ap (λ (n : ℕ). goes_on (length i.text.now) i.own n i.call) (sym (c.len-left.ensures.value ∙ ap length c.rest.ensures)) ∙ sym c.copied_at-here.ensures.place,
     )
 
 pub returns-then-self-eq65536-2-clause-refused : goal.returns-then-self-eq65536-2-clause-refused

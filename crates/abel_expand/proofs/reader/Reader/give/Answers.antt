@@ -19,6 +19,7 @@ invariant_of-self c =
       c.self.invariant.4,
       c.self.invariant.5,
       omega (arith, c.said_at-self-inside.ensures.form, c.self.invariant.5),
+      c.self.invariant.7,
     )
 
 pub returns-then-self-len-clause-some : goal.returns-then-self-len-clause-some
@@ -45,6 +46,7 @@ invariant_of-self-in-Some c =
       c.self.invariant.4,
       c.self.invariant.5,
       c.copied_at-self-inside.ensures.within,
+      c.self.invariant.7,
     )
 
 pub returns-in-Some-clause-some : goal.returns-in-Some-clause-some
