@@ -25,6 +25,7 @@ device name pins ground_pin clock flip =
       reset = None;
       preset = None;
       flip = flip;
+      power_down = 0;
       cells = [];
       pairs = [];
       inverted = [];
