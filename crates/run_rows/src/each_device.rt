@@ -31,15 +31,27 @@ fn put_row(text: &mut Found, columns: usize, row: &str) {
     text.text("*")
 }
 
+// What of a command tells a device of other fuses than a PAL16's, with these and its columns. The first that fits counts.
+const SIZES: [(&str, &str, usize); 9] = [
+    ("22V10C", "5893", 44),
+    ("22V10", "5892", 44),
+    ("22v10", "5892", 44),
+    ("18V10", "3540", 36),
+    ("16V8", "2194", 32),
+    ("16P8", "2056", 32),
+    ("18P8", "2600", 36),
+    ("20L10", "1600", 40),
+    ("P20", "2560", 40),
+];
+
 /// The fuses and the columns of the device that a command names.
 fn size_of(command: &str) -> (&'static str, usize) {
-    if command.ends_with("22V10") || command.ends_with("22v10") {
-        ("5892", 44)
-    } else if command.split_once("16V8").is_some() {
-        ("2194", 32)
-    } else {
-        ("2048", 32)
+    for (name, fuses, columns) in SIZES {
+        if command.split_once(name).is_some() {
+            return (fuses, columns);
+        }
     }
+    ("2048", 32)
 }
 
 /// The fuse file of a command, with its rows and what follows them.
