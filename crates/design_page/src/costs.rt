@@ -113,10 +113,10 @@ fn add_found(
 
 /// The outputs at these pins, bit p for pin p, that fit as they are and take at least three times the rows of their other
 /// polarity, in the order of the cells. None if the device leaves no choice. It makes one pool for all covers.
-pub fn costly_polarities<D: Device>(
+pub fn costly_polarities<'a, D: Device>(
     alloc: Global,
-    device: &Loaded<D>,
-    net: &Netlist,
+    device: &'a Loaded<D>,
+    net: &'a Netlist,
     pins: u32,
 ) -> Result<ListOf<CostlyPolarity>, OutOfMemory>
     requires { IsSoundNetlist D.table net.now }

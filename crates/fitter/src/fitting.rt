@@ -110,7 +110,11 @@ fn burned<D: Device>(
 /// The fuses of a netlist in a device, and the rows of its cells: of each cell a prime and irredundant cover, in its direct
 /// form if that may be and fits, else in its inverted one; a free register that is inverted stores the complement. It makes
 /// one pool for all covers.
-pub fn fit<D: Device>(alloc: Global, device: &Loaded<D>, net: &Netlist) -> Result<Fitted, FitFault>
+pub fn fit<'a, D: Device>(
+    alloc: Global,
+    device: &'a Loaded<D>,
+    net: &'a Netlist,
+) -> Result<Fitted, FitFault>
     requires sound { IsSoundNetlist D.table net.now }
     ensures answer { FitAnswers D.table net.now result }
     ensures does { IfOk result (λ fitted. DoesTheSame (device_logic D.table fitted.fuses)

@@ -89,10 +89,10 @@ fn add_overfull<D: Device>(
 }
 
 /// The cells of a netlist that are over their room, in the order of the cells. It makes one pool for all covers.
-pub fn cells_over_room<D: Device>(
+pub fn cells_over_room<'a, D: Device>(
     alloc: Global,
-    device: &Loaded<D>,
-    net: &Netlist,
+    device: &'a Loaded<D>,
+    net: &'a Netlist,
 ) -> Result<ListOf<Overfull>, FitFault>
     requires { IsSoundNetlist D.table net.now }
     ensures over { IfOk result (λ list. All IsOver list) }
