@@ -5,7 +5,7 @@ use Rattle.abel_vectors.proofs.sections.all_vectors.Given as goal
 
 abbrev pub invariant-loop-section : goal.invariant-loop-section
 invariant-loop-section g l =
-    let d = context_for g.D.Device.table l.scope in
+    let d = context_for g.D.Device.table l.on.scope.now in
     let left = view_sections (drop l.section-index l.section-items) in
     let all = view_sections l.section-items in
     (before : ℕ) × (l.room ≡ 9999 - before)
