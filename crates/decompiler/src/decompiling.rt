@@ -21,7 +21,7 @@ impl<'a, D: Device> DeviceFuses<'a, D> {
         let lines = self.lines(alloc)?;
         let pins = self.pins(alloc, &lines)?;
         Ok(PinSource {
-            device: self.device.name(),
+            device: self.device().name(),
             pins: ListOf::from_vec(pins),
             lines: ListOf::from_vec(lines),
         })

@@ -15,7 +15,7 @@ use std::marker::Model;
 /// The fuses of a device; contracts see their levels.
 #[derive(Drop)]
 pub struct DeviceFuses<'a, D: Device> {
-    pub(crate) device: &'a Loaded<D>,
+    device: &'a Loaded<D>,
     levels: Vec<bool>,
     array: FuseArray<'a, D>,
 }
@@ -50,14 +50,19 @@ impl<'a, D: Device> DeviceFuses<'a, D> {
         })
     }
 
+    /// The device.
+    pub fn device(&self) -> &'a Loaded<D> {
+        self.device
+    }
+
     /// The fuses of a row, one a column: an intact one, 0, connects the column.
     pub fn row(&self, row: u16) -> &[bool]
         requires { row < D.table.rows }
         ensures fuses { result.now ≡ row_fuses D.table self.now row }
         ensures size { length result.now ≡ D.table.columns }
     {
-        let first = usize::from(self.device.columns()) * usize::from(row);
-        &self.levels[first..first + usize::from(self.device.columns())]
+        let first = usize::from(self.device().columns()) * usize::from(row);
+        &self.levels[first..first + usize::from(self.device().columns())]
     }
 
     /// Whether the row can be true, as far as its own fuses say.
@@ -89,7 +94,7 @@ impl<'a, D: Device> DeviceFuses<'a, D> {
         requires { cell < length D.table.cells }
         ensures { result ≡ never_drives D.table self.now cell }
     {
-        match cell_of::<D>(self.device, cell).enable {
+        match cell_of::<D>(self.device(), cell).enable {
             Enable::Row(row) => !self.is_live(row),
             Enable::PinLow(_) => false,
         }
@@ -108,7 +113,7 @@ impl<'a, D: Device> DeviceFuses<'a, D> {
         ensures first { result ≡ first_register D.table self.now }
         ensures within { IfSome result (λ c. c < length D.table.cells) }
     {
-        for cell in 0..self.device.cells() {
+        for cell in 0..self.device().cells() {
             if self.stores(cell) {
                 return Some(cell);
             }

@@ -40,9 +40,9 @@ impl<'a, D: Device> DeviceFuses<'a, D> {
     {
         let inverted = self.is_inverted(cell);
         if self.stores(cell) {
-            data_complements(self.device.flip(), inverted)
+            data_complements(self.device().flip(), inverted)
         } else {
-            pin_complements(self.device.flip(), false, inverted)
+            pin_complements(self.device().flip(), false, inverted)
         }
     }
 
@@ -51,7 +51,7 @@ impl<'a, D: Device> DeviceFuses<'a, D> {
         requires { cell < length D.table.cells }
         ensures { IfOk result (λ line. line ≡ data_line D.table self.now cell) }
     {
-        let found = cell_of::<D>(self.device, cell);
+        let found = cell_of::<D>(self.device(), cell);
         let products = self.data_sum(alloc, &found)?;
         Ok(SumLine {
             negated: self.is_complement(cell),
@@ -76,7 +76,7 @@ impl<'a, D: Device> DeviceFuses<'a, D> {
         ensures { OnOk result (lines.new.items
             ≡ lines.old.items ++ enable_lines D.table self.now cell (cell_at D.table cell).enable) }
     {
-        let found = cell_of::<D>(self.device, cell);
+        let found = cell_of::<D>(self.device(), cell);
         if let Enable::Row(row) = found.enable {
             lines.push(SumLine {
                 negated: false,
@@ -121,7 +121,7 @@ impl<'a, D: Device> DeviceFuses<'a, D> {
             if self.is_live(row) {
                 lines.push(SumLine {
                     negated: false,
-                    pin: cell_of::<D>(self.device, cell).pin,
+                    pin: cell_of::<D>(self.device(), cell).pin,
                     extension: Some(extension),
                     products: self.control_sum(alloc, row)?,
                 })?;
@@ -135,11 +135,11 @@ impl<'a, D: Device> DeviceFuses<'a, D> {
         ensures { IfOk result (λ lines. lines.items ≡ lines_of D.table self.now) }
     {
         let mut lines = Vec::new(alloc);
-        for cell in 0..self.device.cells() {
+        for cell in 0..self.device().cells() {
             self.push_cell(alloc, &mut lines, cell)?;
         }
-        self.push_shared(alloc, &mut lines, Extension::Ar, self.device.reset())?;
-        self.push_shared(alloc, &mut lines, Extension::Sp, self.device.preset())?;
+        self.push_shared(alloc, &mut lines, Extension::Ar, self.device().reset())?;
+        self.push_shared(alloc, &mut lines, Extension::Sp, self.device().preset())?;
         Ok(lines)
     }
 }

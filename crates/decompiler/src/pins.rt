@@ -46,7 +46,7 @@ impl<'a, D: Device> DeviceFuses<'a, D> {
         requires { cell < length D.table.cells }
         ensures { result ≡ is_register_on D.table self.now pin cell }
     {
-        cell_of::<D>(self.device, cell).pin == pin && self.stores(cell)
+        cell_of::<D>(self.device(), cell).pin == pin && self.stores(cell)
     }
 
     /// The register on a pin.
@@ -54,7 +54,7 @@ impl<'a, D: Device> DeviceFuses<'a, D> {
         ensures first { result ≡ register_on D.table self.now pin }
         ensures within { IfSome result (λ c. c < length D.table.cells) }
     {
-        for cell in 0..self.device.cells() {
+        for cell in 0..self.device().cells() {
             if self.is_register_on(pin, cell) {
                 return Some(cell);
             }
@@ -68,7 +68,11 @@ impl<'a, D: Device> DeviceFuses<'a, D> {
     {
         let follows = match self.register_on(pin) {
             None => None,
-            Some(cell) => Some(!pin_complements(self.device.flip(), true, self.is_inverted(cell))),
+            Some(cell) => Some(!pin_complements(
+                self.device().flip(),
+                true,
+                self.is_inverted(cell),
+            )),
         };
         PinLine { pin, follows }
     }
@@ -94,7 +98,7 @@ impl<'a, D: Device> DeviceFuses<'a, D> {
             (filter (λ pin. list_any (names_pin pin) lines.now) (range_with_len 1 D.table.pins))) }
     {
         let mut pins = Vec::new(alloc);
-        for before in 0..self.device.pins() {
+        for before in 0..self.device().pins() {
             self.push_if_named(&mut pins, lines, before + 1)?;
         }
         Ok(pins)

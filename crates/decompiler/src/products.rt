@@ -25,7 +25,7 @@ impl<'a, D: Device> DeviceFuses<'a, D> {
             },
             Carry::Cell(cell) => PinLiteral {
                 negated: higher != self.stores(cell),
-                pin: cell_of::<D>(self.device, cell).pin,
+                pin: cell_of::<D>(self.device(), cell).pin,
                 of_q: self.stores(cell),
             },
         }
@@ -42,7 +42,7 @@ impl<'a, D: Device> DeviceFuses<'a, D> {
         requires pair { pair < length D.table.pairs }
         ensures { OnOk result (literals.new.items ≡ literals.old.items ++ pair_literals D.table self.now row.now pair) }
     {
-        let carry = carry_of::<D>(self.device, pair);
+        let carry = carry_of::<D>(self.device(), pair);
         if !row[usize::from(2 * pair)] {
             literals.push(self.literal(false, carry))?;
         }
@@ -59,7 +59,7 @@ impl<'a, D: Device> DeviceFuses<'a, D> {
     {
         let fuses = self.row(row);
         let mut literals = Vec::new(alloc);
-        for pair in 0..self.device.columns() / 2 {
+        for pair in 0..self.device().columns() / 2 {
             self.push_pair(&mut literals, fuses, pair)?;
         }
         Ok(ListOf::from_vec(literals))
