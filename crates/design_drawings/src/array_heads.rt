@@ -11,9 +11,9 @@ use pld_base::OutOfMemory;
 use pld_device::{Device, Loaded};
 
 /// What a column carries, as a literal.
-fn literal<D: Device>(
-    device: &Loaded<D>,
-    design: Design,
+fn literal<'a, D: Device>(
+    device: &'a Loaded<D>,
+    design: Design<'a>,
     column: u16,
 ) -> Result<Vec<u8>, OutOfMemory>
     requires { column < D.table.columns }

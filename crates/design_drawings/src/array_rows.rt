@@ -105,10 +105,10 @@ fn put_lines(page: &mut Page, product: &[u8], left: usize) -> Result<u32, OutOfM
 }
 
 /// Writes the product of a row, and answers how many lines it takes.
-fn put_product<D: Device>(
-    device: &Loaded<D>,
+fn put_product<'a, D: Device>(
+    device: &'a Loaded<D>,
     page: &mut Page,
-    design: Design,
+    design: Design<'a>,
     row: u16,
     down: u32,
 ) -> Result<u32, OutOfMemory> {

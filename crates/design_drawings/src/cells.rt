@@ -15,10 +15,10 @@ use pld_base::OutOfMemory;
 use pld_device::{Device, Enable, Loaded};
 
 /// Writes a row of the array as a product, or 0.
-pub fn put_product<D: Device>(
-    device: &Loaded<D>,
+pub fn put_product<'a, D: Device>(
+    device: &'a Loaded<D>,
     page: &mut Page,
-    design: Design,
+    design: Design<'a>,
     row: u16,
 ) -> Result<(), OutOfMemory>
     ensures { OnOk result (page.new ≡ page.old
