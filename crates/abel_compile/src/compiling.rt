@@ -25,9 +25,9 @@ use std::alloc::Global;
 use std::marker::Brand;
 
 /// The fuse file of a placed module for its device.
-fn compile_placed<D: Device>(
+fn compile_placed<'a, D: Device>(
     alloc: Global,
-    placed: &PlacedModule<'_, D>,
+    placed: &'a PlacedModule<'a, D>,
 ) -> Result<Compiled, CompileFault>
     requires name { IsPlainName (view_module placed.now.module).name.text }
     requires names { AreNamesFor D.table (view_module placed.now.module) placed.now.names }
