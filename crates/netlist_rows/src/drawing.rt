@@ -67,11 +67,11 @@ pub(crate) fn scope_of<'a, D: Device>(
     SectionScope::new(alloc, device, known)
 }
 
-fn sections_of<D: Device>(
+fn sections_of<'a, D: Device>(
     alloc: Global,
-    device: &Loaded<D>,
+    device: &'a Loaded<D>,
     source: &Module,
-    names: &Names,
+    names: &'a Names,
 ) -> Option<SourceSections>
     requires { AreNamesFor D.table (view_module source.now) names.now }
     ensures found { IfSome result (AreSections (design_of D.table (view_module source.now))) }

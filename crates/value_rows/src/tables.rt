@@ -61,7 +61,11 @@ fn put_given(walked: &Walked, found: &mut Found) -> Option<()> {
 }
 
 /// What is found of the table of a source.
-fn walked_of<D: Device>(alloc: Global, device: &Loaded<D>, source: &Source) -> Option<Walked>
+fn walked_of<'a, D: Device>(
+    alloc: Global,
+    device: &'a Loaded<D>,
+    source: &'a Source,
+) -> Option<Walked>
     requires order { AreInOrder (entries_of source.now.names) }
     requires placed { ArePlaced source.now.names }
 {
