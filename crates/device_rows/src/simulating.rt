@@ -73,12 +73,12 @@ fn put_outcome<D: Device>(alloc: Global, device: &Loaded<D>, file: &FuseFile, fo
 
 /// A device with these fuses.
 #[derive(Drop)]
-struct Simulated<'a, D: Device> {
+struct Simulated<'a, 'b, D: Device> {
     device: &'a Loaded<D>,
-    fuses: &'a str,
+    fuses: &'b str,
 }
 
-impl<'a, D: Device> Ask for Simulated<'a, D> {
+impl<'a, 'b, D: Device> Ask for Simulated<'a, 'b, D> {
     fn answer(&mut self, alloc: Global, input: &str, found: &mut Found) {
         let [_what, default_level, vectors, ..] = fields_of(input);
         let size = usize::from(self.device.fuses());
