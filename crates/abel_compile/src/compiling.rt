@@ -25,9 +25,9 @@ use std::alloc::Global;
 use std::marker::Brand;
 
 /// The fuse file of a placed module for its device.
-fn compile_placed<'a, D: Device>(
+fn compile_placed<D: Device>(
     alloc: Global,
-    placed: &'a PlacedModule<'a, D>,
+    placed: &PlacedModule<'_, D>,
 ) -> Result<Compiled, CompileFault>
     requires name { IsPlainName (view_module placed.now.module).name.text }
     requires names { AreNamesFor D.table (view_module placed.now.module) placed.now.names }
@@ -35,7 +35,7 @@ fn compile_placed<'a, D: Device>(
     ensures err { IfErr result (IsRefusedFor D.table (view_module placed.now.module)) }
 {
     fits_are_right();
-    let device = placed.device;
+    let device = placed.device();
     let scope = scope_of::<D>(alloc, device, &placed.names)?;
     let SourceSections {
         contributions,

@@ -12,3 +12,10 @@ pub(crate) struct PlacedModule<'a, D: Device> {
     pub(crate) declared: Names,
     pub(crate) names: Names,
 }
+
+impl<'a, D: Device> PlacedModule<'a, D> {
+    /// The device, for as long as the module is borrowed. Takes no memory.
+    pub(crate) fn device(&self) -> &Loaded<D> {
+        self.device
+    }
+}
