@@ -31,11 +31,11 @@ fn low_pins(names: &Names) -> u32 {
 }
 
 /// The outputs with active-low names that are costly; no netlist is made if there is no such name.
-fn costly_outputs<D: Device>(
+fn costly_outputs<'a, D: Device>(
     alloc: Global,
-    device: &Loaded<D>,
+    device: &'a Loaded<D>,
     module: &Module,
-    names: &Names,
+    names: &'a Names,
 ) -> Result<ListOf<CostlyPolarity>, CompileFault>
     requires { AreNamesFor D.table (view_module module.now) names.now }
 {
