@@ -21,11 +21,11 @@ use std::alloc::Global;
 use std::marker::Brand;
 
 /// The cells that are over their room, none if the fit has another fault.
-fn overfull_cells<D: Device>(
+fn overfull_cells<'a, D: Device>(
     alloc: Global,
-    device: &Loaded<D>,
+    device: &'a Loaded<D>,
     source: &ModuleParts<'_>,
-    names: &Names,
+    names: &'a Names,
 ) -> Result<ListOf<Overfull>, CompileFault>
     requires { AreNamesFor D.table (view_module source.now) names.now }
 {
