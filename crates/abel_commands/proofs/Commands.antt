@@ -1,6 +1,6 @@
 -- A command has as many inputs as its task works on.
 use Rattle.std.proofs.Common.{◌≡◌, ℕ, Bool, true, false, cond, List, [], ◌∷◌, length, Option, Some, None, get_or, refl, sym, subst, arith, codes, option_and_then, option_map}
-use Rattle.abel_commands.proofs.Common.{DeviceName, named_device, Command, Task, Compare, Demo, command_of, on_device, on_file, on_files, on_nothing, seed_of, source_count}
+use Rattle.abel_commands.proofs.Common.{DeviceName, word_device, Command, Task, Compare, Demo, command_of, on_device, on_file, on_files, on_nothing, seed_of, source_count}
 use Rattle.std.specs.Str.{bytes_eq}
 
 abbrev IsCounted : Option Command → Type 0
@@ -38,8 +38,8 @@ counted (first ∷ second ∷ []) =
     counted_if (bytes_eq first (codes "list")) _ _ refl
     (counted_if (bytes_eq first (codes "demo")) _ _ (counted_seed (seed_of second)) tt)
 counted (first ∷ second ∷ third ∷ []) =
-    counted_if (bytes_eq first (codes "compile")) _ _ refl (counted_device first third (named_device second))
-counted (first ∷ second ∷ third ∷ fourth ∷ []) = counted_if (bytes_eq first (codes "compare")) _ _ (counted_pair third fourth (named_device second)) tt
+    counted_if (bytes_eq first (codes "compile")) _ _ refl (counted_device first third (word_device second))
+counted (first ∷ second ∷ third ∷ fourth ∷ []) = counted_if (bytes_eq first (codes "compare")) _ _ (counted_pair third fourth (word_device second)) tt
 counted (first ∷ second ∷ third ∷ fourth ∷ fifth ∷ more) = tt
 
 pub inputs_counted : (words : List (List ℕ)) (c : Command) → command_of words ≡ Some c → length c.inputs ≡ source_count c.task

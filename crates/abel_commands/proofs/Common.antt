@@ -55,4 +55,4 @@ pub use Rattle.abel_commands.specs.SourceCommands.{Fits, IsRefused, IsUnfit, Sou
 pub use Rattle.abel_commands.specs.Sources.{sources_seen, texts}
 pub use Rattle.abel_commands.specs.View.{ending_seen}
 pub use Rattle.abel_commands.specs.Words.{Command, Compare, Demo, Task, are_few_digits, command_of, is_seed, on_device, on_file, on_files, on_nothing, seed_of}
-pub use Rattle.abel_commands.specs.Words.{source_count}
+pub use Rattle.abel_commands.specs.Words.{source_count, word_device}

@@ -5,6 +5,10 @@ use Rattle.std.specs.Str.{bytes_eq}
 use Rattle.std.specs.Str.Parse.{digits_value}
 use Rattle.pld_base.specs.declared.device_name.DeviceName.{DeviceName}
 
+-- the device that a word names, without regard to case
+unfoldable pub word_device : (word : List ℕ) → Option DeviceName
+word_device word = named_device word
+
 -- what is done with the sources of a command
 pub data Task : Type 0 where
   Compile : (output : List ℕ) → Task
@@ -70,7 +74,7 @@ on_device word device input = option_map (λ task. on_file task input) (device_t
 abbrev pub command_by : (first second third : List ℕ) → Option Command
 command_by first second third =
     if bytes_eq first (codes "compile") then Some (on_file (Compile third) second)
-    else option_and_then (λ device. on_device first device third) (named_device second)
+    else option_and_then (λ device. on_device first device third) (word_device second)
 
 -- so of two words
 abbrev pub command_by_two : (first second : List ℕ) → Option Command
@@ -82,7 +86,7 @@ command_by_two first second =
 -- so of four words
 abbrev pub command_by_four : (first second third fourth : List ℕ) → Option Command
 command_by_four first second third fourth =
-    if bytes_eq first (codes "compare") then option_map (λ device. on_files (Compare device) third fourth) (named_device second)
+    if bytes_eq first (codes "compare") then option_map (λ device. on_files (Compare device) third fourth) (word_device second)
     else None
 
 -- the command that the words are

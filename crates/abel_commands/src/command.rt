@@ -2,7 +2,7 @@
 
 ghost use Rattle.std.specs.Prelude.{◌≡◌, IfSome, length, option_map};
 ghost use Rattle.abel_commands.specs.View.{command_seen, task_seen};
-ghost use Rattle.abel_commands.specs.Words.{command_of, device_task, seed_of, source_count};
+ghost use Rattle.abel_commands.specs.Words.{command_of, device_task, seed_of, source_count, word_device};
 ghost use Rattle.abel_commands.specs.Sources.{texts};
 
 use crate::digits::are_few_digits;
@@ -42,6 +42,13 @@ fn seed_of(word: &str) -> Option<u16>
         return None;
     }
     word.parse::<u16>().ok()
+}
+
+/// The device that a word names, without regard to case. Takes no memory.
+fn word_device(word: &str) -> Option<DeviceName>
+    ensures { result ≡ word_device word.now }
+{
+    DeviceName::named(word.as_bytes())
 }
 
 /// The command that two words are. Takes no memory.
@@ -89,7 +96,7 @@ fn command_of_four<'a>(words: &'a [String]) -> Option<Command<'a>>
     ensures inputs { IfSome result (λ c. length c.inputs.now ≡ source_count (task_seen c.task)) }
 {
     if words[0].as_str() == "compare" {
-        let device = DeviceName::named(words[1].as_bytes())?;
+        let device = word_device(words[1].as_str())?;
         Some(Command {
             task: Task::Compare { device },
             inputs: &words[2..],
@@ -121,7 +128,7 @@ pub fn command_of(words: &[String]) -> Option<Command<'_>>
             inputs: &words[1..2],
         });
     }
-    let device = DeviceName::named(second.as_bytes())?;
+    let device = word_device(second.as_str())?;
     let task = device_task(first.as_str(), device)?;
     Some(Command {
         task,
