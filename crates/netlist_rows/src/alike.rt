@@ -54,7 +54,9 @@ pub(crate) fn runs_alike<D: Device>(
     let Ok(burned) = load::<D>(alloc, device, fuses) else {
         return None;
     };
-    let source = SourceLogic::<D>::new(alloc, device, &made.net, inverted).ok()?;
+    let Ok(source) = SourceLogic::<D>::new(alloc, device, &made.net, inverted) else {
+        return None;
+    };
     for stored in 0..STATES {
         for levels in 0..LEVELS {
             if !turn_alike(&burned, &source, levels << 1, stored) {
