@@ -1,6 +1,6 @@
 //! What is said of a design that does not fit: each cell that is over its room.
 
-ghost use Rattle.std.specs.Prelude.{◌≤◌, length};
+ghost use Rattle.std.specs.Prelude.{◌≡◌, ◌≤◌, length};
 ghost use Rattle.abel_tree.specs.View.{view_module};
 ghost use Rattle.compile_phases.specs.Phases.{AreNamesFor};
 ghost use Rattle.devices.specs.Devices.{table_of};
