@@ -1,0 +1,9 @@
+pub mod Call
+pub mod Checking
+pub mod Counts
+pub mod Ending
+pub mod FaultText
+pub mod FuseFiles
+pub mod Prelude
+pub mod Telling
+pub mod View
