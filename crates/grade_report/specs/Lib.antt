@@ -1,0 +1,3 @@
+pub mod Grading
+pub mod Prelude
+pub mod Report

@@ -1,0 +1,14 @@
+//! The report on what the vectors of a fuse file say of its wrong fuses.
+#![tactic(auto)]
+
+mod counts;
+mod grading;
+mod judged_lines;
+mod mismatch_lines;
+mod numbered;
+mod refusals;
+mod reporting;
+
+pub use grading::grade_ending;
+pub use refusals::fault_line;
+pub use reporting::{grade_report, grade_status};
