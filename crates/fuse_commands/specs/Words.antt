@@ -1,0 +1,32 @@
+-- The words of the command line (this project's rule).
+use Rattle.std.specs.Prelude.{ℕ, List, [], ◌∷◌, Option, Some, None, option_map, if◌then◌else◌, codes}
+use Rattle.std.specs.Str.{bytes_eq}
+use Rattle.fuse_commands.specs.Prelude.{named_device}
+use Rattle.pld_base.specs.declared.device_name.DeviceName.{DeviceName}
+
+-- what is done with the files of a command
+pub data Task : Type 0 where
+  GradeFile : (device : DeviceName) → Task
+
+-- what words ask for: a task, and the names of the files that it reads, one or two
+pub record Command : Type 0 where
+  pub task : Task
+  pub first : List ℕ
+  pub second : Option (List ℕ)
+
+-- the command of a task that reads one file
+abbrev pub on_file : Task → (input : List ℕ) → Command
+on_file task input = record { task = task; first = input; second = None }
+
+-- ---- grade DEVICE IN; a device's name without regard to case, all other words exactly
+
+abbrev pub grade_words : List (List ℕ) → Option Command
+grade_words (device ∷ input ∷ []) = option_map (λ d. on_file (GradeFile d) input) (named_device device)
+grade_words _ = None
+
+-- ---- all commands
+
+-- the command that the words are
+abbrev pub command_of : List (List ℕ) → Option Command
+command_of [] = None
+command_of (name ∷ words) = if bytes_eq name (codes "grade") then grade_words words else None
