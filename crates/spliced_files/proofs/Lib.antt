@@ -1,0 +1,7 @@
+pub mod FieldKinds
+pub mod FrameText
+pub mod KeptFields
+pub mod PieceLaws
+pub mod Plain
+pub mod SplicedFields
+pub mod SplicedFile

@@ -1,0 +1,4 @@
+pub mod Header
+pub mod Kept
+pub mod Prelude
+pub mod Spliced
