@@ -1,0 +1,12 @@
+pub mod CarriedLogics
+pub mod ComparedAcross
+pub mod ControlFuses
+pub mod Differences
+pub mod Fitting
+pub mod Mismatches
+pub mod PairTables
+pub mod PortedFiles
+pub mod PortedFuses
+pub mod RoundTrips
+pub mod SameFaults
+pub mod SameReads
