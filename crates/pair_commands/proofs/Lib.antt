@@ -1,0 +1,4 @@
+pub mod AtPairs
+pub mod Common
+pub mod ComparedFiles
+pub mod PinDigits

@@ -1,0 +1,5 @@
+pub mod CompareCommand
+pub mod Loading
+pub mod PairText
+pub mod PortCommand
+pub mod Prelude
