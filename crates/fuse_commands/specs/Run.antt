@@ -3,14 +3,18 @@ use Rattle.std.specs.Prelude.{◌≡◌, ℕ, ◌⊎◌, List, Option, Some, Non
 use Rattle.fuse_commands.specs.Prelude.{Asked, Ending, HasRisen, HasStayed, Heard, Map, Puts, SameBut, SameFiles, TakesFront, Tells, bytes_at, ends, file_fault, memory_line, table_of, too_long_line}
 use Rattle.fuse_commands.specs.Sources.{HasLongFile, IsInput, second_of}
 use Rattle.fuse_commands.specs.Usage.{other_ending}
-use Rattle.fuse_commands.specs.Words.{Command, Task, GradeFile, command_of}
+use Rattle.fuse_commands.specs.Words.{Command, Task, CompareFiles, GradeFile, PortFile, command_of}
 use Rattle.grade_report.specs.Grading.{GradeEnds}
+use Rattle.pair_commands.specs.CompareCommand.{CompareEnds}
+use Rattle.pair_commands.specs.PortCommand.{PortEnds}
 
 -- ---- by task: the only definition of a run that names tasks
 
 -- a task ends so, with the bytes of its files
 abbrev pub Ends : Task → (first second : List ℕ) → Ending → Type 0
 Ends (GradeFile device) first second e = GradeEnds (table_of device) first e
+Ends (PortFile from to output) first second e = PortEnds from to output first e
+Ends (CompareFiles from to) first second e = CompareEnds from to first second e
 
 -- ---- whatever the task
 

@@ -1,11 +1,16 @@
 -- How words end that are no command on files (this project's rule).
-use Rattle.std.specs.Prelude.{ℕ, List, [], ◌∷◌, if◌then◌else◌, codes}
+use Rattle.std.specs.Prelude.{ℕ, List, [], ◌∷◌, ◌++◌, if◌then◌else◌, codes}
 use Rattle.std.specs.Str.{bytes_eq}
 use Rattle.fuse_commands.specs.Prelude.{Ending, ends}
 
 -- the words that the program takes
 unfoldable pub usage : List ℕ
-usage = codes "usage: abel-fuses grade DEVICE IN\n       abel-fuses --help\n       abel-fuses --version\n"
+usage =
+    codes "usage: abel-fuses grade DEVICE IN\n"
+    ++ codes "       abel-fuses port FROM IN TO OUT\n"
+    ++ codes "       abel-fuses compare FROM A TO B\n"
+    ++ codes "       abel-fuses --help\n"
+    ++ codes "       abel-fuses --version\n"
 
 -- what `--version` prints
 unfoldable pub version : List ℕ

@@ -4,7 +4,7 @@ use Rattle.std.specs.declared.alloc.Global.{Global}
 use Rattle.fuse_commands.specs.declared.command.Command as code
 use Rattle.fuse_commands.specs.declared.command.Task as code_task
 use Rattle.fuse_commands.specs.declared.command.Task.TheVariants as task
-use Rattle.fuse_commands.specs.Words.{Command, Task, GradeFile}
+use Rattle.fuse_commands.specs.Words.{Command, Task, CompareFiles, GradeFile, PortFile}
 
 -- the bytes of each word
 abbrev pub texts : List (String Global) → List (List ℕ)
@@ -13,6 +13,8 @@ texts words = map string_bytes words
 -- what is to be done
 abbrev pub task_seen : code_task.Task → Task
 task_seen (task.Grade device) = GradeFile device
+task_seen (task.Port from to output) = PortFile from to output.now
+task_seen (task.Compare from to) = CompareFiles from to
 
 -- the command that is asked for
 abbrev pub command_seen : code.Command → Command

@@ -1,5 +1,5 @@
 -- The words of the command line (this project's rule).
-use Rattle.std.specs.Prelude.{ℕ, List, [], ◌∷◌, Option, Some, None, option_map, if◌then◌else◌, codes}
+use Rattle.std.specs.Prelude.{ℕ, List, [], ◌∷◌, Option, Some, None, option_and_then, option_map, if◌then◌else◌, codes}
 use Rattle.std.specs.Str.{bytes_eq}
 use Rattle.fuse_commands.specs.Prelude.{named_device}
 use Rattle.pld_base.specs.declared.device_name.DeviceName.{DeviceName}
@@ -7,6 +7,8 @@ use Rattle.pld_base.specs.declared.device_name.DeviceName.{DeviceName}
 -- what is done with the files of a command
 pub data Task : Type 0 where
   GradeFile : (device : DeviceName) → Task
+  PortFile : (from to : DeviceName) → (output : List ℕ) → Task
+  CompareFiles : (from to : DeviceName) → Task
 
 -- what words ask for: a task, and the names of the files that it reads, one or two
 pub record Command : Type 0 where
@@ -14,19 +16,39 @@ pub record Command : Type 0 where
   pub first : List ℕ
   pub second : Option (List ℕ)
 
--- the command of a task that reads one file
+-- the command of a task that reads one file, and of one that reads two
 abbrev pub on_file : Task → (input : List ℕ) → Command
 on_file task input = record { task = task; first = input; second = None }
 
--- ---- grade DEVICE IN; a device's name without regard to case, all other words exactly
+abbrev pub on_files : Task → (first second : List ℕ) → Command
+on_files task first second = record { task = task; first = first; second = Some second }
 
+-- ---- by command; a device's name without regard to case, all other words exactly
+
+-- grade DEVICE IN
 abbrev pub grade_words : List (List ℕ) → Option Command
 grade_words (device ∷ input ∷ []) = option_map (λ d. on_file (GradeFile d) input) (named_device device)
 grade_words _ = None
+
+-- port FROM IN TO OUT
+abbrev pub port_words : List (List ℕ) → Option Command
+port_words (from ∷ input ∷ to ∷ output ∷ []) =
+    option_and_then (λ f. option_map (λ t. on_file (PortFile f t output) input) (named_device to)) (named_device from)
+port_words _ = None
+
+-- compare FROM A TO B
+abbrev pub compare_words : List (List ℕ) → Option Command
+compare_words (from ∷ a ∷ to ∷ b ∷ []) =
+    option_and_then (λ f. option_map (λ t. on_files (CompareFiles f t) a b) (named_device to)) (named_device from)
+compare_words _ = None
 
 -- ---- all commands
 
 -- the command that the words are
 abbrev pub command_of : List (List ℕ) → Option Command
 command_of [] = None
-command_of (name ∷ words) = if bytes_eq name (codes "grade") then grade_words words else None
+command_of (name ∷ words) =
+    if bytes_eq name (codes "grade") then grade_words words
+    else if bytes_eq name (codes "port") then port_words words
+    else if bytes_eq name (codes "compare") then compare_words words
+    else None

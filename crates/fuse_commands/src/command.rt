@@ -2,21 +2,32 @@
 
 ghost use Rattle.std.specs.Prelude.{◌≡◌, option_map};
 ghost use Rattle.fuse_commands.specs.View.{command_seen, texts};
-ghost use Rattle.fuse_commands.specs.Words.{command_of, grade_words};
+ghost use Rattle.fuse_commands.specs.Words.{command_of, compare_words, grade_words, port_words};
 
 use pld_base::DeviceName;
 
 /// What is done with the files of a command.
 #[derive(Clone, Copy)]
-pub enum Task {
+pub enum Task<'a> {
     /// `grade DEVICE IN`
     Grade(DeviceName),
+    /// `port FROM IN TO OUT`
+    Port {
+        from: DeviceName,
+        to: DeviceName,
+        output: &'a str,
+    },
+    /// `compare FROM A TO B`
+    Compare {
+        from: DeviceName,
+        to: DeviceName,
+    },
 }
 
 /// What the words ask for: a task, and the names of the files that it reads, one or two.
 #[derive(Clone, Copy)]
 pub struct Command<'a> {
-    pub task: Task,
+    pub task: Task<'a>,
     pub first: &'a str,
     pub second: Option<&'a str>,
 }
@@ -36,6 +47,42 @@ fn grade_words(words: &[String]) -> Option<Command<'_>>
     })
 }
 
+/// The command `port` of the words after it. Takes no memory.
+fn port_words(words: &[String]) -> Option<Command<'_>>
+    ensures { option_map command_seen result ≡ port_words (texts words.now) }
+{
+    let [from, input, to, output] = words else {
+        return None;
+    };
+    let from = DeviceName::named(from.as_bytes())?;
+    let to = DeviceName::named(to.as_bytes())?;
+    Some(Command {
+        task: Task::Port {
+            from,
+            to,
+            output: output.as_str(),
+        },
+        first: input.as_str(),
+        second: None,
+    })
+}
+
+/// The command `compare` of the words after it. Takes no memory.
+fn compare_words(words: &[String]) -> Option<Command<'_>>
+    ensures { option_map command_seen result ≡ compare_words (texts words.now) }
+{
+    let [from, first, to, second] = words else {
+        return None;
+    };
+    let from = DeviceName::named(from.as_bytes())?;
+    let to = DeviceName::named(to.as_bytes())?;
+    Some(Command {
+        task: Task::Compare { from, to },
+        first: first.as_str(),
+        second: Some(second.as_str()),
+    })
+}
+
 /// The command that the words are. Takes no memory.
 pub fn command_of(words: &[String]) -> Option<Command<'_>>
     ensures { option_map command_seen result ≡ command_of (texts words.now) }
@@ -45,6 +92,10 @@ pub fn command_of(words: &[String]) -> Option<Command<'_>>
     };
     if name.as_str() == "grade" {
         grade_words(rest)
+    } else if name.as_str() == "port" {
+        port_words(rest)
+    } else if name.as_str() == "compare" {
+        compare_words(rest)
     } else {
         None
     }

@@ -13,23 +13,26 @@ use crate::usage::other_ending;
 use fuse_reports::{Ending, Outcome};
 use grade_report::grade_ending;
 use outside::{Files, WriteFault};
+use pair_commands::{compare_ending, port_ending};
 use pld_base::OutOfMemory;
 use std::alloc::Global;
 
 /// How a task ends with the bytes of its files, of which the second are none where it reads one.
 fn ending<'a>(
     alloc: Global,
-    task: Task,
+    task: Task<'a>,
     first: &[u8],
     second: &[u8],
 ) -> Result<Ending<'a>, OutOfMemory>
     requires first { length first.now ≤ limit }
     requires second { length second.now ≤ limit }
     ensures { IfOk result
-        (λ e. Ends (task_seen task) first.now second.now (ending_seen e)) }
+        (λ e. Ends (task_seen task.entry) first.now second.now (ending_seen e)) }
 {
     match task {
         Task::Grade(device) => grade_ending(alloc, device, first),
+        Task::Port { from, to, output } => port_ending(alloc, from, to, output, first),
+        Task::Compare { from, to } => compare_ending(alloc, from, to, first, second),
     }
 }
 

@@ -11,6 +11,8 @@ use std::alloc::Global;
 
 /// The words that the program takes.
 const USAGE: &str = "usage: abel-fuses grade DEVICE IN
+       abel-fuses port FROM IN TO OUT
+       abel-fuses compare FROM A TO B
        abel-fuses --help
        abel-fuses --version
 ";
