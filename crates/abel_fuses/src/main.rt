@@ -1,4 +1,4 @@
-//! `abel-fuses`: what the test vectors of a fuse file find.
+//! `abel-fuses`: commands on fuse files, without the compiler.
 #![tactic(auto)]
 
 use fuse_commands::run;
