@@ -5,6 +5,7 @@ pub mod CompareMeaning
 pub mod ComparedFiles
 pub mod DecompileMeaning
 pub mod DemoCells
+pub mod DemoFiles
 pub mod DemoMeaning
 pub mod DemoRuns
 pub mod FewVectors
@@ -18,3 +19,4 @@ pub mod SimulateMeaning
 pub mod SimulatedFiles
 pub mod SourceLists
 pub mod SourceMeaning
+pub mod VectorChars

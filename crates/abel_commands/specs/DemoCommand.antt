@@ -37,6 +37,13 @@ pub record IsFileRun (seed cells : ℕ) (t : Table) (bytes : List ℕ) (list : L
   pub only : IsTheOnlyList t file list
   pub told : report ≡ demo_line seed cells (length file.vectors) (length list) (fuse_sum_of file.fuses)
 
+-- bytes within the limit are those of a fuse file of the device, whose vectors are simulated
+pub record CanBeRun (t : Table) (bytes : List ℕ) : Type 0 where
+  pub within : length bytes ≤ limit
+  pub file : FuseFile
+  pub read : file_of t bytes ≡ Ok file
+  pub can : CanBeSimulated t file
+
 -- 0 occurs without a mismatch, and 5 with some
 abbrev pub FileEnds : (seed cells : ℕ) → Table → (bytes : List ℕ) → Ending → Type 0
 FileEnds seed cells t bytes e =

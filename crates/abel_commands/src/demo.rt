@@ -1,8 +1,8 @@
 //! `demo N`.
 
 ghost use Rattle.std.specs.Prelude.{◌≡◌, ◌<◌, ◌≤◌, ◌^◌, ℕ, Bool, List, IfOk, Ok, length};
-ghost use Rattle.abel_commands.specs.Prelude.{IsSimulated, IsTheOnlyList, file_of, contents, summary_of, table_of};
-ghost use Rattle.abel_commands.specs.DemoCommand.{DemoEnds, DemoEndsWithin, FileEnds};
+ghost use Rattle.abel_commands.specs.Prelude.{CanBeSimulated, IsSimulated, IsTheOnlyList, file_of, contents, summary_of, table_of};
+ghost use Rattle.abel_commands.specs.DemoCommand.{CanBeRun, DemoEnds, DemoEndsWithin, FileEnds};
 ghost use Rattle.abel_commands.specs.Limit.{limit};
 ghost use Rattle.abel_commands.specs.View.{ending_seen};
 
@@ -12,9 +12,9 @@ use crate::source_commands::refused_ending;
 use crate::sources::LIMIT;
 use abel_compile::compile;
 use demo_source::demo_text;
-use device_sim::{Report, simulate};
+use device_sim::{Report, SimFault, simulate};
 use devices::loaded;
-use jedec_file::fuse_sum;
+use jedec_file::{JedecFault, fuse_sum};
 use jedec_reader::{FuseFile, read};
 use pld_base::{DeviceName, OutOfMemory};
 use pld_device::{Device, Loaded};
@@ -22,26 +22,24 @@ use std::alloc::Global;
 use std::marker::Brand;
 
 /// The fuse file of a compiled source, read back.
-///
-/// Such a file is never refused; one of 4 GiB or more, which the reader does not take, is answered as lack of memory.
 fn read_back<D: Device>(
     alloc: Global,
     device: &Loaded<D>,
     bytes: &[u8],
 ) -> Result<FuseFile, OutOfMemory>
+    requires { CanBeRun D.table bytes.now }
     ensures file { IfOk result (λ file. file_of D.table bytes.now ≡ Ok (contents D.table file)) }
     ensures fuses { IfOk result (λ file. length file.fuses ≡ D.table.fuses) }
+    ensures can { IfOk result (λ file. CanBeSimulated D.table (contents D.table file)) }
 {
-    if bytes.len() > u32::MAX as usize {
-        return Err(OutOfMemory);
-    }
     match read::<D>(alloc, device, bytes) {
         Ok(file) => Ok(file),
-        Err(_) => Err(OutOfMemory),
+        Err(JedecFault::OutOfMemory) => Err(OutOfMemory),
+        Err(_) => unreachable!(),
     }
 }
 
-/// The run of a fuse file's vectors on the device with its fuses. That of a compiled source is never refused.
+/// The run of a fuse file's vectors on the device with its fuses.
 fn run_of<D: Device>(
     alloc: Global,
     device: &Loaded<D>,
@@ -49,12 +47,16 @@ fn run_of<D: Device>(
 ) -> Result<Report, OutOfMemory>
     requires size { length file.now.fuses ≡ D.table.fuses }
     requires few { length file.now.vectors < 2 ^ 32 }
+    requires can { CanBeSimulated D.table (contents D.table file.now) }
     ensures simulated { IfOk result (λ r. IsSimulated D.table (contents D.table file.now) r) }
     ensures only { IfOk result (λ r. IsTheOnlyList D.table (contents D.table file.now) r.list) }
 {
     match simulate::<D>(alloc, device, file) {
         Ok(report) => Ok(report),
-        Err(_) => Err(OutOfMemory),
+        Err(fault) => match fault {
+            SimFault::OutOfMemory => Err(OutOfMemory),
+            _ => unreachable!(),
+        },
     }
 }
 
@@ -67,7 +69,8 @@ fn ending_for<'a, D: Device>(
     bytes: &[u8],
     summary: &[u8],
 ) -> Result<Ending<'a>, OutOfMemory>
-    requires { table_of name ≡ D.table }
+    requires table { table_of name ≡ D.table }
+    requires can { CanBeRun D.table bytes.now }
     ensures { (cells : ℕ) (fuses : List Bool) → cells < 2 ^ 64 → summary.now ≡ summary_of D.table cells fuses
         → IfOk result (λ e. FileEnds seed cells D.table bytes.now (ending_seen e)) }
 {

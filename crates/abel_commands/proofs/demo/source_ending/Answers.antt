@@ -1,8 +1,14 @@
 -- A compiled source is run, and refusals are reported.
-use Rattle.std.proofs.Common.{ℕ, List, ◌∙◌, subst, inl, inr}
+use Rattle.std.proofs.Common.{ℕ, List, ◌∙◌, subst, sym, inl, inr}
 use Rattle.abel_commands.proofs.Common.{IfOk-weaker, table_of, FileEnds, cells_of, ending_seen}
+use Rattle.abel_commands.specs.DemoCommand.{CanBeRun}
 use Rattle.abel_commands.proofs.DemoCells.{few_cells}
+use Rattle.abel_commands.proofs.DemoFiles.{can_be_run}
 use Rattle.abel_commands.proofs.demo.source_ending.Goals as goal
+
+pub ending_for-requires-clause-can : goal.ending_for-requires-clause-can
+ending_for-requires-clause-can c =
+    subst (CanBeRun (table_of c.in-Ok.compiled.device)) (sym c.deref.ensures.value) (can_be_run c.args.source.now c.in-Ok.compiled c.in-Ok.ensures.answers)
 
 pub returns-in-Ok : goal.returns-in-Ok
 returns-in-Ok c =
