@@ -1,3 +1,4 @@
+pub mod FormWords
 pub mod Found
 pub mod Prelude
 pub mod Run

@@ -9,6 +9,8 @@ usage =
     codes "usage: abel-fuses grade DEVICE IN\n"
     ++ codes "       abel-fuses port FROM IN TO OUT\n"
     ++ codes "       abel-fuses compare FROM A TO B\n"
+    ++ codes "       abel-fuses read DEVICE IN OUT [mend]\n"
+    ++ codes "       abel-fuses write DEVICE IN OUT FORM [sign TEXT] [secured]\n"
     ++ codes "       abel-fuses --help\n"
     ++ codes "       abel-fuses --version\n"
 

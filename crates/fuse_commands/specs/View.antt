@@ -4,7 +4,8 @@ use Rattle.std.specs.declared.alloc.Global.{Global}
 use Rattle.fuse_commands.specs.declared.command.Command as code
 use Rattle.fuse_commands.specs.declared.command.Task as code_task
 use Rattle.fuse_commands.specs.declared.command.Task.TheVariants as task
-use Rattle.fuse_commands.specs.Words.{Command, Task, CompareFiles, GradeFile, PortFile}
+use Rattle.form_commands.specs.Writing.{wanted_seen}
+use Rattle.fuse_commands.specs.Words.{Command, Task, CompareFiles, GradeFile, PortFile, ReadDump, WriteForm}
 
 -- the bytes of each word
 abbrev pub texts : List (String Global) → List (List ℕ)
@@ -15,6 +16,8 @@ abbrev pub task_seen : code_task.Task → Task
 task_seen (task.Grade device) = GradeFile device
 task_seen (task.Port from to output) = PortFile from to output.now
 task_seen (task.Compare from to) = CompareFiles from to
+task_seen (task.Read device mends output) = ReadDump device mends output.now
+task_seen (task.Write device wanted output) = WriteForm device (wanted_seen wanted) output.now
 
 -- the command that is asked for
 abbrev pub command_seen : code.Command → Command

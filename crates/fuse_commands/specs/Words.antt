@@ -1,6 +1,8 @@
 -- The words of the command line (this project's rule).
-use Rattle.std.specs.Prelude.{ℕ, List, [], ◌∷◌, Option, Some, None, option_and_then, option_map, if◌then◌else◌, codes}
+use Rattle.std.specs.Prelude.{ℕ, Bool, List, [], ◌∷◌, Option, Some, None, option_and_then, option_map, if◌then◌else◌, codes}
 use Rattle.std.specs.Str.{bytes_eq}
+use Rattle.form_commands.specs.Writing.{Wanted}
+use Rattle.fuse_commands.specs.FormWords.{mends_of, wanted_of}
 use Rattle.fuse_commands.specs.Prelude.{named_device}
 use Rattle.pld_base.specs.declared.device_name.DeviceName.{DeviceName}
 
@@ -9,6 +11,8 @@ pub data Task : Type 0 where
   GradeFile : (device : DeviceName) → Task
   PortFile : (from to : DeviceName) → (output : List ℕ) → Task
   CompareFiles : (from to : DeviceName) → Task
+  ReadDump : (device : DeviceName) → (mends : Bool) → (output : List ℕ) → Task
+  WriteForm : (device : DeviceName) → (wanted : Wanted) → (output : List ℕ) → Task
 
 -- what words ask for: a task, and the names of the files that it reads, one or two
 pub record Command : Type 0 where
@@ -42,6 +46,18 @@ compare_words (from ∷ a ∷ to ∷ b ∷ []) =
     option_and_then (λ f. option_map (λ t. on_files (CompareFiles f t) a b) (named_device to)) (named_device from)
 compare_words _ = None
 
+-- read DEVICE IN OUT [mend]
+abbrev pub read_words : List (List ℕ) → Option Command
+read_words (device ∷ input ∷ output ∷ options) =
+    option_and_then (λ d. option_map (λ mends. on_file (ReadDump d mends output) input) (mends_of options)) (named_device device)
+read_words _ = None
+
+-- write DEVICE IN OUT FORM [sign TEXT] [secured]
+abbrev pub write_words : List (List ℕ) → Option Command
+write_words (device ∷ input ∷ output ∷ form ∷ options) =
+    option_and_then (λ d. option_map (λ wanted. on_file (WriteForm d wanted output) input) (wanted_of form options)) (named_device device)
+write_words _ = None
+
 -- ---- all commands
 
 -- the command that the words are
@@ -51,4 +67,6 @@ command_of (name ∷ words) =
     if bytes_eq name (codes "grade") then grade_words words
     else if bytes_eq name (codes "port") then port_words words
     else if bytes_eq name (codes "compare") then compare_words words
+    else if bytes_eq name (codes "read") then read_words words
+    else if bytes_eq name (codes "write") then write_words words
     else None

@@ -2,8 +2,10 @@
 
 ghost use Rattle.std.specs.Prelude.{◌≡◌, option_map};
 ghost use Rattle.fuse_commands.specs.View.{command_seen, texts};
-ghost use Rattle.fuse_commands.specs.Words.{command_of, compare_words, grade_words, port_words};
+ghost use Rattle.fuse_commands.specs.Words.{command_of, compare_words, grade_words, port_words, read_words, write_words};
 
+use crate::form_words::{mends_of, wanted_of};
+use form_commands::Wanted;
 use pld_base::DeviceName;
 
 /// What is done with the files of a command.
@@ -21,6 +23,18 @@ pub enum Task<'a> {
     Compare {
         from: DeviceName,
         to: DeviceName,
+    },
+    /// `read DEVICE IN OUT [mend]`
+    Read {
+        device: DeviceName,
+        mends: bool,
+        output: &'a str,
+    },
+    /// `write DEVICE IN OUT FORM [sign TEXT] [secured]`
+    Write {
+        device: DeviceName,
+        wanted: Wanted<'a>,
+        output: &'a str,
     },
 }
 
@@ -83,6 +97,46 @@ fn compare_words(words: &[String]) -> Option<Command<'_>>
     })
 }
 
+/// The command `read` of the words after it. Takes no memory.
+fn read_words(words: &[String]) -> Option<Command<'_>>
+    ensures { option_map command_seen result ≡ read_words (texts words.now) }
+{
+    let [device, input, output, options @ ..] = words else {
+        return None;
+    };
+    let device = DeviceName::named(device.as_bytes())?;
+    let mends = mends_of(options)?;
+    Some(Command {
+        task: Task::Read {
+            device,
+            mends,
+            output: output.as_str(),
+        },
+        first: input.as_str(),
+        second: None,
+    })
+}
+
+/// The command `write` of the words after it. Takes no memory.
+fn write_words(words: &[String]) -> Option<Command<'_>>
+    ensures { option_map command_seen result ≡ write_words (texts words.now) }
+{
+    let [device, input, output, form, options @ ..] = words else {
+        return None;
+    };
+    let device = DeviceName::named(device.as_bytes())?;
+    let wanted = wanted_of(form.as_str(), options)?;
+    Some(Command {
+        task: Task::Write {
+            device,
+            wanted,
+            output: output.as_str(),
+        },
+        first: input.as_str(),
+        second: None,
+    })
+}
+
 /// The command that the words are. Takes no memory.
 pub fn command_of(words: &[String]) -> Option<Command<'_>>
     ensures { option_map command_seen result ≡ command_of (texts words.now) }
@@ -96,6 +150,10 @@ pub fn command_of(words: &[String]) -> Option<Command<'_>>
         port_words(rest)
     } else if name.as_str() == "compare" {
         compare_words(rest)
+    } else if name.as_str() == "read" {
+        read_words(rest)
+    } else if name.as_str() == "write" {
+        write_words(rest)
     } else {
         None
     }

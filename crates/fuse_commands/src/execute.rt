@@ -10,6 +10,7 @@ ghost use Rattle.fuse_commands.specs.Words.{command_of};
 use crate::command::{Command, Task, command_of};
 use crate::sources::{SourceFault, read_files};
 use crate::usage::other_ending;
+use form_commands::{read_ending, write_ending};
 use fuse_reports::{Ending, Outcome};
 use grade_report::grade_ending;
 use outside::{Files, WriteFault};
@@ -33,6 +34,16 @@ fn ending<'a>(
         Task::Grade(device) => grade_ending(alloc, device, first),
         Task::Port { from, to, output } => port_ending(alloc, from, to, output, first),
         Task::Compare { from, to } => compare_ending(alloc, from, to, first, second),
+        Task::Read {
+            device,
+            mends,
+            output,
+        } => read_ending(alloc, device, mends, output, first),
+        Task::Write {
+            device,
+            wanted,
+            output,
+        } => write_ending(alloc, device, wanted, output, first),
     }
 }
 

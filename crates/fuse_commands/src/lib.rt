@@ -3,6 +3,7 @@
 
 mod command;
 mod execute;
+mod form_words;
 mod running;
 mod sources;
 mod usage;

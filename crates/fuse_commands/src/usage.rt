@@ -13,6 +13,8 @@ use std::alloc::Global;
 const USAGE: &str = "usage: abel-fuses grade DEVICE IN
        abel-fuses port FROM IN TO OUT
        abel-fuses compare FROM A TO B
+       abel-fuses read DEVICE IN OUT [mend]
+       abel-fuses write DEVICE IN OUT FORM [sign TEXT] [secured]
        abel-fuses --help
        abel-fuses --version
 ";
