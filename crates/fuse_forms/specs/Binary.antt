@@ -1,4 +1,4 @@
--- The binary form of a list of fuses (MAME, the converter jedutil): their number in four bytes, the least first; then the fuses,
+-- The binary form of a list of fuses (MAME, the converter jedutil): their number in four bytes, the highest first; then the fuses,
 -- eight a byte, the first in its lowest bit.
 use Rattle.std.specs.Prelude.{◌≡◌, ◌==◌, ◌&&◌, not, true, ℕ, ◌+◌, ◌*◌, ◌/◌, ◌%◌, nat_le, nat_lt, ◌||◌, ◌≢◌, Bool, false, List, [], length, map, get_or}
 use Rattle.std.specs.List.{range_with_len}
@@ -6,13 +6,13 @@ use Rattle.fuse_forms.specs.Prelude.{FuseFile, Table, bits, contents, is_on}
 use Rattle.fuse_forms.specs.declared.binary_form.BinaryRead.{BinaryRead}
 use Rattle.fuse_forms.specs.declared.binary_form.BinaryRead.TheVariants as read
 
--- the number in the first two bytes
+-- the number in the last two of the four bytes
 abbrev pub count_of : List ℕ → ℕ
-count_of bytes = get_or bytes 0 0 + 256 * get_or bytes 1 0
+count_of bytes = get_or bytes 3 0 + 256 * get_or bytes 2 0
 
 -- the bytes begin so: with a number below 65,536 that is not 0
 abbrev pub is_binary : List ℕ → Bool
-is_binary bytes = nat_le 4 (length bytes) && (get_or bytes 2 0 == 0 && (get_or bytes 3 0 == 0 && not (count_of bytes == 0)))
+is_binary bytes = nat_le 4 (length bytes) && (get_or bytes 0 0 == 0 && (get_or bytes 1 0 == 0 && not (count_of bytes == 0)))
 
 -- how many bytes the form of so many fuses has
 abbrev pub binary_len : ℕ → ℕ

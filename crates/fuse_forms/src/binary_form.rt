@@ -20,18 +20,18 @@ fn byte_at(bytes: &[u8], place: usize) -> u32
     }
 }
 
-/// The number that the first two bytes say, the least first. Takes no memory.
+/// The number that the last two of the first four bytes say, the highest first. Takes no memory.
 pub fn count_of(bytes: &[u8]) -> u16
     ensures { result ≡ count_of bytes.now }
 {
-    (byte_at(bytes, 0) + 256 * byte_at(bytes, 1)) as u16
+    (byte_at(bytes, 3) + 256 * byte_at(bytes, 2)) as u16
 }
 
 /// Whether bytes begin as those of the binary form: with a number below 65,536 in four bytes, which is not 0. Takes no memory.
 pub fn is_binary(bytes: &[u8]) -> bool
     ensures { result ≡ is_binary bytes.now }
 {
-    bytes.len() >= 4 && byte_at(bytes, 2) == 0 && byte_at(bytes, 3) == 0 && count_of(bytes) != 0
+    bytes.len() >= 4 && byte_at(bytes, 0) == 0 && byte_at(bytes, 1) == 0 && count_of(bytes) != 0
 }
 
 /// How many bytes the form of so many fuses has. Takes no memory.

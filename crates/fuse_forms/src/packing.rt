@@ -24,10 +24,10 @@ fn packed(levels: &[bool], first: usize) -> u8
 /// The bytes of the form, which are compared with the levels by `binary`.
 fn packed_all(alloc: Global, levels: &[bool], count: u16) -> Result<Vec<u8>, OutOfMemory> {
     let mut bytes = Vec::with_capacity(alloc, binary_len(count))?;
-    bytes.push((count % 256) as u8)?;
+    bytes.push(0)?;
+    bytes.push(0)?;
     bytes.push((count / 256) as u8)?;
-    bytes.push(0)?;
-    bytes.push(0)?;
+    bytes.push((count % 256) as u8)?;
     for group in 0..binary_len(count) - 4 {
         bytes.push(packed(levels, 8 * group))?;
     }
