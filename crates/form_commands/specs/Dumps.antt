@@ -1,6 +1,6 @@
 -- What bytes say as a dump of a device, in whatever form (this project's rule).
 use Rattle.std.specs.Prelude.{◌≡◌, ◌≢◌, ℕ, Bool, true, false, List, [], ◌∷◌, ◌++◌, Ok, Some, length}
-use Rattle.form_commands.specs.Prelude.{FileRefusal, Finding, FuseFile, HasFixedLevels, IsBadFile, IsMadeBy, IsRefusedAs, SaysInBinary, Table, atf22v10c, binary_len, contents, count_of, file_of, gal22v10, is_binary, is_count, is_on, relisted, wrong_fixed}
+use Rattle.form_commands.specs.Prelude.{Finding, FuseFile, HasFixedLevels, IsBadFile, IsMadeBy, IsRefusedAs, SaysInBinary, Table, atf22v10c, binary_len, contents, count_of, file_of, gal22v10, is_binary, is_count, is_on, relisted, wrong_fixed}
 use Rattle.form_commands.specs.DumpLines.{DumpRefusal, WrongCount, WrongLength, NoFile, SpareFuse, WrongMode, dump_refusal_line}
 use Rattle.form_commands.specs.declared.dump.Dump.{Dump}
 use Rattle.form_commands.specs.declared.dump.Dump.TheVariants as dump
