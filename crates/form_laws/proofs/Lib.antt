@@ -1,0 +1,3 @@
+pub mod IdleFuses
+pub mod SameLogic
+pub mod SpareFuses
