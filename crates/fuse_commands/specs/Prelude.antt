@@ -6,4 +6,5 @@ pub use Rattle.fuse_reports.specs.Telling.{Puts, TakesFront, Tells}
 pub use Rattle.fuse_reports.specs.View.{ending_seen, view}
 pub use Rattle.devices.specs.Devices.{table_of}
 pub use Rattle.outside.specs.Outside.{Map, SameBut, SameFiles, bytes_at}
+pub use Rattle.jedec_file.specs.Fields.{short_number}
 pub use Rattle.pld_base.specs.DeviceNames.{named_device}

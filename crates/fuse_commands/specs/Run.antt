@@ -3,18 +3,20 @@ use Rattle.std.specs.Prelude.{◌≡◌, ℕ, ◌⊎◌, List, Option, Some, Non
 use Rattle.fuse_commands.specs.Prelude.{Asked, Ending, HasRisen, HasStayed, Heard, Map, Puts, SameBut, SameFiles, TakesFront, Tells, bytes_at, ends, file_fault, memory_line, table_of, too_long_line}
 use Rattle.fuse_commands.specs.Sources.{HasLongFile, IsInput, second_of}
 use Rattle.fuse_commands.specs.Usage.{other_ending}
-use Rattle.fuse_commands.specs.Words.{Command, Task, CompareFiles, GradeFile, PortFile, ReadDump, WriteForm, command_of}
+use Rattle.fuse_commands.specs.Words.{Command, Task, CompareFiles, GradeFile, PortFile, ReadDump, VectorFile, WriteForm, command_of}
 use Rattle.form_commands.specs.Reading.{ReadEnds}
 use Rattle.form_commands.specs.Writing.{WriteEnds}
 use Rattle.grade_report.specs.Grading.{GradeEnds}
 use Rattle.pair_commands.specs.CompareCommand.{CompareEnds}
 use Rattle.pair_commands.specs.PortCommand.{PortEnds}
+use Rattle.vector_report.specs.Vectoring.{VectorsEnd}
 
 -- ---- by task: the only definition of a run that names tasks
 
 -- a task ends so, with the bytes of its files
 abbrev pub Ends : Task → (first second : List ℕ) → Ending → Type 0
 Ends (GradeFile device) first second e = GradeEnds (table_of device) first e
+Ends (VectorFile device most output) first second e = VectorsEnd (table_of device) most first output e
 Ends (PortFile from to output) first second e = PortEnds from to output first e
 Ends (CompareFiles from to) first second e = CompareEnds from to first second e
 Ends (ReadDump device mends output) first second e = ReadEnds (table_of device) mends output first e

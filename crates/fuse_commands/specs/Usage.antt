@@ -7,6 +7,7 @@ use Rattle.fuse_commands.specs.Prelude.{Ending, ends}
 unfoldable pub usage : List ℕ
 usage =
     codes "usage: abel-fuses grade DEVICE IN\n"
+    ++ codes "       abel-fuses vectors [-at-most N] DEVICE IN OUT\n"
     ++ codes "       abel-fuses port FROM IN TO OUT\n"
     ++ codes "       abel-fuses compare FROM A TO B\n"
     ++ codes "       abel-fuses read DEVICE IN OUT [mend]\n"

@@ -3,12 +3,13 @@ use Rattle.std.specs.Prelude.{ℕ, Bool, List, [], ◌∷◌, Option, Some, None
 use Rattle.std.specs.Str.{bytes_eq}
 use Rattle.form_commands.specs.Writing.{Wanted}
 use Rattle.fuse_commands.specs.FormWords.{mends_of, wanted_of}
-use Rattle.fuse_commands.specs.Prelude.{named_device}
+use Rattle.fuse_commands.specs.Prelude.{named_device, short_number}
 use Rattle.pld_base.specs.declared.device_name.DeviceName.{DeviceName}
 
 -- what is done with the files of a command
 pub data Task : Type 0 where
   GradeFile : (device : DeviceName) → Task
+  VectorFile : (device : DeviceName) → (most : ℕ) → (output : List ℕ) → Task
   PortFile : (from to : DeviceName) → (output : List ℕ) → Task
   CompareFiles : (from to : DeviceName) → Task
   ReadDump : (device : DeviceName) → (mends : Bool) → (output : List ℕ) → Task
@@ -33,6 +34,19 @@ on_files task first second = record { task = task; first = first; second = Some 
 abbrev pub grade_words : List (List ℕ) → Option Command
 grade_words (device ∷ input ∷ []) = option_map (λ d. on_file (GradeFile d) input) (named_device device)
 grade_words _ = None
+
+-- with so many vectors at most
+abbrev pub vectors_of : (most : ℕ) → (device input output : List ℕ) → Option Command
+vectors_of most device input output = option_map (λ d. on_file (VectorFile d most output) input) (named_device device)
+
+-- vectors DEVICE IN OUT, and vectors -at-most N DEVICE IN OUT
+abbrev pub vectors_words : List (List ℕ) → Option Command
+vectors_words (device ∷ input ∷ output ∷ []) = vectors_of 9999 device input output
+vectors_words (option ∷ number ∷ device ∷ input ∷ output ∷ []) =
+    if bytes_eq option (codes "-at-most")
+    then option_and_then (λ most. vectors_of most device input output) (short_number number)
+    else None
+vectors_words _ = None
 
 -- port FROM IN TO OUT
 abbrev pub port_words : List (List ℕ) → Option Command
@@ -65,6 +79,7 @@ abbrev pub command_of : List (List ℕ) → Option Command
 command_of [] = None
 command_of (name ∷ words) =
     if bytes_eq name (codes "grade") then grade_words words
+    else if bytes_eq name (codes "vectors") then vectors_words words
     else if bytes_eq name (codes "port") then port_words words
     else if bytes_eq name (codes "compare") then compare_words words
     else if bytes_eq name (codes "read") then read_words words

@@ -1,11 +1,12 @@
 //! The words of the command line.
 
-ghost use Rattle.std.specs.Prelude.{◌≡◌, option_map};
+ghost use Rattle.std.specs.Prelude.{◌≡◌, option_map, string_bytes};
 ghost use Rattle.fuse_commands.specs.View.{command_seen, texts};
-ghost use Rattle.fuse_commands.specs.Words.{command_of, compare_words, grade_words, port_words, read_words, write_words};
+ghost use Rattle.fuse_commands.specs.Words.{command_of, compare_words, grade_words, port_words, read_words, vectors_of, vectors_words, write_words};
 
 use crate::form_words::{mends_of, wanted_of};
 use form_commands::Wanted;
+use jedec_reader::short_number;
 use pld_base::DeviceName;
 
 /// What is done with the files of a command.
@@ -13,6 +14,12 @@ use pld_base::DeviceName;
 pub enum Task<'a> {
     /// `grade DEVICE IN`
     Grade(DeviceName),
+    /// `vectors [-at-most N] DEVICE IN OUT`
+    Vectors {
+        device: DeviceName,
+        most: u16,
+        output: &'a str,
+    },
     /// `port FROM IN TO OUT`
     Port {
         from: DeviceName,
@@ -61,6 +68,39 @@ fn grade_words(words: &[String]) -> Option<Command<'_>>
     })
 }
 
+/// The command `vectors` with so many vectors at most.
+fn vectors_of<'a>(
+    most: u16,
+    device: &'a String,
+    input: &'a String,
+    output: &'a String,
+) -> Option<Command<'a>>
+    ensures { option_map command_seen result ≡ vectors_of most (string_bytes device.now) (string_bytes input.now) (string_bytes output.now) }
+{
+    let device = DeviceName::named(device.as_bytes())?;
+    Some(Command {
+        task: Task::Vectors {
+            device,
+            most,
+            output: output.as_str(),
+        },
+        first: input.as_str(),
+        second: None,
+    })
+}
+
+/// The command `vectors` of the words after it. Takes no memory.
+fn vectors_words(words: &[String]) -> Option<Command<'_>>
+    ensures { option_map command_seen result ≡ vectors_words (texts words.now) }
+{
+    match words {
+        [device, input, output] => vectors_of(9_999, device, input, output),
+        [option, number, device, input, output] if option.as_str() == "-at-most" => {
+            vectors_of(short_number(number.as_bytes())?, device, input, output)
+        }
+        _ => None,
+    }
+}
 /// The command `port` of the words after it. Takes no memory.
 fn port_words(words: &[String]) -> Option<Command<'_>>
     ensures { option_map command_seen result ≡ port_words (texts words.now) }
@@ -146,6 +186,8 @@ pub fn command_of(words: &[String]) -> Option<Command<'_>>
     };
     if name.as_str() == "grade" {
         grade_words(rest)
+    } else if name.as_str() == "vectors" {
+        vectors_words(rest)
     } else if name.as_str() == "port" {
         port_words(rest)
     } else if name.as_str() == "compare" {

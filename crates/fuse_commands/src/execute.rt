@@ -17,6 +17,7 @@ use outside::{Files, WriteFault};
 use pair_commands::{compare_ending, port_ending};
 use pld_base::OutOfMemory;
 use std::alloc::Global;
+use vector_report::vectors_ending;
 
 /// How a task ends with the bytes of its files, of which the second are none where it reads one.
 fn ending<'a>(
@@ -32,6 +33,11 @@ fn ending<'a>(
 {
     match task {
         Task::Grade(device) => grade_ending(alloc, device, first),
+        Task::Vectors {
+            device,
+            most,
+            output,
+        } => vectors_ending(alloc, device, first, most, output),
         Task::Port { from, to, output } => port_ending(alloc, from, to, output, first),
         Task::Compare { from, to } => compare_ending(alloc, from, to, first, second),
         Task::Read {

@@ -11,6 +11,7 @@ use std::alloc::Global;
 
 /// The words that the program takes.
 const USAGE: &str = "usage: abel-fuses grade DEVICE IN
+       abel-fuses vectors [-at-most N] DEVICE IN OUT
        abel-fuses port FROM IN TO OUT
        abel-fuses compare FROM A TO B
        abel-fuses read DEVICE IN OUT [mend]
