@@ -16,7 +16,7 @@ use Rattle.expr_bits.proofs.Linked.{IsLinkedIf, expression_linked}
 
 -- ---- what reads no signal has one value at all points
 
-neither : (a b : Bool) → (a || b) ≡ false → (a ≡ false) × (b ≡ false)
+pub neither : (a b : Bool) → (a || b) ≡ false → (a ≡ false) × (b ≡ false)
 neither false b h = (refl, h)
 neither true b h = absurd cc
 

@@ -6,7 +6,7 @@ ghost use Rattle.set_expr.specs.Answer.{AreIn};
 ghost use Rattle.state_diagrams.specs.{all_zero, state_number};
 
 use abel_tree::Expr;
-use bit_expr::{ExprId, Exprs};
+use bit_expr::{ExprFault, ExprId, Exprs};
 use pld_base::{OutOfMemory, Point};
 use pld_device::Device;
 use section_targets::SectionScope;
@@ -38,7 +38,7 @@ fn places_number(exprs: &Exprs, places: &[Option<ExprId>]) -> u32
 }
 
 /// The number of an expression that reads no signal and of which nothing is refused. Its bits are built in an arena of
-/// their own, which only lack of memory can end, since no node is made.
+/// their own. They make no node, so that no limit is passed.
 pub(crate) fn state_number<D: Device>(
     alloc: Global,
     scope: &SectionScope<'_, D>,
@@ -54,6 +54,7 @@ pub(crate) fn state_number<D: Device>(
             Shape::Number(number) => Ok(number),
             _ => Ok(places_number(&exprs, shaped.places.as_slice())),
         },
-        Err(_) => Err(OutOfMemory),
+        Err(ExprFault::NodeLimit) => unreachable!(),
+        Err(ExprFault::OutOfMemory) => Err(OutOfMemory),
     }
 }

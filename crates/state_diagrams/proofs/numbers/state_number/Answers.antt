@@ -1,8 +1,9 @@
--- A number of its own, and the number of positions.
+-- A number of its own, the number of positions, and why no limit is passed.
 use Rattle.std.proofs.Common.{◌≤◌, Option, List, length, map, refl, sym, ap, ◌∙◌, subst}
 use Rattle.state_diagrams.proofs.Common.{ExprId, arena, view, number_with, term_of, constant_of, context_for, formula_value, bits_at, all_zero}
 use Rattle.set_expr.specs.Answer.{AreIn}
 use Rattle.state_diagrams.proofs.NumberLaws.{few_positions, narrow, places_say}
+use Rattle.state_diagrams.proofs.StillBits.{never_past}
 use Rattle.state_diagrams.proofs.numbers.state_number.Goals as goal
 
 pub places_number-requires : goal.places_number-requires
@@ -17,6 +18,10 @@ places_number-requires g c =
       few = subst (λ (ps : List (Option ExprId)). length ps ≤ 32) (sym c.as_slice.ensures)
           (subst (λ k. k ≤ 32) (sym h.positions) (few_positions s.shape (constant_of d (term_of d.known t)) h.shape (narrow n d t refl c.requires.accepted)));
     }
+
+pub unreachable-requires : goal.unreachable-requires
+unreachable-requires g c =
+    never_past (context_for g.D.Device.table c.args.scope.now) (view c.args.value.now) c.new-exprs.result c.bits.new.exprs c.bits.result c.in-Err-NodeLimit.field-0 c.requires.still c.bits.ensures c.in-Err-NodeLimit.is c.in-Err-NodeLimit.field-0-is
 
 pub returns-in-Ok : goal.returns-in-Ok
 returns-in-Ok g c =
