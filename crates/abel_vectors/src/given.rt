@@ -12,7 +12,7 @@ use std::alloc::Global;
 use truth_tables::Mark;
 
 /// The character that a mark gives at a position of a header, with its pin; None if it gives none.
-fn char_at(scope: &Scope<'_>, role: Role, signal: Option<u32>, mark: Mark) -> Option<(u8, u8)>
+fn char_at(scope: &Scope<'_>, role: Role, signal: Option<usize>, mark: Mark) -> Option<(u8, u8)>
     ensures { result ≡ position_gives (entries_of scope.now) (char_in role) signal (view_mark mark) }
 {
     let (pin, negated) = pin_at(scope, signal)?;
@@ -25,7 +25,7 @@ pub(crate) fn side_chars(
     alloc: Global,
     scope: &Scope<'_>,
     role: Role,
-    signals: &[Option<u32>],
+    signals: &[Option<usize>],
     marks: &[Mark],
 ) -> Result<Vec<(u8, u8)>, OutOfMemory>
     ensures { IfOk result (λ list. list.items ≡ chars_read (entries_of scope.now) (char_in role) signals.now marks.now) }
@@ -39,7 +39,7 @@ pub(crate) fn side_chars(
 }
 
 /// Whether a mark is `.C.` at a position that is a pin.
-fn is_pulsed(signal: Option<u32>, mark: Mark) -> bool
+fn is_pulsed(signal: Option<usize>, mark: Mark) -> bool
     ensures { result ≡ position_pulses signal (view_mark mark) }
 {
     match signal {
@@ -49,7 +49,7 @@ fn is_pulsed(signal: Option<u32>, mark: Mark) -> bool
 }
 
 /// Whether `.C.` is at a position of a side that is a pin.
-pub(crate) fn tests_pulse(signals: &[Option<u32>], marks: &[Mark]) -> bool
+pub(crate) fn tests_pulse(signals: &[Option<usize>], marks: &[Mark]) -> bool
     ensures { result ≡ pulse_read signals.now marks.now }
 {
     signals

@@ -13,7 +13,7 @@ use std::alloc::Global;
 use truth_tables::header_signals;
 
 /// Whether each position is X or a pin.
-fn are_pins_or_unknown(scope: &Scope<'_>, signals: &[Option<u32>]) -> bool
+fn are_pins_or_unknown(scope: &Scope<'_>, signals: &[Option<usize>]) -> bool
     ensures { result ≡ list_all (is_pin_or_unknown (entries_of scope.now)) signals.now }
 {
     signals.iter().all(|signal| signal.is_none() || pin_at(scope, *signal).is_some())
@@ -26,7 +26,7 @@ pub fn read_side(
     scope: &Scope<'_>,
     place: Place,
     side: &Expr,
-) -> Result<Result<Vec<Option<u32>>, SectionFault>, OutOfMemory>
+) -> Result<Result<Vec<Option<usize>>, SectionFault>, OutOfMemory>
     ensures { IfOk result (λ s. (d : Context) → IsOver scope.now d → IsSide d place (view side.now) s) }
 {
     let found = scope.check(alloc, side)?;

@@ -23,11 +23,11 @@ fn pin_of(meaning: &Meaning) -> Option<(u8, bool)>
 }
 
 /// The same of the name at a position of a header; None at X too.
-pub(crate) fn pin_at(scope: &Scope<'_>, signal: Option<u32>) -> Option<(u8, bool)>
+pub(crate) fn pin_at(scope: &Scope<'_>, signal: Option<usize>) -> Option<(u8, bool)>
     ensures { result ≡ refused.pin_at (entries_of scope.now) signal }
 {
     let list = scope.list();
-    let number = signal? as usize;
+    let number = signal?;
     if number < list.len() {
         pin_of(&list[number].meaning)
     } else {

@@ -20,8 +20,8 @@ use truth_tables::{Entry, Mark, read_entry};
 #[derive(Drop)]
 pub(crate) struct Header<'a> {
     pub section: &'a Vectors,
-    pub driven: &'a [Option<u32>],
-    pub tested: &'a [Option<u32>],
+    pub driven: &'a [Option<usize>],
+    pub tested: &'a [Option<usize>],
 }
 
 /// The vector of a row whose entries meet the header; None if their marks are no vector's.

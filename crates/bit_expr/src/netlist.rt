@@ -27,7 +27,7 @@ pub struct Control {
 #[derive(Clone, Copy, PartialEq, Eq)]
 pub struct CellWanted {
     pub cell: u8,
-    pub name: u32,
+    pub name: usize,
     pub place: Place,
     pub registered: bool,
     pub buffer: bool,

@@ -15,7 +15,7 @@ use std::alloc::Global;
 #[derive(Drop)]
 pub(crate) struct ResetPath {
     pub(crate) place: Place,
-    pub(crate) path: ListOf<u32>,
+    pub(crate) path: ListOf<usize>,
 }
 
 impl Ranked for ResetPath {
@@ -36,7 +36,7 @@ impl Ranked for ResetPath {
 fn path_of(
     alloc: Global,
     exprs: &Exprs,
-    signals: &[u32],
+    signals: &[usize],
     links: &[Link],
     wanted: &CellWanted,
 ) -> Result<Option<ResetPath>, OutOfMemory>
@@ -60,7 +60,7 @@ fn path_of(
 fn first_path(
     alloc: Global,
     exprs: &Exprs,
-    signals: &[u32],
+    signals: &[usize],
     links: &[Link],
     cells: &[CellWanted],
 ) -> Result<Option<ResetPath>, OutOfMemory>
@@ -83,7 +83,7 @@ pub(crate) fn check_chains(
     alloc: Global,
     names: &Names,
     net: &Netlist,
-    signals: &[u32],
+    signals: &[usize],
     links: &[Link],
 ) -> Result<(), DesignFault>
     requires signals { AreSignals signals.now links.now }
@@ -100,7 +100,7 @@ pub(crate) fn check_chains(
     match signal_loop(alloc, signals, links)? {
         Some(chain) => {
             let first = chain.as_slice()[0];
-            let place = names.list.as_slice()[first as usize].place;
+            let place = names.list.as_slice()[first].place;
             Err(DesignFault::Loop(place, ListOf::from_vec(chain)))
         }
         None => match first_path(alloc, &net.exprs, signals, links, net.cells.as_slice())? {

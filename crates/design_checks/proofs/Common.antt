@@ -31,7 +31,7 @@ pub use Rattle.pld_base.specs.declared.place.Place.{Place}
 pub use Rattle.pld_device.specs.Table.{Table, cell_at, no_cell}
 pub use Rattle.section_targets.proofs.NameTerms.{known_more, known_names, placed, range_targets, targets_more, term_at, term_or}
 pub use Rattle.section_targets.proofs.SignalLists.{extended_targets, side_all, side_length, some_append}
-pub use Rattle.set_expr.proofs.FoundMembers.{front_more, whole_front}
+pub use Rattle.set_expr.proofs.FoundMembers.{front_long, front_more, whole_front}
 pub use Rattle.set_expr.specs.Answer.{IsContextOf}
 pub use Rattle.set_expr.specs.Contexts.{context_for}
 pub use Rattle.set_expr.specs.declared.contributions.Contribution.{Contribution}

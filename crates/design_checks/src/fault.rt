@@ -12,26 +12,26 @@ pub enum DesignFault {
     /// A registered signal on a cell that can't register, or a combinational one on a cell that must; its first
     /// target.
     #[error("a cell that can't be so")]
-    WrongKind(Place, u32),
+    WrongKind(Place, usize),
     /// A node that is registered; its declaration.
     #[error("a node that is registered")]
-    RegisteredNode(Place, u32),
+    RegisteredNode(Place, usize),
     /// An extension that the signal does not have, or an equation that says otherwise than the device does; its use.
     #[error("no such control")]
-    NoSuchControl(Place, u32),
+    NoSuchControl(Place, usize),
     /// A control that is assigned by `?=`; the target.
     #[error("a control that may be either")]
-    DontCareControl(Place, u32),
+    DontCareControl(Place, usize),
     /// A use of what no column of the device carries.
     #[error("no column for what is read")]
-    NoReadPath(Place, u32),
+    NoReadPath(Place, usize),
     /// Signals, each of which reads the next, and the last the first, which is the earliest declared on any such loop;
     /// its declaration.
     #[error("signals that wait for themselves")]
-    Loop(Place, ListOf<u32>),
+    Loop(Place, ListOf<usize>),
     /// Signals from a reset to a register, each of which reads the next; the first target of the reset.
     #[error("a reset that reads a register")]
-    ResetReadsRegister(Place, ListOf<u32>),
+    ResetReadsRegister(Place, ListOf<usize>),
     /// Memory ran out.
     #[error("out of memory")]
     OutOfMemory,

@@ -22,9 +22,9 @@ fn signal_used<D: Device>(
     device: &Loaded<D>,
     rule: UseRule,
     declared: &Declared,
-    number: u32,
+    number: usize,
     extension: Option<Extension>,
-) -> Option<u32>
+) -> Option<usize>
     ensures { result ≡ signal_used D.table rule (view_declared declared.now) number extension }
 {
     if refuses_use::<D>(device, rule, declared, extension) {
@@ -39,7 +39,7 @@ fn signal_uses<D: Device>(
     device: &Loaded<D>,
     rule: UseRule,
     declared: &Declared,
-    number: u32,
+    number: usize,
 ) -> NameUses
     ensures { result ≡ signal_kept D.table rule (view_declared declared.now) number }
 {
@@ -88,7 +88,7 @@ fn learn<D: Device>(
     device: &Loaded<D>,
     names: &KeptUses<'_, '_>,
     declared: &Declared,
-    number: u32,
+    number: usize,
 ) -> Result<NameUses, OutOfMemory>
     ensures { IfOk result (λ n. (d : Context) → d.device ≡ D.table
         → name_at d number ≡ view_declared declared.now → Knows d names.now
@@ -114,8 +114,7 @@ pub(crate) fn learn_names<D: Device>(
     ensures { IfOk result (λ list. AreUsesOf rule (context_for D.table scope.now) scope.now list.items) }
 {
     let mut list = Vec::new(alloc);
-    let mut number = 0u32;
-    for declared in scope.list() {
+    for (number, declared) in scope.list().iter().enumerate() {
         let names = KeptUses {
             rule,
             scope: &*scope,
@@ -123,7 +122,6 @@ pub(crate) fn learn_names<D: Device>(
         };
         let uses = learn::<D>(alloc, device, &names, declared, number)?;
         list.push(uses)?;
-        number = number.checked_add(1).ok_or(OutOfMemory)?;
     }
     Ok(list)
 }

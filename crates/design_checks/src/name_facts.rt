@@ -1,13 +1,12 @@
 //! What is declared of a name.
 
-ghost use Rattle.std.specs.Prelude.{◌≡◌, IfOk};
+ghost use Rattle.std.specs.Prelude.{◌≡◌};
 ghost use Rattle.design_checks.specs.Prelude.{entries_of, view_declared, first_refusal};
 ghost use Rattle.design_checks.specs.{registered_nodes, use_order};
 ghost use Rattle.abel_meaning.specs.SignalPins.{has_wrong_kind, has_wrong_kind_on, is_registered_node, is_wrong_cell};
 
 use crate::refused::{RefusedUse, told_if};
 use abel_tree::{Declared, Meaning, earlier};
-use pld_base::OutOfMemory;
 use pld_device::{Cell, Device, Kinds, Loaded};
 use set_expr::Scope;
 
@@ -56,16 +55,13 @@ pub fn is_registered_node(declared: &Declared) -> bool
 }
 
 /// The first declaration of a node that is registered: by its attribute, or by an assignment on the clock.
-pub fn registered_node(scope: &Scope<'_>) -> Result<Option<RefusedUse>, OutOfMemory>
-    ensures { IfOk result (λ f. f ≡ first_refusal use_order
-        (registered_nodes 0 (entries_of scope.now))) }
+pub fn registered_node(scope: &Scope<'_>) -> Option<RefusedUse>
+    ensures { result ≡ first_refusal use_order (registered_nodes 0 (entries_of scope.now)) }
 {
     let mut first = None;
-    let mut number = 0u32;
-    for declared in scope.list() {
+    for (number, declared) in scope.list().iter().enumerate() {
         let refused = is_registered_node(declared);
         first = earlier(first, told_if(refused, declared.place, number));
-        number = number.checked_add(1).ok_or(OutOfMemory)?;
     }
-    Ok(first)
+    first
 }

@@ -13,15 +13,15 @@ use set_expr::Scope;
 /// the positions of its value are.
 #[derive(Clone, Copy, PartialEq, Eq)]
 pub(crate) struct NameUses {
-    pub(crate) bare: Option<u32>,
-    pub(crate) q: Option<u32>,
-    pub(crate) fb: Option<u32>,
-    pub(crate) pin: Option<u32>,
-    pub(crate) clk: Option<u32>,
-    pub(crate) oe: Option<u32>,
-    pub(crate) ar: Option<u32>,
-    pub(crate) sp: Option<u32>,
-    pub(crate) d: Option<u32>,
+    pub(crate) bare: Option<usize>,
+    pub(crate) q: Option<usize>,
+    pub(crate) fb: Option<usize>,
+    pub(crate) pin: Option<usize>,
+    pub(crate) clk: Option<usize>,
+    pub(crate) oe: Option<usize>,
+    pub(crate) ar: Option<usize>,
+    pub(crate) sp: Option<usize>,
+    pub(crate) d: Option<usize>,
     pub(crate) positions: Positions,
 }
 
@@ -45,7 +45,7 @@ impl NameUses {
     }
 
     /// The first signal whose use is refused if the name is with this extension.
-    fn under(&self, extension: Option<Extension>) -> Option<u32>
+    fn under(&self, extension: Option<Extension>) -> Option<usize>
         ensures { result ≡ use_under self.now extension }
     {
         match extension {
@@ -90,12 +90,12 @@ impl<'a, 'n> KeptUses<'a, 'n> {
     {
         match self.scope.get(text) {
             None => NameUses::none(),
-            Some(name) => self.at(name.number as usize),
+            Some(name) => self.at(name.number),
         }
     }
 
     /// The first signal whose use is refused if the name is with this extension.
-    pub(crate) fn read(&self, text: &[u8], extension: Option<Extension>) -> Option<u32>
+    pub(crate) fn read(&self, text: &[u8], extension: Option<Extension>) -> Option<usize>
         ensures { (d : Context) → Knows d self.now
             → result ≡ read_of self.now.rule d (term_named d.known text.now) extension }
     {

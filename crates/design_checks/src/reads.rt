@@ -16,7 +16,7 @@ pub(crate) fn first_used(
     names: &KeptUses<'_, '_>,
     used: &NameUse<'_>,
     outer: Option<Extension>,
-) -> Result<Option<u32>, OutOfMemory>
+) -> Result<Option<usize>, OutOfMemory>
     ensures { IfOk result (λ s. (d : Context) → Knows d names.now
         → s ≡ first_read names.now.rule d (reads_used d.known outer (view_use used.now))) }
 {
@@ -41,7 +41,7 @@ pub(crate) fn first_in(
     names: &KeptUses<'_, '_>,
     uses: &[NameUse<'_>],
     extension: Option<Extension>,
-) -> Result<Option<u32>, OutOfMemory>
+) -> Result<Option<usize>, OutOfMemory>
     ensures { IfOk result (λ s. (d : Context) → Knows d names.now
         → s ≡ first_read names.now.rule d (flat_map (reads_used d.known extension) (map view_use uses.now))) }
 {

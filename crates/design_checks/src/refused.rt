@@ -12,7 +12,7 @@ use pld_base::Place;
 #[derive(Clone, Copy, PartialEq, Eq)]
 pub struct RefusedUse {
     pub place: Place,
-    pub name: u32,
+    pub name: usize,
 }
 
 impl Ranked for RefusedUse {
@@ -30,7 +30,7 @@ impl Ranked for RefusedUse {
 }
 
 /// A place, if it is refused.
-pub(crate) fn told_if(refused: bool, place: Place, name: u32) -> Option<RefusedUse>
+pub(crate) fn told_if(refused: bool, place: Place, name: usize) -> Option<RefusedUse>
     ensures { result ≡ first_refusal use_order (told_if refused (record { place = place; name = name })) }
 {
     if refused {
@@ -41,7 +41,7 @@ pub(crate) fn told_if(refused: bool, place: Place, name: u32) -> Option<RefusedU
 }
 
 /// The use of a signal at a place, if there is one.
-pub(crate) fn use_at(place: Place, name: Option<u32>) -> Option<RefusedUse>
+pub(crate) fn use_at(place: Place, name: Option<usize>) -> Option<RefusedUse>
     ensures { result ≡ use_at place name }
 {
     match name {

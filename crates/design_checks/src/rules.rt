@@ -86,7 +86,7 @@ pub fn first_refused<D: Device>(
     let names = scope.scope().list();
     let mut first = None;
     for given in found.list.as_slice() {
-        let declared = &names[given.target.signal as usize];
+        let declared = &names[given.target.signal];
         let refused = refuses::<D>(scope.device(), rule, &found.exprs, declared, given);
         first = earlier(first, told_if(refused, given.place, given.target.signal));
     }

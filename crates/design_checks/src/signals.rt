@@ -66,7 +66,7 @@ pub fn check_signals<D: Device>(
     if let Some(it) = kinds {
         return Err(DesignFault::WrongKind(it.place, it.name));
     }
-    let nodes = registered_node(scope.scope())?;
+    let nodes = registered_node(scope.scope());
     if let Some(it) = nodes {
         return Err(DesignFault::RegisteredNode(it.place, it.name));
     }

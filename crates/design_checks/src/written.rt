@@ -52,7 +52,7 @@ fn refused_aim<D: Device>(
 ) -> Option<RefusedUse>
     ensures { result ≡ first_refusal use_order (aim_refused (context_for D.table scope.now) extension written aim) }
 {
-    let refused = !written && is_compared_at::<D>(device, scope, extension, aim.signal as usize);
+    let refused = !written && is_compared_at::<D>(device, scope, extension, aim.signal);
     told_if(refused, aim.place, aim.signal)
 }
 

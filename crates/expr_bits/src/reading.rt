@@ -36,14 +36,14 @@ fn source_bit(exprs: &mut Exprs, reading: Option<Reading>) -> Result<ExprId, Exp
 pub(crate) fn signal_source<D: Device>(
     device: &Loaded<D>,
     scope: &Scope<'_>,
-    signal: u32,
+    signal: usize,
     extension: Option<Extension>,
 ) -> Option<Reading>
     ensures source { (d : Context) → IsContextOf D.table scope.now d → view_reading result ≡ source_of d signal extension }
     ensures leaf { HasLeaf result }
 {
     scope.are_placed();
-    match scope.list().get(signal as usize) {
+    match scope.list().get(signal) {
         Some(declared) => source_of::<D>(device, declared, extension),
         None => None,
     }
@@ -55,7 +55,7 @@ pub fn read_signal<D: Device>(
     device: &Loaded<D>,
     scope: &Scope<'_>,
     exprs: &mut Exprs,
-    signal: u32,
+    signal: usize,
     extension: Option<Extension>,
 ) -> Result<ExprId, ExprFault>
     ensures { (d : Context) → IsContextOf D.table scope.now d → Makes ShowsOne exprs.old exprs.new result (make_source (source_of d signal extension)) }
@@ -69,7 +69,7 @@ pub(crate) fn read<D: Device>(
     alloc: Global,
     on: &OnDevice<'_, D>,
     exprs: &mut Exprs,
-    signal: u32,
+    signal: usize,
     extension: Option<Extension>,
 ) -> Result<Bits, ExprFault>
     ensures { (d : Context) → IsContextOf D.table on.now.scope.now d → Makes IsPart exprs.old exprs.new result (term_part d (term.Read signal extension)) }

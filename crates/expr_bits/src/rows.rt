@@ -30,10 +30,10 @@ impl Row {
 }
 
 /// What the name with this number reads, of the names that have rows.
-pub(crate) fn reads_at(rows: &[Row], number: u32) -> Reads
+pub(crate) fn reads_at(rows: &[Row], number: usize) -> Reads
     ensures { result ≡ reads_at rows.now number }
 {
-    match rows.get(number as usize) {
+    match rows.get(number) {
         Some(row) => row.reads,
         None => Reads::none(),
     }
@@ -42,12 +42,12 @@ pub(crate) fn reads_at(rows: &[Row], number: u32) -> Reads
 /// The bits that are kept of a name under an extension.
 pub(crate) fn bits_at<'a>(
     rows: &'a [Row],
-    number: u32,
+    number: usize,
     extension: Option<Extension>,
 ) -> Option<&'a Bits>
     ensures { (es : List Entry) (d : Context) → AreRows es d 0 rows.now → IfSome result (λ b. IsKept d b.now (named_term es number extension)) }
 {
-    let Some(row) = rows.get(number as usize) else {
+    let Some(row) = rows.get(number) else {
         return None;
     };
     if row.reads.leaf(extension) {

@@ -15,7 +15,7 @@ pub(crate) enum Step {
     /// `.X.`
     Unknown,
     /// What a signal's name reads, or what its extension names.
-    Read(u32, Option<Extension>),
+    Read(usize, Option<Extension>),
     /// `!` or `-` before a value.
     Under(Unary),
     /// An operator over two values.
@@ -52,7 +52,7 @@ impl Outer {
 pub(crate) enum Work<'a> {
     Whole(&'a Expr, Outer),
     Members(&'a [Member], Outer),
-    Named(u32, Option<Extension>),
+    Named(usize, Option<Extension>),
     Do(Step),
 }
 
@@ -65,7 +65,7 @@ pub(crate) fn name_work<'a>(scope: &Scope<'a>, text: &[u8], outer: Outer) -> Wor
     let Some(name) = scope.get(text) else {
         return Work::Do(Step::Number(0));
     };
-    if name.number as usize >= outer.count {
+    if name.number >= outer.count {
         Work::Do(Step::Number(0))
     } else {
         Work::Named(name.number, outer.extension)
@@ -73,17 +73,20 @@ pub(crate) fn name_work<'a>(scope: &Scope<'a>, text: &[u8], outer: Outer) -> Wor
 }
 
 /// What a meaning is built as, of the name with this number.
-fn meant_work<'a>(meaning: &'a Meaning, number: u32, extension: Option<Extension>) -> Work<'a>
+fn meant_work<'a>(meaning: &'a Meaning, number: usize, extension: Option<Extension>) -> Work<'a>
     ensures comes { (es : List Entry) → ComesTo es result (extended_if extension (term_meant (known_of (take number es)) number (view_meaning meaning.now))) }
     ensures weight { (es : List Entry) → work_weight es result ≡ kind_weight (name_weight es number) (view_meaning meaning.now) }
 {
     match meaning {
         Meaning::Pin { pin: _, negated: _ } => Work::Do(Step::Read(number, extension)),
         Meaning::Node(_) => Work::Do(Step::Read(number, extension)),
-        Meaning::Constant(expr) => {
-            let count = number as usize;
-            Work::Whole(expr, Outer { extension, count })
-        }
+        Meaning::Constant(expr) => Work::Whole(
+            expr,
+            Outer {
+                extension,
+                count: number,
+            },
+        ),
         Meaning::DeviceName => Work::Do(Step::Number(0)),
     }
 }
@@ -91,13 +94,13 @@ fn meant_work<'a>(meaning: &'a Meaning, number: u32, extension: Option<Extension
 /// What the name with this number is built as.
 pub(crate) fn declared_work<'a>(
     scope: &Scope<'a>,
-    number: u32,
+    number: usize,
     extension: Option<Extension>,
 ) -> Work<'a>
     ensures comes { ComesTo (entries_of scope.now) result (named_term (entries_of scope.now) number extension) }
     ensures weight { work_weight (entries_of scope.now) result < named_weight (entries_of scope.now) number }
 {
-    match scope.list().get(number as usize) {
+    match scope.list().get(number) {
         Some(declared) => meant_work(&declared.meaning, number, extension),
         None => Work::Do(Step::Number(0)),
     }

@@ -21,7 +21,7 @@ use std::alloc::Global;
 pub(crate) struct Asked {
     pub(crate) nodes: Vec<Function>,
     pub(crate) cells: Vec<CellWanted>,
-    pub(crate) signals: Vec<u32>,
+    pub(crate) signals: Vec<usize>,
     pub(crate) links: Vec<Link>,
 }
 
@@ -29,7 +29,7 @@ pub(crate) struct Asked {
 #[derive(Drop)]
 pub(crate) struct Named<'a, D: Device> {
     pub(crate) device: &'a Loaded<D>,
-    pub(crate) number: u32,
+    pub(crate) number: usize,
     pub(crate) declared: &'a Declared,
 }
 
@@ -54,7 +54,7 @@ fn control_if(stored: bool, control: Option<Control>) -> Option<Control>
 fn asked_cell<D: Device>(
     device: &Loaded<D>,
     cell: u8,
-    name: u32,
+    name: usize,
     declared: &Declared,
     totals: &Totals,
 ) -> CellWanted

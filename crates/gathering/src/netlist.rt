@@ -33,15 +33,13 @@ fn ask_all<D: Device>(
         signals: Vec::new(alloc),
         links: Vec::new(alloc),
     };
-    let mut number = 0u32;
-    for declared in names.list.as_slice() {
+    for (number, declared) in names.list.as_slice().iter().enumerate() {
         let named = Named {
             device,
             number,
             declared,
         };
         ask::<D>(alloc, exprs, list, &named, &mut asked)?;
-        number = number.checked_add(1).ok_or(OutOfMemory)?;
     }
     Ok(asked)
 }
@@ -50,7 +48,7 @@ fn ask_all<D: Device>(
 #[derive(Drop)]
 pub struct Gathered {
     pub net: Netlist,
-    pub signals: ListOf<u32>,
+    pub signals: ListOf<usize>,
     pub links: ListOf<Link>,
 }
 

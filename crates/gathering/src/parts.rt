@@ -17,7 +17,7 @@ pub enum Part {
 }
 
 /// Whether the contribution is data to the signal: to the name itself, or to the raw input of its register.
-pub(crate) fn is_data_to(signal: u32, given: &Contribution) -> bool
+pub(crate) fn is_data_to(signal: usize, given: &Contribution) -> bool
     ensures { result ≡ (given.now.target.signal == signal && is_data given.now.target.extension) }
 {
     given.target.signal == signal && Extension::is_data(given.target.extension)
@@ -36,7 +36,7 @@ fn same_gives(a: Gives, b: Gives) -> bool
 }
 
 /// Whether the contribution is to the control of the signal.
-pub(crate) fn is_control(control: Extension, signal: u32, given: &Contribution) -> bool
+pub(crate) fn is_control(control: Extension, signal: usize, given: &Contribution) -> bool
     ensures { result ≡ (given.now.target.signal == signal && is_the_control control given.now.target.extension) }
 {
     given.target.signal == signal
@@ -49,7 +49,7 @@ pub(crate) fn is_control(control: Extension, signal: u32, given: &Contribution) 
 }
 
 /// Whether the contribution is for this part of the signal.
-pub(crate) fn is_for(part: Part, signal: u32, given: &Contribution) -> bool
+pub(crate) fn is_for(part: Part, signal: usize, given: &Contribution) -> bool
     ensures { (fs : List Formula) → result ≡ is_for part signal (view_contribution fs given.now) }
 {
     match part {

@@ -40,7 +40,7 @@ pub struct Totals {
 fn function_of(
     exprs: &mut Exprs,
     list: &[Contribution],
-    signal: u32,
+    signal: usize,
 ) -> Result<Function, OutOfMemory>
     requires { AllLieIn (length (arena exprs.old)) list.now }
     ensures function { IfOk result (λ f. Throughout (arena exprs.old) (arena exprs.new) list.now (λ first last.
@@ -78,7 +78,7 @@ fn function_of(
 fn control_of(
     exprs: &mut Exprs,
     list: &[Contribution],
-    signal: u32,
+    signal: usize,
     control: Extension,
 ) -> Result<Option<Control>, OutOfMemory>
     requires { AllLieIn (length (arena exprs.old)) list.now }
@@ -100,7 +100,7 @@ fn control_of(
 }
 
 /// All that is given to a signal.
-fn totals_of(exprs: &mut Exprs, list: &[Contribution], signal: u32) -> Result<Totals, OutOfMemory>
+fn totals_of(exprs: &mut Exprs, list: &[Contribution], signal: usize) -> Result<Totals, OutOfMemory>
     requires { AllLieIn (length (arena exprs.old)) list.now }
     ensures given { IfOk result (λ r. Throughout (arena exprs.old) (arena exprs.new) list.now (λ first last.
         AreGiven first last list.now signal r)) }
@@ -128,7 +128,7 @@ pub fn sum_up(
     alloc: Global,
     exprs: &mut Exprs,
     list: &[Contribution],
-    signal: u32,
+    signal: usize,
 ) -> Result<Totals, OutOfMemory>
     requires { AllLieIn (length (arena exprs.old)) list.now }
     ensures given { IfOk result (λ r. Throughout (arena exprs.old) (arena exprs.new) list.now (λ first last.

@@ -11,7 +11,7 @@ use pld_base::OutOfMemory;
 use std::alloc::Global;
 
 /// The numbers of signals by their places.
-fn numbers_at(alloc: Global, signals: &[u32], places: &[u8]) -> Result<Vec<u32>, OutOfMemory>
+fn numbers_at(alloc: Global, signals: &[usize], places: &[u8]) -> Result<Vec<usize>, OutOfMemory>
     requires { All (λ (v : ℕ). v < length signals.now) places.now }
     ensures { IfOk result (λ r. r.items ≡ map (λ (v : ℕ). get_or signals.now v 0) places.now) }
 {
@@ -26,9 +26,9 @@ fn numbers_at(alloc: Global, signals: &[u32], places: &[u8]) -> Result<Vec<u32>,
 /// first is the earliest declared of all that lie on such a loop. None if there isn't one.
 pub fn signal_loop(
     alloc: Global,
-    signals: &[u32],
+    signals: &[usize],
     links: &[Link],
-) -> Result<Option<Vec<u32>>, OutOfMemory>
+) -> Result<Option<Vec<usize>>, OutOfMemory>
     requires few { length links.now ≤ 256 }
     requires leaves { AreLeaves links.now }
     requires count { length signals.now ≡ length links.now }
@@ -47,10 +47,10 @@ pub fn signal_loop(
 /// register. None if there aren't any.
 pub fn reset_path(
     alloc: Global,
-    signals: &[u32],
+    signals: &[usize],
     links: &[Link],
     reset: &Reads,
-) -> Result<Option<Vec<u32>>, OutOfMemory>
+) -> Result<Option<Vec<usize>>, OutOfMemory>
     requires few { length links.now ≤ 256 }
     requires leaves { AreLeaves links.now }
     requires count { length signals.now ≡ length links.now }

@@ -15,7 +15,7 @@ fn with_one(
     exprs: &mut Exprs,
     sum: ExprId,
     part: Part,
-    signal: u32,
+    signal: usize,
     given: &Contribution,
 ) -> Result<ExprId, OutOfMemory>
     requires sum { sum.0 < length (arena exprs.old) }
@@ -38,7 +38,7 @@ fn with_one(
 fn part_sum(
     exprs: &mut Exprs,
     list: &[Contribution],
-    signal: u32,
+    signal: usize,
     part: Part,
 ) -> Result<ExprId, OutOfMemory>
     requires { AllLieIn (length (arena exprs.old)) list.now }
@@ -70,7 +70,7 @@ pub enum Step {
 pub(crate) fn bit_of(
     exprs: &mut Exprs,
     list: &[Contribution],
-    signal: u32,
+    signal: usize,
     steps: &[Step],
 ) -> Result<ExprId, OutOfMemory>
     requires { AllLieIn (length (arena exprs.old)) list.now }

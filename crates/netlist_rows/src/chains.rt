@@ -7,7 +7,7 @@ use std::alloc::Global;
 use test_rows::Found;
 
 /// The names of three signals by their numbers.
-const SIGNALS: [u32; 3] = [3, 8, 9];
+const SIGNALS: [usize; 3] = [3, 8, 9];
 
 /// Signals by their places, or `none`.
 fn put_chain(places: Option<&[u8]>, found: &mut Found) {
@@ -22,11 +22,11 @@ fn put_chain(places: Option<&[u8]>, found: &mut Found) {
 }
 
 /// Signals by their names, or `none`.
-fn put_names(names: Option<Vec<u32>>, found: &mut Found) {
+fn put_names(names: Option<Vec<usize>>, found: &mut Found) {
     match names {
         Some(names) => {
             for name in names.as_slice() {
-                put_number(*name as usize, found)
+                put_number(*name, found)
             }
         }
         None => put_word("none", found),

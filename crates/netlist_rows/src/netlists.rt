@@ -34,7 +34,7 @@ fn put_cell(wanted: &CellWanted, found: &mut Found) {
     put_word("cell", found);
     put_number(usize::from(wanted.cell), found);
     put_word("name", found);
-    put_number(wanted.name as usize, found);
+    put_number(wanted.name, found);
     put_word("at", found);
     put_place(wanted.place, found);
     if wanted.registered {
@@ -119,7 +119,7 @@ pub(crate) fn put_netlist(
     }
     found.text("; names");
     for name in gathered.signals.as_slice() {
-        put_number(*name as usize, found);
+        put_number(*name, found);
     }
     Some(())
 }

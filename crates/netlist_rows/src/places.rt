@@ -34,9 +34,9 @@ pub(crate) fn put_place(place: Place, found: &mut Found) {
 }
 
 /// A kind of refusal with its place and the name that is reported.
-pub(crate) fn put_refusal(kind: &str, place: Place, name: u32, found: &mut Found) {
+pub(crate) fn put_refusal(kind: &str, place: Place, name: usize, found: &mut Found) {
     put_word(kind, found);
     put_place(place, found);
     put_word("name", found);
-    put_number(name as usize, found)
+    put_number(name, found)
 }

@@ -43,7 +43,7 @@ fn put_faults(alloc: Global, drawn: &Drawn, found: &mut Found) -> Result<(), Out
     let any = first_refused(Rule::DontCares, &scope, given);
     put_refused("DontCareControl", any, found);
     found.text(";");
-    put_refused("RegisteredNode", registered_node(scope.scope())?, found);
+    put_refused("RegisteredNode", registered_node(scope.scope()), found);
     found.text(";");
     Ok(())
 }

@@ -14,13 +14,13 @@ use std::alloc::Global;
 pub(crate) fn put_names(
     text: &mut Vec<u8>,
     names: &Names,
-    numbers: &[u32],
+    numbers: &[usize],
 ) -> Result<(), OutOfMemory>
     ensures { OnOk result (text.new.items
         ≡ text.old.items ++ names_text (entries_of names.now) numbers.now) }
 {
     for number in numbers {
-        put_tail(text, name_of(names, *number as usize))?;
+        put_tail(text, name_of(names, *number))?;
     }
     Ok(())
 }
@@ -31,7 +31,7 @@ pub(crate) fn told(
     names: &Names,
     word: &[u8],
     place: Place,
-    numbers: &[u32],
+    numbers: &[usize],
 ) -> Result<Vec<u8>, OutOfMemory>
     ensures { IfOk result (λ line.
         told (entries_of names.now) word.now place numbers.now ≡ Some line.items) }

@@ -118,10 +118,10 @@ pub(crate) fn of_sections<'a>(
         SectionFault::BadWidth(place) => Ok(Telling::plain(b"BadWidth", place)),
         SectionFault::NotAnOutput(place, None) => Ok(Telling::plain(b"NotAnOutput", place)),
         SectionFault::NotAnOutput(place, Some(number)) => {
-            Ok(Telling::named(b"NotAnOutput", place, name_of(names, number as usize)))
+            Ok(Telling::named(b"NotAnOutput", place, name_of(names, number)))
         }
         SectionFault::MixedAssignment(place, number) => {
-            Ok(Telling::named(b"MixedAssignment", place, name_of(names, number as usize)))
+            Ok(Telling::named(b"MixedAssignment", place, name_of(names, number)))
         }
         SectionFault::BadRow(place) => Ok(Telling::plain(b"BadRow", place)),
         SectionFault::BadState(place) => Ok(Telling::plain(b"BadState", place)),

@@ -5,6 +5,6 @@ use pld_base::Place;
 /// A signal at the place at which a target names it.
 #[derive(Clone, Copy, PartialEq, Eq)]
 pub struct Aim {
-    pub signal: u32,
+    pub signal: usize,
     pub place: Place,
 }

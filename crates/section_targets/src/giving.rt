@@ -32,11 +32,11 @@ pub struct Giver<'a> {
 }
 
 /// Whether the block that the guard is in is don't-care for the signal.
-fn is_free(scope: &Scope<'_>, guard: Guard, signal: u32) -> bool
+fn is_free(scope: &Scope<'_>, guard: Guard, signal: usize) -> bool
     requires { signal < length (entries_of scope.now) }
     ensures { (d : Context) (fs : List Formula) → d.names ≡ entries_of scope.now → result ≡ is_dontcare (view_guard fs guard) (name_at d signal) guard.block }
 {
-    let attributes = scope.list()[signal as usize].attributes;
+    let attributes = scope.list()[signal].attributes;
     guard.block.is_some() && (guard.dontcare || attributes.contains(Attributes::DC))
 }
 

@@ -8,7 +8,7 @@ use abel_tree::Extension;
 /// How a signal, or what its extension names of it, is assigned.
 #[derive(Clone, Copy, PartialEq, Eq)]
 pub struct Manner {
-    pub signal: u32,
+    pub signal: usize,
     pub extension: Option<Extension>,
     pub complement: bool,
     pub clocked: bool,

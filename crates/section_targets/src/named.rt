@@ -13,7 +13,7 @@ use std::alloc::Global;
 /// signals, so that 33 of them say that there are too many: no more are listed.
 #[derive(Drop)]
 pub struct NamedSignals {
-    pub signals: ListOf<u32>,
+    pub signals: ListOf<usize>,
     pub alone: bool,
 }
 
@@ -37,7 +37,7 @@ impl NamedSignals {
     }
 
     /// One signal.
-    pub(crate) fn one(alloc: Global, signal: u32) -> Result<NamedSignals, OutOfMemory>
+    pub(crate) fn one(alloc: Global, signal: usize) -> Result<NamedSignals, OutOfMemory>
         ensures { IfOk result (λ n. (count : ℕ) → signal < count → AreSignals count n (signal ∷ []) true) }
     {
         let mut signals = Vec::new(alloc);
@@ -71,7 +71,7 @@ impl NamedSignals {
         let Some(name) = targets.scope.get(text) else {
             return Ok(NamedSignals::none(targets.alloc, false));
         };
-        let Some(named) = targets.named.get(name.number as usize) else {
+        let Some(named) = targets.named.get(name.number) else {
             return Ok(NamedSignals::none(targets.alloc, false));
         };
         NamedSignals::none(targets.alloc, true).with(named)

@@ -17,8 +17,7 @@ pub fn target_names(alloc: Global, scope: &Scope<'_>) -> Result<ListOf<NamedSign
     ensures { IfOk result (λ named. StandFor (length (entries_of scope.now)) (entries_of scope.now) named (known_of (entries_of scope.now))) }
 {
     let mut named = Vec::new(alloc);
-    let mut number = 0u32;
-    for declared in scope.list() {
+    for (number, declared) in scope.list().iter().enumerate() {
         let targets = Targets {
             alloc,
             scope: &*scope,
@@ -26,8 +25,6 @@ pub fn target_names(alloc: Global, scope: &Scope<'_>) -> Result<ListOf<NamedSign
         };
         let signals = named_meaning(&targets, &declared.meaning, number)?;
         named.push(signals)?;
-        // So many names that there is no next number are more than memory holds.
-        number = number.checked_add(1).ok_or(OutOfMemory)?;
     }
     Ok(ListOf::from_vec(named))
 }
@@ -36,7 +33,7 @@ pub fn target_names(alloc: Global, scope: &Scope<'_>) -> Result<ListOf<NamedSign
 fn named_meaning(
     targets: &Targets<'_>,
     meaning: &Meaning,
-    number: u32,
+    number: usize,
 ) -> Result<NamedSignals, OutOfMemory>
     ensures { IfOk result (λ n. (count : ℕ) (ks : List Known) → number < count → StandFor count (entries_of targets.now.scope.now) targets.now.named.now ks → IsOfTerm count n (term_meant ks number (view_meaning meaning.now))) }
 {

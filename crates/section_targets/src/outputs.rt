@@ -97,7 +97,7 @@ pub fn check_aims<D: Device>(
             complement: way.complement,
             clocked: way.clocked,
         };
-        let declared = &scope.list()[aim.signal as usize];
+        let declared = &scope.list()[aim.signal];
         fault = earlier(
             fault,
             refuse_aim::<D>(device, before, declared, aim.place, manner),

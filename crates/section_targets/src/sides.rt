@@ -20,7 +20,7 @@ pub struct Side {
 }
 
 /// The number of the name with this text, None if it is not declared. Takes no memory.
-pub fn number_of(scope: &Scope<'_>, text: &[u8]) -> Option<u32>
+pub fn number_of(scope: &Scope<'_>, text: &[u8]) -> Option<usize>
     ensures { result ≡ find (entries_of scope.now) text.now }
 {
     match scope.get(text) {
@@ -30,7 +30,7 @@ pub fn number_of(scope: &Scope<'_>, text: &[u8]) -> Option<u32>
 }
 
 /// Signals that are all named at one place.
-fn list_aims(alloc: Global, signals: &[u32], place: Place) -> Result<Vec<Aim>, AllocError>
+fn list_aims(alloc: Global, signals: &[usize], place: Place) -> Result<Vec<Aim>, AllocError>
     ensures { IfOk result (λ aims. aims.items ≡ aims_at place signals.now) }
 {
     signals
@@ -44,13 +44,13 @@ fn list_aims(alloc: Global, signals: &[u32], place: Place) -> Result<Vec<Aim>, A
 
 /// The place of the signals of the name with this number: the beginning of the side if it is a signal's, and else the
 /// place of its use.
-fn start(scope: &Scope<'_>, number: Option<u32>, used: Place, begin: Place) -> Place
+fn start(scope: &Scope<'_>, number: Option<usize>, used: Place, begin: Place) -> Place
     ensures { result ≡ (if is_signal_number (entries_of scope.now) number then begin else used) }
 {
     let Some(number) = number else {
         return used;
     };
-    match scope.list().get(number as usize) {
+    match scope.list().get(number) {
         None => used,
         Some(declared) => match &declared.meaning {
             Meaning::Pin { .. } | Meaning::Node(_) => begin,
@@ -60,7 +60,7 @@ fn start(scope: &Scope<'_>, number: Option<u32>, used: Place, begin: Place) -> P
 }
 
 /// Refused if a name represents what is no signal.
-fn refuse_mixed(alone: bool, place: Place, name: Option<u32>) -> Option<SectionFault>
+fn refuse_mixed(alone: bool, place: Place, name: Option<usize>) -> Option<SectionFault>
     ensures { result ≡ first_refusal section_order (if alone then [] else NotAnOutput place name ∷ []) }
 {
     (!alone).then_some(SectionFault::NotAnOutput(place, name))

@@ -1,5 +1,5 @@
 -- The words that the proofs of this crate are said in, passed on from one place. Declares nothing.
-pub use Rattle.std.proofs.lemmas.List.{map-append, map_push, take_all, take_more}
+pub use Rattle.std.proofs.lemmas.List.{length-map, length-take-le, map-append, map_push, take_all, take_more}
 pub use Rattle.std.specs.Option.{option_or}
 pub use Rattle.abel_meaning.specs.Numbers.{Value, by_position, digits_low_first, number_with, one_bit, zipped}
 pub use Rattle.abel_meaning.specs.Values.{binary_value, is_relation, unary_value}

@@ -7,7 +7,7 @@ use pld_base::{ListOf, Place};
 /// A signal, by its number in the order of declaration, or what its extension names of it.
 #[derive(Clone, Copy, PartialEq, Eq)]
 pub struct Target {
-    pub signal: u32,
+    pub signal: usize,
     pub extension: Option<Extension>,
 }
 
@@ -28,7 +28,7 @@ pub struct Contribution {
     pub target: Target,
     pub complement: bool,
     pub clocked: bool,
-    pub block: Option<u32>,
+    pub block: Option<usize>,
     pub dontcare: bool,
     pub what: Gives,
     pub when: ExprId,
@@ -48,5 +48,5 @@ pub struct Contributions {
 pub struct Guard {
     pub when: ExprId,
     pub dontcare: bool,
-    pub block: Option<u32>,
+    pub block: Option<usize>,
 }

@@ -23,10 +23,10 @@ pub enum SectionFault {
     BadWidth(Place),
     /// A target that can't be assigned.
     #[error("no output")]
-    NotAnOutput(Place, Option<u32>),
+    NotAnOutput(Place, Option<usize>),
     /// A target that is assigned in another way, or another way than its kind asks for.
     #[error("assigned in two ways")]
-    MixedAssignment(Place, u32),
+    MixedAssignment(Place, usize),
     /// A row that doesn't meet the header of its table, or is no constant.
     #[error("a row that doesn't meet its header")]
     BadRow(Place),

@@ -6,7 +6,7 @@ use crate::checked::Checked;
 /// whether it represents `.C.` or `.Z.`.
 #[derive(Clone, Copy, PartialEq, Eq)]
 pub struct KnownName {
-    pub number: u32,
+    pub number: usize,
     pub checked: Checked,
     pub pulse: bool,
 }

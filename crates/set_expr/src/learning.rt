@@ -19,8 +19,7 @@ pub(crate) fn known_names(alloc: Global, names: &Names) -> Result<KnownNames, Ou
     ensures { IfOk result (λ known. IsKnown (entries_of names.now) known) }
 {
     let mut known = KnownNames::new(alloc);
-    let mut number = 0u32;
-    for declared in names.list.as_slice() {
+    for (number, declared) in names.list.as_slice().iter().enumerate() {
         let (checked, pulse) = learn(alloc, &known, &declared.meaning)?;
         let name = KnownName {
             number,
@@ -28,8 +27,6 @@ pub(crate) fn known_names(alloc: Global, names: &Names) -> Result<KnownNames, Ou
             pulse,
         };
         known.keep(alloc, declared.name.bytes(), name)?;
-        // So many names that there is no next number are more than memory holds.
-        number = number.checked_add(1).ok_or(OutOfMemory)?;
     }
     Ok(known)
 }

@@ -1,6 +1,6 @@
 //! The walk over sections, one after another: each unit is checked, and made if nothing is refused so far.
 
-ghost use Rattle.std.specs.Prelude.{◌≡◌, ℕ, [], Some, IfOk, OnOk};
+ghost use Rattle.std.specs.Prelude.{◌≡◌, ◌<◌, ◌^◌, ℕ, [], Some, OnOk};
 ghost use Rattle.abel_tree.specs.View.{view_section};
 ghost use Rattle.abel_meaning.specs.Directives as directives;
 ghost use Rattle.abel_meaning.specs.Sections.{next_block};
@@ -31,17 +31,17 @@ fn after_section(on: bool, section: &Section) -> bool
     }
 }
 
-/// The number of the next block after a section, which may be the block with this number; so many blocks that there isn't
-/// one are more than memory holds.
-fn block_after(block: u32, section: &Section) -> Result<u32, OutOfMemory>
-    ensures { IfOk result (λ b. b ≡ next_block block (view_section section.now)) }
+/// The number of the next block after a section, which may be the block with this number. Takes no memory.
+fn block_after(block: usize, section: &Section) -> usize
+    requires { block < 2 ^ 63 }
+    ensures { result ≡ next_block block (view_section section.now) }
 {
     match section {
-        Section::Table(_) | Section::Diagram(_) => block.checked_add(1).ok_or(OutOfMemory),
+        Section::Table(_) | Section::Diagram(_) => block + 1,
         Section::Declarations(_)
         | Section::Equations(_)
         | Section::Vectors(_)
-        | Section::DontCare(_) => Ok(block),
+        | Section::DontCare(_) => block,
     }
 }
 
@@ -83,7 +83,7 @@ pub(crate) fn walk_sections<D: Device>(
     ensures { OnOk result (WalksSections D.table scope.now starts_dontcare (view_sections sections.now) out.old out.new) }
 {
     let mut dontcare = starts_dontcare;
-    let mut block = 0u32;
+    let mut block = 0usize;
     for section in sections {
         let guard = Guard {
             when: ExprId(1),
@@ -92,7 +92,7 @@ pub(crate) fn walk_sections<D: Device>(
         };
         walk_section::<D>(alloc, scope, guard, section, out)?;
         dontcare = after_section(dontcare, section);
-        block = block_after(block, section)?;
+        block = block_after(block, section);
     }
     Ok(())
 }

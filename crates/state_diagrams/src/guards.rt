@@ -13,7 +13,7 @@ use set_expr::SectionFault;
 /// The bit that the bare name of a signal reads, as a part of the unit at a place.
 fn bare_bit<D: Device>(
     scope: &SectionScope<'_, D>,
-    signal: u32,
+    signal: usize,
     unit: Place,
     exprs: &mut Exprs,
 ) -> Result<ExprId, SectionFault>

@@ -10,21 +10,21 @@ use set_expr::{Contribution, Gives, Target};
 use std::alloc::{AllocError, Global};
 
 /// The signals of registers.
-fn signals_of(alloc: Global, registers: &[Aim]) -> Result<Vec<u32>, AllocError>
+fn signals_of(alloc: Global, registers: &[Aim]) -> Result<Vec<usize>, AllocError>
     ensures { IfOk result (λ signals. signals.items ≡ signals_of registers.now) }
 {
     registers.iter().map(|aim| aim.signal).collect(alloc)
 }
 
 /// Whether the signal was seen.
-fn is_seen(seen: &[u32], signal: u32) -> bool
+fn is_seen(seen: &[usize], signal: usize) -> bool
     ensures { result ≡ is_among seen.now signal }
 {
     seen.iter().any(|other| signal == *other)
 }
 
 /// Whether it is data to a signal that wasn't seen.
-fn is_first(seen: &[u32], given: Contribution) -> bool
+fn is_first(seen: &[usize], given: Contribution) -> bool
     ensures { result ≡ is_first seen.now given }
 {
     Extension::is_data(given.target.extension) && !is_seen(seen, given.target.signal)
@@ -56,7 +56,7 @@ fn push_if_first(
     alloc: Global,
     states: &[ExprId],
     given: Contribution,
-    seen: &mut Vec<u32>,
+    seen: &mut Vec<usize>,
     found: &mut Vec<Contribution>,
 ) -> Result<(), AllocError>
     ensures seen { OnOk result (seen.new.items ≡ seen_if (is_first seen.old.items given) seen.old.items given) }

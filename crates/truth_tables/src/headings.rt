@@ -16,7 +16,7 @@ use std::alloc::{AllocError, Global};
 /// Signals and X, all at one place.
 fn list_outputs(
     alloc: Global,
-    signals: &[Option<u32>],
+    signals: &[Option<usize>],
     place: Place,
 ) -> Result<Vec<Option<Aim>>, AllocError>
     ensures { IfOk result (λ outputs. outputs.items ≡ outputs_at place signals.now) }

@@ -15,7 +15,7 @@ use std::alloc::Global;
 #[derive(Clone, Copy)]
 pub(crate) enum Part<'a> {
     Set(&'a Expr, &'a [Member], Option<Extension>),
-    Signal(u32, Option<Extension>),
+    Signal(usize, Option<Extension>),
     Number(u32),
     Special(u8),
     Operator(&'a Expr),
@@ -36,7 +36,7 @@ pub(crate) enum Stand<'a> {
 }
 
 /// What a declared name of this number represents.
-fn meaning_stand(meaning: &Meaning, number: u32, extension: Option<Extension>) -> Stand<'_>
+fn meaning_stand(meaning: &Meaning, number: usize, extension: Option<Extension>) -> Stand<'_>
     ensures stand { (d : Context)
         → IsStand d extension result (extended_if extension (term_meant d.known number (view_meaning meaning.now))) }
     ensures kind { IsOfKind result (view_meaning meaning.now) }
@@ -64,7 +64,7 @@ pub(crate) fn stand_of<'a>(
     match scope.get(text) {
         None => Stand::Part(Part::Number(0)),
         Some(name) => {
-            let declared = &scope.list()[name.number as usize];
+            let declared = &scope.list()[name.number];
             meaning_stand(&declared.meaning, name.number, extension)
         }
     }

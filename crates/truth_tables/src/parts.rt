@@ -64,7 +64,7 @@ fn put_part<'a>(
     scope: &Scope<'a>,
     part: Part<'a>,
     stack: &mut Vec<Part<'a>>,
-    signals: &mut Vec<Option<u32>>,
+    signals: &mut Vec<Option<usize>>,
 ) -> Result<bool, OutOfMemory>
     ensures { IfOk result (λ b. (d : Context) (t : Term) → IsOver scope.now d → IsPart d part.entry t → IsListed d t b stack.old.items stack.new.items signals.old.items signals.new.items) }
 {
@@ -99,7 +99,7 @@ pub(crate) fn part_signals(
     alloc: Global,
     scope: &Scope<'_>,
     part: Part<'_>,
-) -> Result<Option<Vec<Option<u32>>>, OutOfMemory>
+) -> Result<Option<Vec<Option<usize>>>, OutOfMemory>
     requires { (d : Context) → IsOver scope.now d → HasTerm d part }
     ensures { IfOk result (λ ss. (d : Context) (t : Term) → IsOver scope.now d → IsPart d part.entry t → AreSignals t ss) }
 {
@@ -121,7 +121,7 @@ pub fn header_signals(
     alloc: Global,
     scope: &Scope<'_>,
     header: &Expr,
-) -> Result<Option<Vec<Option<u32>>>, OutOfMemory>
+) -> Result<Option<Vec<Option<usize>>>, OutOfMemory>
     ensures { IfOk result (λ ss. (d : Context) → IsOver scope.now d → AreSignals (term_of d.known (view header.now)) ss) }
 {
     part_signals(alloc, scope, part_of(scope, header, None))

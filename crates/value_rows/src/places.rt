@@ -53,7 +53,7 @@ fn kind(fault: &SectionFault) -> &'static str {
 }
 
 /// The number of the name that a refusal reports.
-fn name_of(fault: &SectionFault) -> Option<u32> {
+fn name_of(fault: &SectionFault) -> Option<usize> {
     match *fault {
         SectionFault::NotAnOutput(_, name) => name,
         SectionFault::MixedAssignment(_, name) => Some(name),
@@ -71,6 +71,6 @@ pub(crate) fn put_fault(fault: Option<SectionFault>, found: &mut Found) {
     put_place(fault.place(), found);
     if let Some(name) = name_of(&fault) {
         found.text(" name ");
-        found.number(name as usize)
+        found.number(name)
     }
 }

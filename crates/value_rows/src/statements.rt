@@ -35,7 +35,7 @@ fn put_contribution(given: &Contribution, found: &mut Found) {
     if given.complement {
         found.text("!");
     }
-    found.number(given.target.signal as usize);
+    found.number(given.target.signal);
     found.text(" at ");
     put_place(given.place, found);
     found.text(",")

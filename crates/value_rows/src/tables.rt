@@ -37,7 +37,7 @@ fn table_of(module: &Module) -> Option<&Table> {
 /// What a contribution says: its signal, its kind, its bit and its place.
 fn put_contribution(given: &Contribution, found: &mut Found) {
     put_blank(found);
-    found.number(given.target.signal as usize);
+    found.number(given.target.signal);
     found.text(match given.what {
         Gives::One => " One ",
         Gives::Any => " Any ",

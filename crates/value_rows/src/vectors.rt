@@ -53,11 +53,11 @@ fn vectors_of(module: &Module) -> Option<&Vectors> {
 }
 
 /// The pins of a side of a header by their numbers as names.
-fn put_pins(pins: &[Option<u32>], found: &mut Found) {
+fn put_pins(pins: &[Option<usize>], found: &mut Found) {
     for pin in pins {
         put_blank(found);
         match *pin {
-            Some(name) => found.number(name as usize),
+            Some(name) => found.number(name),
             None => found.text("X"),
         }
     }

@@ -13,12 +13,12 @@ returns-in-Some-nodes-clause-err g c d of =
     let n = c.args.scope.now in
     let cs = c.args.found.now.list in (
       passed (first_kind t n _ c.scope.ensures d of.design cs c.first_refused-kinds.ensures) c.in_default.is,
-      sym (first_node t n _ c.scope.ensures d of.design cs c.in_ok-nodes.ensures) ∙ c.in-Some-nodes.is,
+      sym (first_node t n _ c.scope.ensures d of.design cs c.registered_node-nodes.ensures) ∙ c.in-Some-nodes.is,
     )
 
 pub returns-in-Some-controls-clause-err : goal.returns-in-Some-controls-clause-err
 returns-in-Some-controls-clause-err g c d of = (
-  kinds_pass g.D.Device.table c.args.scope.now _ c.scope.ensures d of.design c.args.found.now.list c.first_refused-kinds.ensures c.in_default.is c.in_ok-nodes.ensures c.in_default-nodes.is,
+  kinds_pass g.D.Device.table c.args.scope.now _ c.scope.ensures d of.design c.args.found.now.list c.first_refused-kinds.ensures c.in_default.is c.registered_node-nodes.ensures c.in_default-nodes.is,
   sym (c.in_ok-controls.ensures d of.design of.sections) ∙ c.in-Some-controls.is,
 )
 
@@ -27,7 +27,7 @@ returns-in-Some-any-clause-err g c d of =
     let t = g.D.Device.table in
     let n = c.args.scope.now in
     let cs = c.args.found.now.list in (
-      kinds_pass t n _ c.scope.ensures d of.design cs c.first_refused-kinds.ensures c.in_default.is c.in_ok-nodes.ensures c.in_default-nodes.is,
+      kinds_pass t n _ c.scope.ensures d of.design cs c.first_refused-kinds.ensures c.in_default.is c.registered_node-nodes.ensures c.in_default-nodes.is,
       passed (c.in_ok-controls.ensures d of.design of.sections) c.in_default-controls.is,
       sym (first_any t n _ c.scope.ensures d of.design cs c.first_refused-any.ensures) ∙ c.in-Some-any.is,
     )
@@ -37,7 +37,7 @@ returns-in-Some-paths-clause-err g c d of =
     let t = g.D.Device.table in
     let n = c.args.scope.now in
     let cs = c.args.found.now.list in (
-      kinds_pass t n _ c.scope.ensures d of.design cs c.first_refused-kinds.ensures c.in_default.is c.in_ok-nodes.ensures c.in_default-nodes.is,
+      kinds_pass t n _ c.scope.ensures d of.design cs c.first_refused-kinds.ensures c.in_default.is c.registered_node-nodes.ensures c.in_default-nodes.is,
       controls_pass t n _ c.scope.ensures d of.design cs (arena c.args.found.now.exprs) (c.in_ok-controls.ensures d of.design of.sections) c.in_default-controls.is c.first_refused-any.ensures c.in_default-any.is,
       sym (c.in_ok-paths.ensures d of.design of.sections) ∙ c.in-Some-paths.is,
     )
@@ -48,7 +48,7 @@ returns-in-None-clause-ok g c d of =
     let n = c.args.scope.now in
     let cs = c.args.found.now.list in
     record {
-      kinds = kinds_pass t n _ c.scope.ensures d of.design cs c.first_refused-kinds.ensures c.in_default.is c.in_ok-nodes.ensures c.in_default-nodes.is;
+      kinds = kinds_pass t n _ c.scope.ensures d of.design cs c.first_refused-kinds.ensures c.in_default.is c.registered_node-nodes.ensures c.in_default-nodes.is;
       uses = record {
         controls = controls_pass t n _ c.scope.ensures d of.design cs (arena c.args.found.now.exprs) (c.in_ok-controls.ensures d of.design of.sections) c.in_default-controls.is c.first_refused-any.ensures c.in_default-any.is;
         paths = passed (c.in_ok-paths.ensures d of.design of.sections) c.in-None.is;
