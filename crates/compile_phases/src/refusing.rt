@@ -30,7 +30,7 @@ fn source_refused(fault: SourceFault, line: Result<Vec<u8>, OutOfMemory>) -> Com
 {
     match line {
         Ok(line) => CompileFault::Source(fault, line),
-        Err(_) => CompileFault::OutOfMemory,
+        Err(OutOfMemory) => CompileFault::OutOfMemory,
     }
 }
 
@@ -76,7 +76,7 @@ pub(crate) fn unplaced(alloc: Global, names: &Names, fault: PlaceFault) -> Compi
         PlaceFault::NoPlacement { signals, places } => {
             match placing_line(alloc, names, signals.as_slice(), places) {
                 Ok(line) => CompileFault::Place(PlaceFault::NoPlacement { signals, places }, line),
-                Err(_) => CompileFault::OutOfMemory,
+                Err(OutOfMemory) => CompileFault::OutOfMemory,
             }
         }
         PlaceFault::OutOfMemory => CompileFault::OutOfMemory,
@@ -125,6 +125,6 @@ pub(crate) fn unfit<D: Device>(
 {
     match fit_line::<D>(alloc, device, names, net, &fault) {
         Ok(line) => fit_refused(fault, line),
-        Err(_) => CompileFault::OutOfMemory,
+        Err(OutOfMemory) => CompileFault::OutOfMemory,
     }
 }
