@@ -2,10 +2,12 @@
 pub use Rattle.std.proofs.lemmas.Bool.{cases_Bool, true≢false}
 pub use Rattle.std.proofs.lemmas.List.{append-nil, map-append}
 pub use Rattle.std.proofs.lemmas.List.Elements.{All-push, filter-append}
+pub use Rattle.std.proofs.lemmas.Option.{none-some}
 pub use Rattle.std.specs.List.{All, list_any, range_with_len}
 pub use Rattle.device_logic.proofs.OneRun.{device_determined}
 pub use Rattle.device_logic.proofs.Ranges.{reset_in, preset_in}
 pub use Rattle.device_logic.proofs.Runs.{any_at, any_none, any_same}
+pub use Rattle.device_logic.specs.LoadFaults.{IsLoadFault}
 pub use Rattle.device_sim.specs.Simulated.{IsSimFault}
 pub use Rattle.device_sim.specs.VectorRun.{IsVectorRun}
 pub use Rattle.device_sim.specs.declared.report.Mismatch.{Mismatch}

@@ -1,6 +1,6 @@
 -- The verdicts on the fuses below one.
-use Rattle.std.proofs.Common.{◌≡◌, ℕ, zero, suc, ◌+◌, Bool, true, false, cond, List, [], ◌∷◌, ◌++◌, map, filter, refl, sym, ap, ◌∙◌, subst, arith}
-use Rattle.wrong_fuses.proofs.Common.{All, range_with_len, filter-append, map-append, append-nil, All-push, Table, is_fault, faults_of, IsJudged, AreJudged, Judged}
+use Rattle.std.proofs.Common.{◌≡◌, ℕ, zero, suc, ◌+◌, true, false, cond, List, [], ◌∷◌, ◌++◌, map, filter, refl, ap, ◌∙◌, subst, arith}
+use Rattle.wrong_fuses.proofs.Common.{All, range_with_len, filter-append, map-append, append-nil, All-push, Table, is_fault, IsJudged, AreJudged, Judged}
 use Rattle.jedec_file.specs.FuseFile.{FuseFile}
 
 -- each fuse below this one that can be wrong is judged

@@ -1,9 +1,9 @@
 -- A chip that passes the vectors, with at most one wrong fuse that is neither missed nor refused.
-use Rattle.std.proofs.Common.{◌≡◌, ℕ, ◌<◌, Bool, true, false, List, [], ◌∷◌, None, Some, refl, sym, subst}
-use Rattle.wrong_fuses.proofs.Common.{true≢false, device_determined, IsVectorRun, AreAlike, DifferAtClock, DifferAtRest, RunsAlike, SameShown, ShowSame, CanBeLoaded, Logic, Levels, IsDevice, device_logic, own_pins, Table, with_wrong, AreJudged, FirstIs, IsFound, IsJudged, IsVerdict, Judged, Verdict}
+use Rattle.std.proofs.Common.{◌≡◌, ℕ, Bool, true, false, List, [], ◌∷◌, refl, sym, subst}
+use Rattle.wrong_fuses.proofs.Common.{true≢false, device_determined, IsVectorRun, AreAlike, RunsAlike, SameShown, ShowSame, CanBeLoaded, Logic, Levels, IsDevice, device_logic, own_pins, Table, with_wrong, AreJudged, IsFound, IsJudged, IsVerdict, Judged, Verdict}
 use Rattle.fuse_compare.proofs.RunsAlike.{runs_too}
 use Rattle.jedec_file.specs.FuseFile.{FuseFile}
-use Rattle.wrong_fuses.specs.Passing.{HasOneWrongAtMost, ShowsTheRight, is_decided}
+use Rattle.wrong_fuses.specs.Passing.{ShowsTheRight, is_decided}
 use Rattle.wrong_fuses.specs.Passing.HasOneWrongAtMost.{None as Right, One}
 use Rattle.wrong_fuses.specs.declared.verdict.Verdict.TheVariants.{Found, Same, Missed, Refused, OtherMode}
 

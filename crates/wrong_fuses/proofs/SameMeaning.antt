@@ -1,6 +1,6 @@
 -- Fuses that mean the same make devices that are alike.
-use Rattle.std.proofs.Common.{◌≡◌, ℕ, ◌+◌, ◌<◌, ◌≤◌, Bool, true, not, List, length, Option, None, Some, refl, sym, ap, ◌∙◌, subst, arith}
-use Rattle.wrong_fuses.proofs.Common.{reset_in, preset_in, any_same, AreAlike, IsPoint, Levels, IsDevice, complement_if, data_complements, device_logic, enabled_by, is_enabled, next_q, or_value, pin_complements, pin_level, row_if_any, is_inverted, stores, Table, cell_at, no_cell, Refines, RestsOnce, MeanSame, SameKind}
+use Rattle.std.proofs.Common.{◌≡◌, ℕ, ◌<◌, Bool, true, List, length, Option, None, Some, refl, sym, subst, arith}
+use Rattle.wrong_fuses.proofs.Common.{reset_in, preset_in, any_same, AreAlike, IsPoint, Levels, IsDevice, device_logic, enabled_by, is_enabled, next_q, or_value, pin_level, row_if_any, Table, cell_at, no_cell, Refines, RestsOnce, MeanSame}
 use Rattle.pld_base.specs.Bits.{same_level}
 use Rattle.pld_device.specs.declared.enable.Enable.{Enable}
 use Rattle.pld_device.specs.declared.enable.Enable.TheVariants.{Row, PinLow}

@@ -1,5 +1,5 @@
 -- What is known of a chip that passes the vectors (this project's rule).
-use Rattle.std.specs.Prelude.{◌≡◌, ℕ, Bool, true, false, List, [], Contains}
+use Rattle.std.specs.Prelude.{◌≡◌, Bool, true, false, List, [], Contains}
 use Rattle.wrong_fuses.specs.Prelude.{Table, device_logic, IsVectorRun, RunsAlike}
 use Rattle.jedec_file.specs.FuseFile.{FuseFile}
 use Rattle.wrong_fuses.specs.declared.verdict.Judged.{Judged}

@@ -2,7 +2,7 @@
 pub use Rattle.std.specs.List.{All, list_any, range_with_len}
 pub use Rattle.device_logic.specs.DeviceLookups.{device_lookups}
 pub use Rattle.device_logic.specs.LoadFaults.{IsLoadFault}
-pub use Rattle.device_sim.specs.Simulated.{IsSimFault}
+pub use Rattle.device_sim.specs.Simulated.{CanBeSimulated, IsSimFault}
 pub use Rattle.device_sim.specs.VectorRun.{IsVectorRun}
 pub use Rattle.device_sim.specs.declared.report.Mismatch.{Mismatch}
 pub use Rattle.fuse_compare.specs.Alike.{AreAlike, RunsAlike}

@@ -1,7 +1,8 @@
 //! The verdict on each single wrong fuse.
 
 ghost use Rattle.std.specs.Prelude.{◌≡◌, ◌<◌, ◌^◌, IfOk, IfErr, length};
-ghost use Rattle.wrong_fuses.specs.Prelude.{contents, device_logic, CanBeLoaded, IsSimFault};
+ghost use Rattle.fuse_compare.specs.Alike.{FindsDifference};
+ghost use Rattle.wrong_fuses.specs.Prelude.{contents, device_logic, CanBeLoaded, CanBeSimulated, IsSimFault};
 ghost use Rattle.wrong_fuses.specs.Passing.{ShowsTheRight};
 ghost use Rattle.wrong_fuses.specs.Verdicts.{AreJudged, AreOfRight, IsFoundBy, IsJudged, IsVerdict, Passes};
 
@@ -11,7 +12,7 @@ use crate::running::{first_at, list_at};
 use crate::same_table::mean_same;
 use crate::verdict::{Grade, Judged, Verdict};
 use device_logic::{DeviceLogic, SimFault, load};
-use fuse_compare::compare;
+use fuse_compare::{Difference, compare};
 use jedec_reader::FuseFile;
 use pld_base::{ListOf, OutOfMemory};
 use pld_device::{Device, Fuses, Loaded, wrong_fuse};
@@ -24,9 +25,11 @@ fn found_by<D: Device>(
     device: &Loaded<D>,
     file: &FuseFile,
     wrong: &Fuses,
-) -> Result<Option<u32>, SimFault>
+) -> Result<Option<u32>, OutOfMemory>
     requires size { length wrong.now ≡ D.table.fuses }
     requires few { length file.now.vectors < 2 ^ 32 }
+    requires simulated { CanBeSimulated D.table (contents D.table file.now) }
+    requires loaded { CanBeLoaded D.table wrong.now }
     ensures { IfOk result (IsFoundBy (device_logic D.table wrong.now)
         (contents D.table file.now).vectors) }
 {
@@ -39,20 +42,44 @@ fn found_by<D: Device>(
     Ok(Some(low.max(high)))
 }
 
+/// A difference between fuses that are loaded, so that no more than memory can be missing for it.
+fn difference<D: Device>(
+    alloc: Global,
+    device: &Loaded<D>,
+    right: &Fuses,
+    wrong: &Fuses,
+) -> Result<Option<Difference>, OutOfMemory>
+    requires right { length right.now ≡ D.table.fuses }
+    requires wrong { length wrong.now ≡ D.table.fuses }
+    requires right_loaded { CanBeLoaded D.table right.now }
+    requires loaded { CanBeLoaded D.table wrong.now }
+    ensures { IfOk result
+        (FindsDifference (device_logic D.table right.now) (device_logic D.table wrong.now)) }
+{
+    match compare::<D>(alloc, device, right, wrong) {
+        Ok(found) => Ok(found),
+        Err(fault) => match fault {
+            SimFault::OutOfMemory => Err(OutOfMemory),
+            _ => unreachable!(),
+        },
+    }
+}
+
 /// The verdict on fuses that no vector finds.
 fn unfound<D: Device>(
     alloc: Global,
     device: &Loaded<D>,
     file: &FuseFile,
     wrong: &Fuses,
-) -> Result<Verdict, SimFault>
+) -> Result<Verdict, OutOfMemory>
     requires file { length file.now.fuses ≡ D.table.fuses }
     requires size { length wrong.now ≡ D.table.fuses }
+    requires right_loaded { CanBeLoaded D.table file.now.fuses }
     requires loaded { CanBeLoaded D.table wrong.now }
     requires passes { Passes (device_logic D.table wrong.now) (contents D.table file.now).vectors }
     ensures { IfOk result (IsVerdict D.table (contents D.table file.now) wrong.now) }
 {
-    match compare::<D>(alloc, device, &file.fuses, wrong)? {
+    match difference::<D>(alloc, device, &file.fuses, wrong)? {
         None => Ok(Verdict::Same),
         Some(_difference) => Ok(Verdict::Missed),
     }
@@ -65,13 +92,13 @@ fn verdict_of<D: Device>(
     right: &DeviceLogic<'_, D>,
     wrong: &Fuses,
     chip: &DeviceLogic<'_, D>,
-) -> Result<Verdict, SimFault>
+) -> Result<Verdict, OutOfMemory>
     requires file { length file.now.fuses ≡ D.table.fuses }
     requires size { length wrong.now ≡ D.table.fuses }
     requires few { length file.now.vectors < 2 ^ 32 }
     requires right { right.now.fuses ≡ file.now.fuses }
     requires chip { chip.now.fuses ≡ wrong.now }
-    requires right_loaded { CanBeLoaded D.table file.now.fuses }
+    requires simulated { CanBeSimulated D.table (contents D.table file.now) }
     requires loaded { CanBeLoaded D.table wrong.now }
     ensures { IfOk result (IsVerdict D.table (contents D.table file.now) wrong.now) }
 {
@@ -96,20 +123,16 @@ fn judge_fuses<D: Device>(
     requires size { length wrong.now ≡ D.table.fuses }
     requires few { length file.now.vectors < 2 ^ 32 }
     requires right { right.now.fuses ≡ file.now.fuses }
-    requires right_loaded { CanBeLoaded D.table file.now.fuses }
+    requires simulated { CanBeSimulated D.table (contents D.table file.now) }
     ensures { IfOk result (IsVerdict D.table (contents D.table file.now) wrong.now) }
 {
     if wrong_fuse::<D>(right.device(), wrong).is_some() {
         return Ok(Verdict::OtherMode);
     }
     match load::<D>(alloc, right.device(), wrong) {
+        Ok(chip) => verdict_of(alloc, file, right, wrong, &chip),
         Err(SimFault::OutOfMemory) => Err(OutOfMemory),
         Err(fault) => Ok(Verdict::Refused(fault)),
-        // The vectors were simulated on the right device, and these fuses are loaded, so only memory can be missing.
-        Ok(chip) => match verdict_of(alloc, file, right, wrong, &chip) {
-            Ok(verdict) => Ok(verdict),
-            Err(_fault) => Err(OutOfMemory),
-        },
     }
 }
 
@@ -124,7 +147,7 @@ fn judge_fuse<D: Device>(
     requires fuse { fuse < D.table.fuses }
     requires few { length file.now.vectors < 2 ^ 32 }
     requires right { right.now.fuses ≡ file.now.fuses }
-    requires right_loaded { CanBeLoaded D.table file.now.fuses }
+    requires simulated { CanBeSimulated D.table (contents D.table file.now) }
     ensures judged { IfOk result (IsJudged D.table (contents D.table file.now)) }
     ensures fuse { IfOk result (λ it. it.fuse ≡ fuse) }
 {
@@ -142,7 +165,7 @@ fn judge_all<D: Device>(
     requires file { length file.now.fuses ≡ D.table.fuses }
     requires few { length file.now.vectors < 2 ^ 32 }
     requires right { right.now.fuses ≡ file.now.fuses }
-    requires right_loaded { CanBeLoaded D.table file.now.fuses }
+    requires simulated { CanBeSimulated D.table (contents D.table file.now) }
     ensures { IfOk result (λ list. AreJudged D.table (contents D.table file.now) list.items) }
 {
     let mut list = Vec::new(alloc);
@@ -176,10 +199,7 @@ pub fn judge<D: Device>(
 {
     let low = list_at::<D>(alloc, device, file, &file.fuses, false)?;
     let high = list_at::<D>(alloc, device, file, &file.fuses, true)?;
-    let Ok(right) = load::<D>(alloc, device, &file.fuses) else {
-        // These fuses were loaded for the runs above, so only memory can be missing.
-        return Err(SimFault::OutOfMemory);
-    };
+    let right = load::<D>(alloc, device, &file.fuses)?;
     let judged = judge_all(alloc, file, &right)?;
     Ok(Grade {
         vectors: file.vectors.as_slice().len() as u32,

@@ -1,7 +1,7 @@
 //! The vectors of a fuse file, run on a device with other fuses.
 
 ghost use Rattle.std.specs.Prelude.{◌≡◌, ◌<◌, ◌^◌, IfOk, IfErr, length};
-ghost use Rattle.wrong_fuses.specs.Prelude.{contents, device_logic, CanBeLoaded, IsSimFault};
+ghost use Rattle.wrong_fuses.specs.Prelude.{contents, device_logic, CanBeLoaded, CanBeSimulated, IsSimFault};
 ghost use Rattle.wrong_fuses.specs.Verdicts.{first_vector, tried, FirstIs, IsTheList};
 
 use device_sim::{Mismatch, SimFault, simulate};
@@ -43,7 +43,8 @@ pub fn list_at<D: Device>(
     requires few { length file.now.vectors < 2 ^ 32 }
     ensures run { IfOk result (IsTheList (device_logic D.table fuses.now) level
         (contents D.table file.now).vectors) }
-    ensures loaded { IfOk result (λ _. CanBeLoaded D.table fuses.now) }
+    ensures can { IfOk result (λ _.
+        CanBeSimulated D.table (tried (contents D.table file.now) fuses.now level)) }
     ensures refused { IfErr result
         (IsSimFault D.table (tried (contents D.table file.now) fuses.now level)) }
 {
@@ -62,19 +63,27 @@ fn first_vector(list: &[Mismatch]) -> Option<u32>
     }
 }
 
-/// The first vector that disagrees.
+/// The first vector that disagrees. The file's vectors are simulated and these fuses are loaded, so that no more than memory
+/// can be missing.
 pub fn first_at<D: Device>(
     alloc: Global,
     device: &Loaded<D>,
     file: &FuseFile,
     fuses: &Fuses,
     level: bool,
-) -> Result<Option<u32>, SimFault>
+) -> Result<Option<u32>, OutOfMemory>
     requires size { length fuses.now ≡ D.table.fuses }
     requires few { length file.now.vectors < 2 ^ 32 }
+    requires simulated { CanBeSimulated D.table (contents D.table file.now) }
+    requires loaded { CanBeLoaded D.table fuses.now }
     ensures { IfOk result (FirstIs (device_logic D.table fuses.now) level
         (contents D.table file.now).vectors) }
 {
-    let list = list_at::<D>(alloc, device, file, fuses, level)?;
-    Ok(first_vector(list.as_slice()))
+    match list_at::<D>(alloc, device, file, fuses, level) {
+        Ok(list) => Ok(first_vector(list.as_slice())),
+        Err(fault) => match fault {
+            SimFault::OutOfMemory => Err(OutOfMemory),
+            _ => unreachable!(),
+        },
+    }
 }

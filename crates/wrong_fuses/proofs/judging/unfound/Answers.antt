@@ -8,4 +8,4 @@ pub returns-in-Some : goal.returns-in-Some
 returns-in-Some g c =
     let right = device_logic g.D.Device.table c.args.file.now.fuses in
     let chip = device_logic g.D.Device.table c.args.wrong.now in
-    (c.requires.loaded, (c.requires.passes, not_alike right chip c.in-Some._difference (subst (FindsDifference right chip) c.in-Some.is c.in_ok-compare.ensures.found)))
+    (c.requires.loaded, (c.requires.passes, not_alike right chip c.in-Some._difference (subst (FindsDifference right chip) c.in-Some.is c.in_ok-difference.ensures)))
