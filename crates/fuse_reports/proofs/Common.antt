@@ -6,3 +6,5 @@ pub use Rattle.jedec_file.specs.Refusals.{Read, Refuses}
 pub use Rattle.jedec_file.specs.declared.jedec_fault.JedecFault.{JedecFault}
 pub use Rattle.jedec_reader.specs.Contents.{contents}
 pub use Rattle.fuse_reports.specs.FuseFiles.{Unread, WrongMode}
+pub use Rattle.fuse_reports.specs.Prelude.{decimal}
+pub use Rattle.fuse_reports.specs.SimFaultText.{pins_text}

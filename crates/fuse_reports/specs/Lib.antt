@@ -5,5 +5,6 @@ pub mod Ending
 pub mod FaultText
 pub mod FuseFiles
 pub mod Prelude
+pub mod SimFaultText
 pub mod Telling
 pub mod View
