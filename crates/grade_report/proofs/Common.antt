@@ -1,6 +1,5 @@
 -- The words that the proofs of this crate are said in, passed on from one place. Declares nothing.
-pub use Rattle.std.specs.Fmt.{decimal}
-pub use Rattle.grade_report.specs.Report.{judged_line, mismatch_line, pins_text}
+pub use Rattle.grade_report.specs.Report.{judged_line, mismatch_line}
 pub use Rattle.std.proofs.lemmas.List.{length-map}
 pub use Rattle.std.proofs.lemmas.List.FromFn.{length-range_with_len}
 pub use Rattle.std.specs.List.{cons_option, range_with_len}

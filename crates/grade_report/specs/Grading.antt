@@ -5,7 +5,8 @@ use Rattle.device_logic.specs.declared.fault.SimFault.TheVariants as fault
 use Rattle.device_sim.specs.Simulated.{IsSimFault}
 use Rattle.fuse_reports.specs.Ending.{Ending, ends}
 use Rattle.fuse_reports.specs.FuseFiles.{IsFileOf, IsRefusedFile}
-use Rattle.grade_report.specs.Report.{fault_line, report_of, status_of}
+use Rattle.fuse_reports.specs.SimFaultText.{sim_fault_line}
+use Rattle.grade_report.specs.Report.{report_of, status_of}
 use Rattle.wrong_fuses.specs.Passing.{ShowsTheRight}
 use Rattle.wrong_fuses.specs.Verdicts.{AreJudged, AreOfRight}
 
@@ -25,7 +26,7 @@ pub record IsUnsimulated (t : Table) (bytes report : List ℕ) : Type 0 where
   pub why : SimFault
   pub found : IsSimFault t file why
   pub refuses : why ≢ fault.OutOfMemory
-  pub told : report ≡ fault_line why
+  pub told : report ≡ sim_fault_line why
 
 -- how it ends: the grade is reported, or why there is none
 abbrev pub GradeEnds : Table → (bytes : List ℕ) → Ending → Type 0

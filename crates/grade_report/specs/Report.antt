@@ -1,7 +1,7 @@
 -- What is reported of a grade, and its status (this project's rule).
 use Rattle.std.specs.Prelude.{ℕ, ◌+◌, ◌*◌, ◌/◌, ◌%◌, nat_lt, ◌==◌, if◌then◌else◌, Bool, true, false, List, [], ◌∷◌, ◌++◌, length, flat_map, codes}
-use Rattle.grade_report.specs.Prelude.{Grade, Judged, Mismatch, SimFault, Table, Verdict, count_by, decimal, device_text}
-use Rattle.device_logic.specs.declared.fault.SimFault.TheVariants as fault
+use Rattle.grade_report.specs.Prelude.{Grade, Judged, Mismatch, Table, Verdict, count_by, decimal, device_text}
+use Rattle.fuse_reports.specs.SimFaultText.{sim_fault_text}
 use Rattle.wrong_fuses.specs.declared.verdict.Verdict.TheVariants.{Found, Same, Missed, Refused, OtherMode}
 
 -- ---- which verdicts are counted together
@@ -40,22 +40,6 @@ count_of test list = count_by (λ (it : Judged). test it.verdict) list
 
 -- ---- lines
 
--- each pin after a blank
-abbrev pub pins_text : List ℕ → List ℕ
-pins_text pins = flat_map (λ pin. 32 ∷ decimal pin) pins
-
--- the name of a refusal, and what was found
-abbrev pub fault_text : SimFault → List ℕ
-fault_text (fault.UnsupportedCondition vector pin) =
-    codes "UnsupportedCondition vector " ++ decimal vector ++ codes " pin " ++ decimal pin
-fault_text (fault.DeviceLoop pins) = codes "DeviceLoop" ++ pins_text pins.items
-fault_text (fault.DeviceResetReadsRegister pins) = codes "DeviceResetReadsRegister" ++ pins_text pins.items
-fault_text fault.OutOfMemory = codes "memory"
-
--- the line on a file that isn't simulated
-abbrev pub fault_line : SimFault → List ℕ
-fault_line why = codes "error " ++ fault_text why ++ codes "\n"
-
 -- the row and the column of a fuse of the array; a control fuse has none
 abbrev pub place_text : Table → ℕ → List ℕ
 place_text t n =
@@ -68,7 +52,7 @@ abbrev pub verdict_line : Table → ℕ → Verdict → List ℕ
 verdict_line t n (Found v) = []
 verdict_line t n Same = []
 verdict_line t n Missed = codes "missed " ++ decimal n ++ place_text t n ++ codes "\n"
-verdict_line t n (Refused why) = codes "refused " ++ decimal n ++ codes " " ++ fault_text why ++ codes "\n"
+verdict_line t n (Refused why) = codes "refused " ++ decimal n ++ codes " " ++ sim_fault_text why ++ codes "\n"
 verdict_line t n OtherMode = codes "refused " ++ decimal n ++ codes " WrongMode" ++ codes "\n"
 
 abbrev pub judged_line : Table → Judged → List ℕ

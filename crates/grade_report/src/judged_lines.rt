@@ -5,9 +5,8 @@ ghost use Rattle.grade_report.specs.Prelude.{decimal};
 ghost use Rattle.wrong_fuses.specs.declared.verdict.Verdict.TheVariants.{Missed, OtherMode, Refused};
 ghost use Rattle.grade_report.specs.Report.{judged_line, place_text, verdict_line};
 
-use crate::numbered::put_numbered;
-use crate::refusals::put_fault;
 use device_logic::SimFault;
+use fuse_reports::{put_numbered, put_sim_fault};
 use pld_base::OutOfMemory;
 use pld_device::{Device, Loaded};
 use std::alloc::Global;
@@ -78,7 +77,7 @@ fn put_refused<D: Device>(
 {
     put_numbered(alloc, text, b"refused ", usize::from(fuse))?;
     text.push(b' ')?;
-    put_fault(alloc, text, fault)?;
+    put_sim_fault(alloc, text, fault)?;
     text.push(b'\n')?;
     Ok(())
 }

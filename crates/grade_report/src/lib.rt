@@ -3,12 +3,10 @@
 
 mod counts;
 mod grading;
+mod head;
 mod judged_lines;
 mod mismatch_lines;
-mod numbered;
-mod refusals;
 mod reporting;
 
 pub use grading::grade_ending;
-pub use refusals::fault_line;
 pub use reporting::{grade_report, grade_status};

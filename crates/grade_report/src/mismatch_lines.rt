@@ -3,8 +3,9 @@
 ghost use Rattle.std.specs.Prelude.{◌≡◌, ◌++◌, IfOk, OnOk, codes, flat_map};
 ghost use Rattle.grade_report.specs.Report.{disagreement_lines, level_text, mismatch_line};
 
-use crate::numbered::{put_head, put_numbered};
+use crate::head::put_head;
 use device_sim::Mismatch;
+use fuse_reports::put_numbered;
 use pld_base::OutOfMemory;
 use pld_device::{Device, Loaded};
 use std::alloc::Global;

@@ -4,9 +4,10 @@ ghost use Rattle.std.specs.Prelude.{◌≡◌, ◌++◌, IfOk, OnOk};
 ghost use Rattle.grade_report.specs.Report.{found_text, grade_line, others_text, report_of, status_of, verdict_lines};
 
 use crate::counts;
+use crate::head::put_head;
 use crate::judged_lines::put_all_judged;
 use crate::mismatch_lines::disagreement_lines;
-use crate::numbered::{put_head, put_numbered};
+use fuse_reports::put_numbered;
 use pld_base::OutOfMemory;
 use pld_device::{Device, Loaded};
 use std::alloc::Global;
