@@ -4,9 +4,9 @@ use Rattle.device_logic.specs.declared.fault.SimFault.{SimFault}
 use Rattle.device_logic.specs.declared.fault.SimFault.TheVariants.{OutOfMemory}
 use Rattle.fuse_compare.specs.Alike.{AreAlike, IsDifference, RunsAlike}
 use Rattle.fuse_compare.specs.declared.difference.Difference.{Difference}
+use Rattle.fuse_reports.specs.SimFaultText.{sim_fault_line}
 use Rattle.fuse_porting.specs.Across.{CanBeComparedAcross, IsAcrossFault, IsPlainAcross}
 use Rattle.pair_commands.specs.CompareCommand.{AreDifferentAcross, AreSameAcross, FirstLoad, IsRefusedAcross, SecondLoad}
-use Rattle.pair_commands.specs.Loading.{load_fault_line}
 use Rattle.pair_commands.specs.PairText.{differ_line, same_line}
 use Rattle.pair_commands.specs.Prelude.{device_logic, FuseFile, IsFileOf, Table}
 
@@ -33,7 +33,7 @@ module _ (f t : Table) (a b : List ℕ) (x y : FuseFile) (first : IsFileOf f a x
     told = told;
   }
 
-  pub told_refused : (report : List ℕ) (fault : SimFault) → IsAcrossFault f t x.fuses y.fuses fault → fault ≢ OutOfMemory → report ≡ load_fault_line fault
+  pub told_refused : (report : List ℕ) (fault : SimFault) → IsAcrossFault f t x.fuses y.fuses fault → fault ≢ OutOfMemory → report ≡ sim_fault_line fault
       → IsRefusedAcross f t a b report
   told_refused report fault (inl found) refuses told =
       FirstLoad (y, second) (record { file = x; of = first; fault = fault; found = found; refuses = refuses; told = told })

@@ -7,11 +7,10 @@ ghost use Rattle.pair_commands.specs.CompareCommand.{CompareEnds, PairCompareEnd
 ghost use Rattle.fuse_porting.specs.Pairs.{IsPair, counterpart_of};
 
 use crate::differ_line::differ_line;
-use crate::load_fault_line::load_fault_line;
 use crate::pair_lines::{same_line, unported_line};
 use devices::loaded;
 use fuse_porting::{compare_across, is_counterpart};
-use fuse_reports::{Ending, Taken, take_file};
+use fuse_reports::{Ending, Taken, sim_fault_line, take_file};
 use jedec_reader::FuseFile;
 use pld_base::{DeviceName, OutOfMemory};
 use pld_device::{Device, Loaded};
@@ -36,7 +35,7 @@ fn ending_of<'a, F: Device, T: Device>(
     match compare_across::<F, T>(alloc, device, other, &first.fuses, &second.fuses) {
         Ok(None) => Ok(Ending::plain(0, same_line(alloc, device.name(), other.name())?)),
         Ok(Some(state)) => Ok(Ending::plain(5, differ_line::<F, T>(alloc, device, other, &state)?)),
-        Err(fault) => Ok(Ending::plain(4, load_fault_line(alloc, &fault)?)),
+        Err(fault) => Ok(Ending::plain(4, sim_fault_line(alloc, &fault)?)),
     }
 }
 

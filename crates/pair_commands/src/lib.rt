@@ -3,7 +3,6 @@
 
 mod compare_command;
 mod differ_line;
-mod load_fault_line;
 mod pair_lines;
 mod port_command;
 

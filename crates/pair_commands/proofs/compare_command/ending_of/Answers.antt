@@ -35,14 +35,14 @@ returns-in_ok-differ_line-in-Ok-Some g c a b first second =
       c.plain-in-Ok-Some.ensures,
     ))
 
-pub returns-in_ok-load_fault_line-in-Err : goal.returns-in_ok-load_fault_line-in-Err
-returns-in_ok-load_fault_line-in-Err g c a b first second =
+pub returns-in_ok-sim_fault_line-in-Err : goal.returns-in_ok-sim_fault_line-in-Err
+returns-in_ok-sim_fault_line-in-Err g c a b first second =
     let f = g.F.Device.table in
     let t = g.T.Device.table in
-    let some : c.in-Err.fault ≢ OutOfMemory = λ memory. true≢false (sym (c.in_ok-load_fault_line-in-Err.ensures.memory memory)) in
+    let some : c.in-Err.fault ≢ OutOfMemory = λ memory. true≢false (sym (c.in_ok-sim_fault_line-in-Err.ensures.memory memory)) in
     inr (inr (
       _,
       told_refused f t a b (contents f c.args.first.now) (contents t c.args.second.now) first second _ c.in-Err.fault c.in-Err.ensures.refused some
-          c.in_ok-load_fault_line-in-Err.ensures.line,
+          c.in_ok-sim_fault_line-in-Err.ensures.line,
       c.plain-in-Err.ensures,
     ))
