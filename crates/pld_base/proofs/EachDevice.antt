@@ -34,6 +34,8 @@ placed device.P16P8 = record { at = 14; within = refl; is = λ d. refl }
 placed device.P18P8 = record { at = 15; within = refl; is = λ d. refl }
 placed device.GAL18V10 = record { at = 16; within = refl; is = λ d. refl }
 placed device.ATF22V10C = record { at = 17; within = refl; is = λ d. refl }
+placed device.GAL16V8 = record { at = 18; within = refl; is = λ d. refl }
+placed device.GAL20V8 = record { at = 19; within = refl; is = λ d. refl }
 
 pub each_device : (test : DeviceName → Bool) → list_all test device_names ≡ true → (name : DeviceName) → test name ≡ true
 each_device test all name =

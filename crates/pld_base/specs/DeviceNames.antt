@@ -25,6 +25,8 @@ device_text device.P16P8 = codes "P16P8"
 device_text device.P18P8 = codes "P18P8"
 device_text device.GAL18V10 = codes "GAL18V10"
 device_text device.ATF22V10C = codes "ATF22V10C"
+device_text device.GAL16V8 = codes "GAL16V8"
+device_text device.GAL20V8 = codes "GAL20V8"
 
 -- all of them
 abbrev pub device_names : List DeviceName
@@ -38,6 +40,7 @@ device_names =
     ∷ device.P18P8
     ∷ device.GAL18V10
     ∷ device.ATF22V10C
+    ∷ device.GAL16V8 ∷ device.GAL20V8
     ∷ []
 
 -- a device's name in lower case, with the device

@@ -3,6 +3,7 @@
 ghost use Rattle.std.specs.Prelude.{◌≡◌, bytes_eq, map};
 ghost use Rattle.std.specs.Str.{str_to_ascii_lowercase};
 ghost use Rattle.pld_base.specs.DeviceNames.{device_in, device_text, lower_name, named_device};
+ghost use Rattle.pld_base.specs.Models.{has_modes, top_cell};
 
 /// The programmable devices that the project knows.
 #[derive(Clone, Copy, Debug, PartialEq, Eq)]
@@ -25,10 +26,12 @@ pub enum DeviceName {
     P18P8,
     GAL18V10,
     ATF22V10C,
+    GAL16V8,
+    GAL20V8,
 }
 
 /// All of them.
-const DEVICES: [DeviceName; 18] = [
+const DEVICES: [DeviceName; 20] = [
     DeviceName::P16L8,
     DeviceName::P16R4,
     DeviceName::P16R6,
@@ -47,6 +50,8 @@ const DEVICES: [DeviceName; 18] = [
     DeviceName::P18P8,
     DeviceName::GAL18V10,
     DeviceName::ATF22V10C,
+    DeviceName::GAL16V8,
+    DeviceName::GAL20V8,
 ];
 
 impl DeviceName {
@@ -73,6 +78,8 @@ impl DeviceName {
             DeviceName::P18P8 => "P18P8",
             DeviceName::GAL18V10 => "GAL18V10",
             DeviceName::ATF22V10C => "ATF22V10C",
+            DeviceName::GAL16V8 => "GAL16V8",
+            DeviceName::GAL20V8 => "GAL20V8",
         }
     }
 
@@ -84,6 +91,24 @@ impl DeviceName {
             return Some(DeviceName::GAL22V10);
         }
         first_named(&DEVICES, name)
+    }
+
+    /// The pin of the first of the eight cells of a chip with modes.
+    pub fn top_cell(&self) -> Option<u8>
+        ensures { result ≡ top_cell self.now }
+    {
+        match self {
+            DeviceName::GAL16V8 => Some(19),
+            DeviceName::GAL20V8 => Some(22),
+            _ => None,
+        }
+    }
+
+    /// Whether the chip has modes.
+    pub fn has_modes(&self) -> bool
+        ensures { result ≡ has_modes self.now }
+    {
+        self.top_cell().is_some()
     }
 
     /// Whether this is the device's name, without regard to case.

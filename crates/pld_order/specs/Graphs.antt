@@ -1,11 +1,8 @@
 -- Orders of the vertices of a graph, and loops and paths in it (graph theory: topological order, directed cycle,
 -- directed walk).
 use Rattle.std.specs.Prelude.{◌≡◌, ◌≢◌, ℕ, ◌<◌, ◌≤◌, Bool, true, false, ◌==◌, eqb, List, [], ◌∷◌, ◌++◌, length, get_or}
-use Rattle.std.specs.List.{list_any, IsDistinct}
-
--- v is in the list
-abbrev pub has : List ℕ → ℕ → Bool
-has xs v = list_any (λ x. v == x) xs
+use Rattle.std.specs.List.{IsDistinct}
+pub use Rattle.pld_order.specs.Members.{has}
 
 -- all vertices, each once, none of which reads itself or one that follows it
 pub record IsOrder (count : ℕ) (reads : ℕ → ℕ → Bool) (order : List ℕ) : Type 0 where

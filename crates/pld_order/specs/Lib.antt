@@ -1,3 +1,4 @@
 pub mod Graphs
+pub mod Members
 pub mod Search
 pub mod Sets
