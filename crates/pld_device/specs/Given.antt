@@ -4,17 +4,19 @@ use Rattle.std.specs.List.{list_any}
 use Rattle.pld_device.specs.declared.carry.Carry.{Carry}
 use Rattle.pld_device.specs.declared.carry.Carry.TheVariants as carry
 use Rattle.pld_device.specs.declared.enable.Enable.{Enable}
-use Rattle.pld_device.specs.declared.enable.Enable.TheVariants.{Row, PinLow}
+use Rattle.pld_device.specs.declared.enable.Enable.TheVariants.{Row, PinLow, Driven, Released}
 use Rattle.pld_device.specs.Table.{Table, IsDataRow, cell_at}
 use Rattle.pld_device.specs.Pins.{HasOwnPins, cell_pins}
 use Rattle.pld_device.specs.Registers.{stores}
 use Rattle.pld_device.specs.Reads.{is_never_true, row_reads}
 use Rattle.pld_device.specs.RowLaws.{HasPairs}
 
--- a row that is never true enables nothing
+-- a row that is never true enables nothing, and a released cell isn't enabled by anything
 abbrev pub enables_never : Table → List Bool → Enable → Bool
 enables_never t fuses (Row row) = is_never_true t fuses row
 enables_never t fuses (PinLow pin) = false
+enables_never t fuses Driven = false
+enables_never t fuses Released = true
 
 -- the cell never drives its pin
 abbrev pub never_drives : Table → List Bool → ℕ → Bool
@@ -35,10 +37,12 @@ ReadsGiven t fuses row =
     (pair : ℕ) (carry : Carry) → row_reads t fuses row pair ≡ true → slice_get t.pairs pair ≡ Some carry
     → is_given t fuses carry ≡ true
 
--- the enable reads such values alone, as a row or as a pin
+-- the enable reads such values alone, as a row or as a pin, or reads nothing
 abbrev pub EnableReadsGiven : Table → List Bool → Enable → Type 0
 EnableReadsGiven t fuses (Row row) = ReadsGiven t fuses row
 EnableReadsGiven t fuses (PinLow pin) = is_free_pin t pin ≡ true
+EnableReadsGiven t fuses Driven = Unit {0}
+EnableReadsGiven t fuses Released = Unit {0}
 
 -- no cell that may drive its pin waits for another: its enable and its data rows read such values alone. No
 -- row resets

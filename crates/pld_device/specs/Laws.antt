@@ -4,7 +4,7 @@ use Rattle.pld_device.specs.declared.carry.Carry.{Carry}
 use Rattle.pld_device.specs.declared.carry.Carry.TheVariants as carry
 use Rattle.pld_device.specs.declared.cell.Cell.{Cell}
 use Rattle.pld_device.specs.declared.enable.Enable.{Enable}
-use Rattle.pld_device.specs.declared.enable.Enable.TheVariants.{Row, PinLow}
+use Rattle.pld_device.specs.declared.enable.Enable.TheVariants.{Row, PinLow, Driven, Released}
 use Rattle.pld_device.specs.declared.flip.Flip.TheVariants.{Always}
 use Rattle.pld_device.specs.declared.fuse_bit.FuseBit.{FuseBit}
 use Rattle.pld_device.specs.declared.kinds.Kinds.TheVariants.{Combinational, Registered, Either}
@@ -27,6 +27,8 @@ use_if false purpose = []
 abbrev pub is_enable_row : Enable → ℕ → Bool
 is_enable_row (Row enable) row = enable == row
 is_enable_row (PinLow pin) row = false
+is_enable_row Driven row = false
+is_enable_row Released row = false
 
 -- the row is one of the cell's data rows
 abbrev pub is_data_row : Cell → ℕ → Bool

@@ -6,7 +6,7 @@ use Rattle.pld_base.specs.Bits.{is_on, same_level}
 use Rattle.pld_base.specs.Points.{Levels}
 use Rattle.pld_base.specs.Logic.{Logic}
 use Rattle.pld_device.specs.declared.enable.Enable.{Enable}
-use Rattle.pld_device.specs.declared.enable.Enable.TheVariants.{Row, PinLow}
+use Rattle.pld_device.specs.declared.enable.Enable.TheVariants.{Row, PinLow, Driven, Released}
 use Rattle.pld_device.specs.declared.flip.Flip.{Flip}
 use Rattle.pld_device.specs.declared.flip.Flip.TheVariants.{Always, AfterRegister, BeforeRegister}
 use Rattle.pld_device.specs.Table.{Table, cell_at}
@@ -21,10 +21,12 @@ data_rows t c = range_with_len (cell_at t c).first (cell_at t c).room
 abbrev pub or_value : Table → List Bool → Levels → ℕ → Bool
 or_value t fuses at c = list_any (row_value t fuses at) (data_rows t c)
 
--- the row is true, or the pin is at 0
+-- the row is true, or the pin is at 0; a cell without either always drives its pin, or never
 abbrev pub enabled_by : Table → List Bool → Levels → Enable → Bool
 enabled_by t fuses at (Row row) = row_value t fuses at row
 enabled_by t fuses at (PinLow pin) = not (is_on at.pins pin)
+enabled_by t fuses at Driven = true
+enabled_by t fuses at Released = false
 
 -- the cell drives its pin
 abbrev pub is_enabled : Table → List Bool → Levels → ℕ → Bool

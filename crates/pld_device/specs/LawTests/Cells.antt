@@ -8,7 +8,7 @@ use Rattle.pld_device.specs.declared.carry.Carry.{Carry}
 use Rattle.pld_device.specs.declared.carry.Carry.TheVariants as carry
 use Rattle.pld_device.specs.declared.cell.Cell.{Cell}
 use Rattle.pld_device.specs.declared.enable.Enable.{Enable}
-use Rattle.pld_device.specs.declared.enable.Enable.TheVariants.{Row, PinLow}
+use Rattle.pld_device.specs.declared.enable.Enable.TheVariants.{Row, PinLow, Driven, Released}
 use Rattle.pld_device.specs.declared.kinds.Kinds.{Kinds}
 use Rattle.pld_device.specs.declared.kinds.Kinds.TheVariants.{Combinational, Registered, Either}
 use Rattle.pld_device.specs.Table.{Table}
@@ -41,11 +41,15 @@ signal_pin_test t pin = nat_le 1 pin && nat_lt pin t.pins && not (pin == t.groun
 abbrev pub is_enable_pin : ℕ → Enable → Bool
 is_enable_pin pin (Row row) = false
 is_enable_pin pin (PinLow other) = other == pin
+is_enable_pin pin Driven = false
+is_enable_pin pin Released = false
 
 -- the enable is in the array, or a pin for signals
 abbrev pub is_enable_of : Table → Enable → Bool
 is_enable_of t (Row row) = nat_lt row t.rows
 is_enable_of t (PinLow pin) = signal_pin_test t pin
+is_enable_of t Driven = true
+is_enable_of t Released = true
 
 -- a cell of these kinds may have this enable
 abbrev pub is_enable_for : Kinds → Enable → Bool
@@ -53,6 +57,8 @@ is_enable_for kinds (Row row) = true
 is_enable_for Combinational (PinLow pin) = false
 is_enable_for Registered (PinLow pin) = true
 is_enable_for Either (PinLow pin) = false
+is_enable_for kinds Driven = true
+is_enable_for kinds Released = true
 
 -- a cell of these kinds may have this clock
 abbrev pub is_clock_for : Kinds → ℕ → Bool
@@ -121,24 +127,32 @@ other_enable pin (PinLow other) test = λ e. not_both (other == pin) test (eq-eq
   where
     same_pin : PinLow other ≡ PinLow pin → other ≡ pin
     same_pin e = cc
+other_enable pin Driven test = λ e. cc
+other_enable pin Released test = λ e. cc
 
 row_in : (t : Table) (enable : Enable) (row : ℕ) → is_enable_of t enable ≡ true → enable ≡ Row row → row < t.rows
 row_in t (Row other) row test e =
     let same : other ≡ row = cc in
     rw (← same) (ltb-true _ _ test)
 row_in t (PinLow pin) row test e = absurd cc
+row_in t Driven row test e = absurd cc
+row_in t Released row test e = absurd cc
 
 pin_in : (t : Table) (enable : Enable) (pin : ℕ) → is_enable_of t enable ≡ true → enable ≡ PinLow pin → IsSignalPin t pin
 pin_in t (Row row) pin test e = absurd cc
 pin_in t (PinLow other) pin test e =
     let same : other ≡ pin = cc in
     rw (← same) (signal_pin t other test)
+pin_in t Driven pin test e = absurd cc
+pin_in t Released pin test e = absurd cc
 
 registers_by_pin : (kinds : Kinds) (enable : Enable) (pin : ℕ) → is_enable_for kinds enable ≡ true → enable ≡ PinLow pin → kinds ≡ Registered
 registers_by_pin kinds (Row row) pin test e = absurd cc
 registers_by_pin Combinational (PinLow other) pin test e = absurd cc
 registers_by_pin Registered (PinLow other) pin test e = refl
 registers_by_pin Either (PinLow other) pin test e = absurd cc
+registers_by_pin kinds Driven pin test e = absurd cc
+registers_by_pin kinds Released pin test e = absurd cc
 
 has_clock : (kinds : Kinds) (clock : ℕ) → is_clock_for kinds clock ≡ true → kinds ≢ Combinational → clock ≢ 0
 has_clock Combinational clock test may = absurd (may refl)

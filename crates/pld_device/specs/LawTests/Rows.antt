@@ -6,7 +6,7 @@ use Rattle.std.proofs.lemmas.Bool.{and_parts}
 use Rattle.std.proofs.lemmas.Bool.Decides.{nat_tests}
 use Rattle.pld_device.specs.declared.cell.Cell.{Cell}
 use Rattle.pld_device.specs.declared.enable.Enable.{Enable}
-use Rattle.pld_device.specs.declared.enable.Enable.TheVariants.{Row, PinLow}
+use Rattle.pld_device.specs.declared.enable.Enable.TheVariants.{Row, PinLow, Driven, Released}
 use Rattle.pld_device.specs.Table.{Table}
 use Rattle.pld_device.specs.Laws.{is_enable_row, is_data_row, is_row, cell_uses}
 use Rattle.pld_device.specs.LawTests.Cells.{cell_test, cell_rows_test, is_enable_of, cell_parts}
@@ -20,6 +20,8 @@ row_below (Some row) rows = nat_lt row rows
 no_enable : (t : Table) (enable : Enable) (row : ℕ) → is_enable_of t enable ≡ true → t.rows ≤ row → is_enable_row enable row ≡ false
 no_enable t (Row other) row test past = grind (arith, nat_tests)
 no_enable t (PinLow pin) row test past = refl
+no_enable t Driven row test past = refl
+no_enable t Released row test past = refl
 
 no_data : (t : Table) (cell : Cell) (row : ℕ) → cell_rows_test t cell ≡ true → t.rows ≤ row → is_data_row cell row ≡ false
 no_data t cell row test past = grind (arith, nat_tests)
