@@ -1,2 +1,3 @@
+pub mod ModeFuses
 pub mod Pal16L8Layout
 pub mod PinLists

@@ -6,6 +6,7 @@ pub mod Gal16V8Tables
 pub mod Gal18V10Table
 pub mod Gal22V10Table
 pub mod MixedCells
+pub mod Models
 pub mod Pal16Cells
 pub mod Pal16L8Table
 pub mod Pal16RTables
@@ -13,4 +14,9 @@ pub mod Pal20L10Table
 pub mod Pal20Tables
 pub mod PolarityTables
 pub mod Prelude
+pub mod SimpleCells
 pub mod SmallCells
+pub mod V8Cells
+pub mod V8Chips
+pub mod V8Laws
+pub mod V8Tables

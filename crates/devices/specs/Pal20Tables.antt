@@ -1,18 +1,8 @@
 -- The tables of the PAL20L8, PAL20R4, PAL20R6 and PAL20R8 (their datasheets, logic diagrams and pinouts).
-use Rattle.std.specs.Prelude.{ℕ, ◌+◌, ◌-◌, Bool, true, false, List, [], ◌∷◌, None, replicate}
-use Rattle.devices.specs.Prelude.{DeviceName, P20L8, P20R4, P20R6, P20R8, Carry, Cell, PinLow, Always, Registered, Table}
+use Rattle.std.specs.Prelude.{ℕ, Bool, true, false, List, [], ◌∷◌, None, replicate}
+use Rattle.devices.specs.Prelude.{DeviceName, P20L8, P20R4, P20R6, P20R8, Carry, Always, Table}
 use Rattle.pld_device.specs.declared.carry.Carry.TheVariants as carry
-use Rattle.devices.specs.Pal16Cells.{combinational_cell}
-
--- a cell on a pin, with its eight rows: a register, which pin 13 enables, or combinational, as on a PAL16
-abbrev pub pal20_cell : (pin row : ℕ) → (register : Bool) → Cell
-pal20_cell pin row true = record { pin = pin; enable = PinLow 13; first = row; room = 8; kinds = Registered }
-pal20_cell pin row false = combinational_cell pin row
-
--- cells from this pin downwards and this row on, by whether each is a register
-abbrev pub pal20_cells : (pin row : ℕ) → (registers : List Bool) → List Cell
-pal20_cells pin row [] = []
-pal20_cells pin row (register ∷ registers) = pal20_cell pin row register ∷ pal20_cells (pin - 1) (row + 8) registers
+use Rattle.devices.specs.V8Cells.{cells_down, eight_rows}
 
 -- what the columns carry, two pairs a line: columns 0 to 3, 4 to 7, and so on. On the PAL20L8 the cells on pins 22 and 15
 -- are carried by no pair
@@ -45,8 +35,8 @@ pal20r_pairs =
     ∷ carry.Pin 11 ∷ carry.Pin 14
     ∷ []
 
--- a device of the family: its name, its clock (0 if there isn't one), its registers from pin 22 down to pin 15, and what its
--- columns carry
+-- a device of the family: its name, its clock (0 if there isn't one), its registers from pin 22 down to pin 15, which pin 13
+-- enables, and what its columns carry
 abbrev pub pal20 : DeviceName → (clock : ℕ) → (registers : List Bool) → List Carry → Table
 pal20 name clock registers pairs = record {
   name = name;
@@ -61,7 +51,7 @@ pal20 name clock registers pairs = record {
   preset = None;
   flip = Always;
   power_down = 0;
-  cells = pal20_cells 22 0 registers;
+  cells = cells_down (eight_rows 13) 22 0 registers;
   pairs = pairs;
   inverted = [];
   registered = [];

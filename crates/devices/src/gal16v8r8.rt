@@ -45,7 +45,7 @@ impl Part for Gal16V8R8 {
     }
 
     fn inverted_at(&self, cell: u8) -> Option<FuseBit> {
-        xor(cell)
+        xor(2048, cell)
     }
 
     fn registered_at(&self, cell: u8) -> Option<FuseBit> {
@@ -53,7 +53,7 @@ impl Part for Gal16V8R8 {
     }
 
     fn row_switch(&self, row: u16) -> Option<u16> {
-        switch(row)
+        switch(2048, row)
     }
 
     /// AC1 of each cell, from pin 19 on, then SYN and AC0.

@@ -2,6 +2,9 @@
 
 ghost use Rattle.std.specs.Prelude.{◌≡◌};
 ghost use Rattle.devices.specs.Devices.{table_of};
+ghost use Rattle.devices.specs.Models.{mode_by, table_at};
+ghost use Rattle.devices.specs.V8Chips.{v8_of};
+ghost use Rattle.devices.specs.V8Tables.{v8_in};
 
 use crate::atf22v10c::Atf22V10C;
 use crate::gal16v8c::Gal16V8C;
@@ -21,14 +24,39 @@ use crate::pal20l10::Pal20L10;
 use crate::pal20r4::Pal20R4;
 use crate::pal20r6::Pal20R6;
 use crate::pal20r8::Pal20R8;
-use pld_base::DeviceName;
+use crate::v8::V8Chip;
+use crate::v8_complex::V8Complex;
+use crate::v8_registered::V8Registered;
+use crate::v8_simple::V8Simple;
+use pld_base::{DeviceName, Model};
 use pld_device::{Device, Loaded, load};
 
-/// The device of a name: the one place that asks which it is. Takes no memory.
+/// The device of a name; one with modes is in complex mode. Takes no memory.
 pub fn loaded<D: Device>(name: DeviceName) -> Loaded<D>
     requires { table_of name ≡ D.table }
 {
-    match name {
+    loaded_at::<D>(Model::plain(name))
+}
+
+/// A chip with modes in the mode of a model.
+fn loaded_v8<D: Device>(chip: V8Chip, model: Model) -> Loaded<D>
+    requires { v8_in (v8_of chip) (mode_by model.syn model.ac0 model.set) ≡ D.table }
+{
+    let set = model.set;
+    if !model.syn {
+        return load::<D, V8Registered>(&V8Registered { chip, stores: set });
+    }
+    if model.ac0 {
+        return load::<D, V8Complex>(&V8Complex { chip });
+    }
+    load::<D, V8Simple>(&V8Simple { chip, driven: set })
+}
+
+/// The device of a model: the one place that asks which it is. Takes no memory.
+pub fn loaded_at<D: Device>(model: Model) -> Loaded<D>
+    requires { table_at model ≡ D.table }
+{
+    match model.name {
         DeviceName::P16L8 => load::<D, Pal16L8>(&Pal16L8),
         DeviceName::P16R4 => load::<D, Pal16R4>(&Pal16R4),
         DeviceName::P16R6 => load::<D, Pal16R6>(&Pal16R6),
@@ -47,5 +75,7 @@ pub fn loaded<D: Device>(name: DeviceName) -> Loaded<D>
         DeviceName::P18P8 => load::<D, Pal18P8>(&Pal18P8),
         DeviceName::GAL18V10 => load::<D, Gal18V10>(&Gal18V10),
         DeviceName::ATF22V10C => load::<D, Atf22V10C>(&Atf22V10C),
+        DeviceName::GAL16V8 => loaded_v8::<D>(V8Chip::Gal16V8, model),
+        DeviceName::GAL20V8 => loaded_v8::<D>(V8Chip::Gal20V8, model),
     }
 }

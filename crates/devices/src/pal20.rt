@@ -1,32 +1,18 @@
 //! The cells of the PAL20 devices, and the pairs of those with registers.
 
 ghost use Rattle.std.specs.Prelude.{◌≡◌, ◌<◌, ◌-◌, ◌*◌, Some, slice_get, length};
-ghost use Rattle.devices.specs.Pal20Tables.{pal20_cell, pal20r_pairs};
+ghost use Rattle.devices.specs.Pal20Tables.{pal20r_pairs};
+ghost use Rattle.devices.specs.V8Cells.{eight_rows};
 
-use pld_device::{Carry, Cell, Enable, Kinds};
+use crate::v8_cells::eight_rows;
+use pld_device::{Carry, Cell};
 
 /// The cell of a number: a register, which pin 13 enables, or combinational, which its first row enables.
 pub fn cell_of(index: u8, register: bool) -> Cell
     requires { index < 8 }
-    ensures { result ≡ pal20_cell (22 - index) (8 * index) register }
+    ensures { result ≡ eight_rows 13 (22 - index) (8 * index) register }
 {
-    let (pin, row) = (22 - index, u16::from(index) * 8);
-    if register {
-        return Cell {
-            pin,
-            enable: Enable::PinLow(13),
-            first: row,
-            room: 8,
-            kinds: Kinds::Registered,
-        };
-    }
-    Cell {
-        pin,
-        enable: Enable::Row(row),
-        first: row + 1,
-        room: 7,
-        kinds: Kinds::Combinational,
-    }
+    eight_rows(13, 22 - index, u16::from(index) * 8, register)
 }
 
 /// What a pair of a device with registers carries.

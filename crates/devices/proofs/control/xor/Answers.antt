@@ -6,4 +6,4 @@ use Rattle.devices.proofs.control.xor.Goals as goal
 
 pub returns : goal.returns
 returns c =
-    sym (get_or-map-range_with_len (λ fuse. Some (bit fuse false)) 2048 8 c.args.cell _ None c.requires (ap (λ (n : ℕ). 2048 + n) (sym c.from.ensures)))
+    sym (get_or-map-range_with_len (λ fuse. Some (bit fuse false)) c.args.control 8 c.args.cell _ None c.requires.cell (ap (λ (n : ℕ). c.args.control + n) (sym c.from.ensures)))
