@@ -30,7 +30,7 @@ pub use Rattle.pld_device.specs.Table.{IsDataRow, Table, cell_at, inverted_at, n
 pub use Rattle.pld_device.specs.declared.carry.Carry.{Carry}
 pub use Rattle.pld_device.specs.declared.cell.Cell.{Cell}
 pub use Rattle.pld_device.specs.declared.enable.Enable.{Enable}
-pub use Rattle.pld_device.specs.declared.enable.Enable.TheVariants.{PinLow, Row}
+pub use Rattle.pld_device.specs.declared.enable.Enable.TheVariants.{PinLow, Driven, Released, Row}
 pub use Rattle.pld_machine.specs.Order.{DifferOnlyIn, HasPins, HasSlots, InRange, IsOrdered, ResetsWithoutQ, SameAt}
 pub use Rattle.pld_machine.specs.Steps.{IsDetermined}
 pub use Rattle.pld_machine.specs.declared.logic.Slot.{Slot}

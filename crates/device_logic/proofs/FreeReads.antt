@@ -1,6 +1,6 @@
 -- Pins that rows and enables read, and that no cell is on.
 use Rattle.std.proofs.Common.{◌≡◌, ◌≢◌, ℕ, zero, suc, ◌<◌, Bool, true, false, not, ◌==◌, List, [], ◌∷◌, map, length, get_or, Some, slice_get, refl, ap, sym, ◌∙◌, subst, arith, ne_eqb}
-use Rattle.device_logic.proofs.Common.{list_any, eq-eqb, or_left, or_right, true≢false, get_or_from_slice_get, slice_get_within, Cell, Enable, Row, PinLow, Table, IsDataRow, cell_at, no_cell, HasOwnPins, cell_pins, row_reads, never_drives, is_free_pin, IsOneLayer, EnableReadsGiven, IsPair, IsDevice}
+use Rattle.device_logic.proofs.Common.{list_any, eq-eqb, or_left, or_right, true≢false, get_or_from_slice_get, slice_get_within, Cell, Enable, Row, PinLow, Driven, Released, Table, IsDataRow, cell_at, no_cell, HasOwnPins, cell_pins, row_reads, never_drives, is_free_pin, IsOneLayer, EnableReadsGiven, IsPair, IsDevice}
 use Rattle.pld_device.specs.declared.carry.Carry.TheVariants as carry
 use Rattle.pld_device.specs.RowLaws.{HasPairs}
 use Rattle.pld_device.proofs.OwnPins.{own_pins, has_pairs}
@@ -14,6 +14,8 @@ RowReadsFree t fuses row =
 abbrev pub EnableReadsFree : Table → List Bool → Enable → Type 0
 EnableReadsFree t fuses (Row row) = RowReadsFree t fuses row
 EnableReadsFree t fuses (PinLow pin) = is_free_pin t pin ≡ true
+EnableReadsFree t fuses Driven = Unit {0}
+EnableReadsFree t fuses Released = Unit {0}
 
 -- so it is for all enables, and for the data rows of cells that may drive their pins
 pub record ReadsFreePins (t : Table) (fuses : List Bool) : Type 0 where
@@ -55,6 +57,8 @@ module _ (t : Table) (laws : IsDevice t) (fuses : List Bool) where
   enable_free c within (Row row) is = rows_free row
   enable_free c within (PinLow pin) is =
       free_from t pin (λ d d_in same. (laws.cells d no_cell d_in).enables_none c no_cell within (is ∙ ap (λ p. PinLow p) (sym same)))
+  enable_free c within Driven is = tt
+  enable_free c within Released is = tt
 
   pub device_reads_free : ReadsFreePins t fuses
   device_reads_free = record {
@@ -76,3 +80,5 @@ layer_reads_free t fuses layer = record {
     by_enable : (e : Enable) → EnableReadsGiven t fuses e → EnableReadsFree t fuses e
     by_enable (Row row) given = λ pair pin reads found. given pair (carry.Pin pin) reads found
     by_enable (PinLow pin) free = free
+    by_enable Driven free = tt
+    by_enable Released free = tt

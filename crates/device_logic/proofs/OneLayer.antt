@@ -1,6 +1,6 @@
 -- A device whose cells wait for no other has no loop of reads, and so one point at rest and one run.
 use Rattle.std.proofs.Common.{◌≡◌, ℕ, ◌<◌, Bool, true, false, not, ◌||◌, ◌==◌, List, [], ◌∷◌, length, refl, sym, ◌∙◌, inl, inr}
-use Rattle.device_logic.proofs.Common.{list_any, eq-eqb, or_cases, or_left, and_parts, true≢false, not-true, Enable, Row, PinLow, Table, cell_at, stores, never_drives, ReadsGiven, EnableReadsGiven, IsOneLayer, data_rows, device_logic, IsDetermined, has, HasNoLoop, row_reads_cell, enable_reads, data_reads, rest_reads, cell_reads}
+use Rattle.device_logic.proofs.Common.{list_any, eq-eqb, or_cases, or_left, and_parts, true≢false, not-true, Enable, Row, PinLow, Driven, Released, Table, cell_at, stores, never_drives, ReadsGiven, EnableReadsGiven, IsOneLayer, data_rows, device_logic, IsDetermined, has, HasNoLoop, row_reads_cell, enable_reads, data_reads, rest_reads, cell_reads}
 use Rattle.pld_device.specs.declared.carry.Carry.TheVariants as carry
 use Rattle.device_logic.proofs.FreeReads.{layer_reads_free}
 use Rattle.device_logic.proofs.CellsOrdered.{is_ordered, determined}
@@ -25,6 +25,8 @@ module _ (t : Table) (fuses : List Bool) (layer : IsOneLayer t fuses) where
   enable_reads_given : (e : Enable) (d : ℕ) → EnableReadsGiven t fuses e → stores t fuses d ≡ false → enable_reads t fuses e d ≡ true → never_drives t fuses d ≡ true
   enable_reads_given (Row row) d given plain reads = row_reads_given row d given plain reads
   enable_reads_given (PinLow pin) d given plain reads = absurd (true≢false (sym reads))
+  enable_reads_given Driven d given plain reads = absurd (true≢false (sym reads))
+  enable_reads_given Released d given plain reads = absurd (true≢false (sym reads))
 
   -- a cell that waits reads, and is waited for at its level
   waits : (c d : ℕ) → cell_reads t fuses c d ≡ true → (stores t fuses d ≡ false) × (rest_reads t fuses c d ≡ true)

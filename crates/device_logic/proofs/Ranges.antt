@@ -1,6 +1,6 @@
 -- What a device's laws say of the numbers that its look-ups answer.
 use Rattle.std.proofs.Common.{◌≡◌, ℕ, ◌<◌, [], ◌∷◌, ◌++◌, length, Option, Some, None, slice_get, IfSome, refl, ap, sym, subst, arith, inl, inr, length-append}
-use Rattle.device_logic.proofs.Common.{cases_lt, eq-eqb, get_or_from_slice_get, slice_get_within, Carry, Cell, Enable, Row, PinLow, Table, cell_at, no_cell, inverted_at, registered_at, Resets, Presets, use_if, is_row, cell_uses, uses_of, Control, Inverts, Registers, fuse_if_any, fuse_for, IsPair, IsCell, IsDevice, CarryInRange, EnableInRange}
+use Rattle.device_logic.proofs.Common.{cases_lt, eq-eqb, get_or_from_slice_get, slice_get_within, Carry, Cell, Enable, Row, PinLow, Driven, Released, Table, cell_at, no_cell, inverted_at, registered_at, Resets, Presets, use_if, is_row, cell_uses, uses_of, Control, Inverts, Registers, fuse_if_any, fuse_for, IsPair, IsCell, IsDevice, CarryInRange, EnableInRange}
 use Rattle.pld_device.specs.declared.carry.Carry.TheVariants as carry
 use Rattle.pld_device.specs.declared.fuse_bit.FuseBit.{FuseBit}
 
@@ -27,6 +27,8 @@ module _ (t : Table) (laws : IsDevice t) where
       by_enable : (e : Enable) → x.enable ≡ e → EnableInRange t e
       by_enable (Row row) is = law.enable_below row is
       by_enable (PinLow pin) is = omega (arith, (law.enable_pin pin is).high, laws.sizes.pins_high)
+      by_enable Driven is = tt
+      by_enable Released is = tt
 
   -- control fuses are fuses of the device
   control_in : (what : Control) (bit : Option FuseBit) → fuse_for t what ≡ fuse_if_any bit → IfSome bit (λ b. b.fuse < t.fuses)

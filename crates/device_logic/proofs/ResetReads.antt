@@ -1,6 +1,6 @@
 -- If no chain of reads leads from the reset row to a register, resets depend on no Q.
 use Rattle.std.proofs.Common.{◌≡◌, ℕ, zero, suc, ◌<◌, Bool, true, false, not, ◌||◌, eqb, List, [], ◌∷◌, map, length, get_or, Option, Some, None, slice_get, refl, ap, sym, ◌∙◌, subst, inl, inr}
-use Rattle.device_logic.proofs.Common.{cases_Bool, cases_lt, or_cases, and_parts, and_from, true≢false, list_any, length-map, get_or_from_slice_get, slice_get_within, slice_get-get_or, is_on, Levels, Enable, Row, PinLow, IsPair, IsDevice, data_rows, row_if_any, stores, carried, Table, cell_at, never_drives, is_free_pin, Slot, SameAt, ResetsWithoutQ, IsOrder, HasNoPath, eqb_same, place_of, row_reads_cell, enable_reads, data_reads, rest_reads, cell_reads, device_lookups, row_reads_if_any, reset_reads, plain_reads, HasNoResetPath}
+use Rattle.device_logic.proofs.Common.{cases_Bool, cases_lt, or_cases, and_parts, and_from, true≢false, list_any, length-map, get_or_from_slice_get, slice_get_within, slice_get-get_or, is_on, Levels, Enable, Row, PinLow, Driven, Released, IsPair, IsDevice, data_rows, row_if_any, stores, carried, Table, cell_at, never_drives, is_free_pin, Slot, SameAt, ResetsWithoutQ, IsOrder, HasNoPath, eqb_same, place_of, row_reads_cell, enable_reads, data_reads, rest_reads, cell_reads, device_lookups, row_reads_if_any, reset_reads, plain_reads, HasNoResetPath}
 use Rattle.pld_device.specs.declared.carry.Carry.TheVariants as carry
 use Rattle.pld_machine.specs.declared.logic.Slot.TheVariants as slot
 use Rattle.pld_machine.proofs.WithoutQ.{AgreeBefore, ReadNoQ, resets_without_q}
@@ -39,6 +39,8 @@ module _ (t : Table) (laws : IsDevice t) (fuses : List Bool) (order : List ℕ) 
   enable_read_in : (e : Enable) (d : ℕ) → enable_reads t fuses e d ≡ true → d < length t.cells
   enable_read_in (Row row) d reads = row_read_in row d reads
   enable_read_in (PinLow pin) d reads = absurd (true≢false (sym reads))
+  enable_read_in Driven d reads = absurd (true≢false (sym reads))
+  enable_read_in Released d reads = absurd (true≢false (sym reads))
 
   read_in : (c d : ℕ) → rest_reads t fuses c d ≡ true → d < length t.cells
   read_in c d reads =

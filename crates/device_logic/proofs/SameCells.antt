@@ -1,6 +1,6 @@
 -- A cell asks the same at two points at which all that it reads is the same.
 use Rattle.std.proofs.Common.{◌≡◌, ℕ, zero, suc, ◌*◌, ◌<◌, ◌≤◌, Bool, true, false, not, List, [], ◌∷◌, map, length, Some, slice_get, refl, ap, sym, ◌∙◌, subst, inl, inr}
-use Rattle.device_logic.proofs.Common.{cases_Bool, true≢false, is_on, Levels, Carry, Enable, Row, PinLow, Table, cell_at, stores, is_inverted, carried, row_value, complement_if, pin_complements, output_value, enabled_by, is_enabled, pin_level, row_reads, enables_never, never_drives, is_free_pin, row_same, never_true, row_reads_cell, enable_reads, rest_reads}
+use Rattle.device_logic.proofs.Common.{cases_Bool, true≢false, is_on, Levels, Carry, Enable, Row, PinLow, Driven, Released, Table, cell_at, stores, is_inverted, carried, row_value, complement_if, pin_complements, output_value, enabled_by, is_enabled, pin_level, row_reads, enables_never, never_drives, is_free_pin, row_same, never_true, row_reads_cell, enable_reads, rest_reads}
 use Rattle.pld_device.specs.declared.carry.Carry.TheVariants as carry
 use Rattle.device_logic.proofs.FreeReads.{RowReadsFree, EnableReadsFree, ReadsFreePins}
 use Rattle.device_logic.proofs.Runs.{any_same}
@@ -19,6 +19,8 @@ not_enabled t fuses at c wide never = by_enable (cell_at t c).enable never
     by_enable : (e : Enable) → enables_never t fuses e ≡ true → enabled_by t fuses at e ≡ false
     by_enable (Row row) off = never_true t fuses row at wide off
     by_enable (PinLow pin) off = absurd (true≢false (sym off))
+    by_enable Driven off = absurd (true≢false (sym off))
+    by_enable Released off = refl
 
 module _ (t : Table) (fuses : List Bool) (free : ReadsFreePins t fuses) (c : ℕ) (a b : Levels) where
   -- a row whose pins without cells and whose cells are the same at both
@@ -39,6 +41,8 @@ module _ (t : Table) (fuses : List Bool) (free : ReadsFreePins t fuses) (c : ℕ
     enable_same : never_drives t fuses c ≡ false → (e : Enable) → (cell_at t c).enable ≡ e → EnableReadsFree t fuses e → enabled_by t fuses a e ≡ enabled_by t fuses b e
     enable_same drives (Row row) is pins_free = row_equal pins row pins_free (λ d reads. cells d (rest_reads-enable t fuses c d drives (subst (λ e. enable_reads t fuses e d ≡ true) (sym is) reads)))
     enable_same drives (PinLow pin) is pin_free = ap not (pins pin pin_free)
+    enable_same drives Driven is pin_free = refl
+    enable_same drives Released is pin_free = refl
 
     output_same : never_drives t fuses c ≡ false → output_value t fuses a c ≡ output_value t fuses b c
     output_same drives =

@@ -1,6 +1,6 @@
 -- How a device's rows are looked at, pair by pair. These are private helpers: no public clause cites them.
 use Rattle.std.specs.Prelude.{◌≡◌, ℕ, ◌+◌, ◌*◌, ◌<◌, Bool, not, ◌&&◌, ◌||◌, List, map, length}
-use Rattle.device_logic.specs.Prelude.{range_with_len, is_on, Carry, Enable, Row, PinLow, is_never_true, Table}
+use Rattle.device_logic.specs.Prelude.{range_with_len, is_on, Carry, Enable, Row, PinLow, Driven, Released, is_never_true, Table}
 use Rattle.pld_device.specs.declared.carry.Carry.TheVariants as carry
 
 -- the row can be true at some point, as far as its own fuses say
@@ -33,6 +33,8 @@ passes fuses values pair =
 abbrev pub EnableInRange : Table → Enable → Type 0
 EnableInRange t (Row row) = row < t.rows
 EnableInRange t (PinLow pin) = pin < 32
+EnableInRange t Driven = Unit {0}
+EnableInRange t Released = Unit {0}
 
 -- the pin is one of a point, the cell one of the device
 abbrev pub CarryInRange : Table → Carry → Type 0

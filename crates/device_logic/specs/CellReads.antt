@@ -1,7 +1,7 @@
 -- Which cells a cell reads while it settles, whether or not its value depends on them (this project's
 -- rule).
 use Rattle.std.specs.Prelude.{ℕ, suc, [], ◌∷◌, Bool, false, not, ◌&&◌, ◌||◌, ◌==◌, List, length}
-use Rattle.device_logic.specs.Prelude.{list_any, Carry, Enable, Row, PinLow, Table, cell_at, never_drives, data_rows, carries_cell, row_reads, IsOrder, stores}
+use Rattle.device_logic.specs.Prelude.{list_any, Carry, Enable, Row, PinLow, Driven, Released, Table, cell_at, never_drives, data_rows, carries_cell, row_reads, IsOrder, stores}
 use Rattle.pld_device.specs.declared.carry.Carry.TheVariants as carry
 
 -- some pair from this number on that the row reads carries it
@@ -18,6 +18,8 @@ row_reads_cell t fuses row d = pairs_read t fuses row d 0 t.pairs
 abbrev pub enable_reads : Table → List Bool → Enable → ℕ → Bool
 enable_reads t fuses (Row row) d = row_reads_cell t fuses row d
 enable_reads t fuses (PinLow pin) d = false
+enable_reads t fuses Driven d = false
+enable_reads t fuses Released d = false
 
 -- the cell's data rows read it; those of a register are read at the clock's edge alone
 abbrev pub data_reads : Table → List Bool → (c d : ℕ) → Bool

@@ -15,7 +15,7 @@ pub use Rattle.pld_device.specs.Rows.{carried, is_switched_on, pair_values, row_
 pub use Rattle.pld_device.specs.Table.{Table, cell_at}
 pub use Rattle.pld_device.specs.declared.carry.Carry.{Carry}
 pub use Rattle.pld_device.specs.declared.enable.Enable.{Enable}
-pub use Rattle.pld_device.specs.declared.enable.Enable.TheVariants.{PinLow, Row}
+pub use Rattle.pld_device.specs.declared.enable.Enable.TheVariants.{PinLow, Driven, Released, Row}
 pub use Rattle.pld_machine.specs.Lookups.{Lookups, logic_of}
 pub use Rattle.pld_machine.specs.Steps.{IsDetermined}
 pub use Rattle.pld_order.specs.Graphs.{HasNoLoop, HasNoPath, IsLeastLoop, IsOrder, IsPath}

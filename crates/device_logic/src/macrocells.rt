@@ -145,6 +145,8 @@ impl<'a, D: Device> DeviceLogic<'a, D> {
         match cell_of::<D>(self.device(), cell).enable {
             Enable::Row(row) => self.row_value(at, row),
             Enable::PinLow(pin) => !level_at(at.pins, pin),
+            Enable::Driven => true,
+            Enable::Released => false,
         }
     }
 }

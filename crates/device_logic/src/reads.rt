@@ -57,7 +57,8 @@ fn enables_never<D: Device>(array: &FuseArray<'_, D>, enable: Enable) -> bool
 {
     match enable {
         Enable::Row(row) => !array.is_live(row),
-        Enable::PinLow(_pin) => false,
+        Enable::PinLow(_) | Enable::Driven => false,
+        Enable::Released => true,
     }
 }
 
@@ -69,7 +70,7 @@ fn enable_reads<D: Device>(array: &FuseArray<'_, D>, enable: Enable, to: u8) -> 
 {
     match enable {
         Enable::Row(row) => row_reads_cell(array, row, to),
-        Enable::PinLow(_pin) => false,
+        Enable::PinLow(_) | Enable::Driven | Enable::Released => false,
     }
 }
 

@@ -29,7 +29,7 @@ pub use Rattle.pld_device.specs.Table.{Table, cell_at, no_cell}
 pub use Rattle.pld_device.specs.declared.carry.Carry.{Carry}
 pub use Rattle.pld_device.specs.declared.cell.Cell.{Cell}
 pub use Rattle.pld_device.specs.declared.enable.Enable.{Enable}
-pub use Rattle.pld_device.specs.declared.enable.Enable.TheVariants.{PinLow, Row}
+pub use Rattle.pld_device.specs.declared.enable.Enable.TheVariants.{PinLow, Driven, Released, Row}
 pub use Rattle.pld_machine.proofs.OneRest.{levels_equal}
 pub use Rattle.pld_machine.proofs.OneRun.{is_on-filled, length-filled, rests_once}
 pub use Rattle.pld_machine.proofs.Settled.{same_true, true_same}

@@ -1,6 +1,6 @@
 -- What the rows of a device read is known.
 use Rattle.std.proofs.Common.{◌≡◌, ℕ, zero, suc, ◌<◌, Bool, true, false, not, ◌&&◌, ◌==◌, List, [], ◌∷◌, length, get_or, Some, slice_get, refl, ap, sym, ◌∙◌, subst, arith, inl, inr, eq-eqb}
-use Rattle.fuse_compare.proofs.Common.{list_any, range_with_len, and_parts, or_left, or_right, or_cases, true≢false, eqb-true, false_from_ne_true, get_or_from_slice_get, slice_get_within, Carry, Cell, Enable, Row, PinLow, is_enable_pin, IsDevice, IsPair, stores, Table, cell_at, no_cell, own_pins, any_at, one_of, some_read, is_level_of, is_q_of, known_of, Knows, KnowsReads}
+use Rattle.fuse_compare.proofs.Common.{list_any, range_with_len, and_parts, or_left, or_right, or_cases, true≢false, eqb-true, false_from_ne_true, get_or_from_slice_get, slice_get_within, Carry, Cell, Enable, Row, PinLow, Driven, Released, is_enable_pin, IsDevice, IsPair, stores, Table, cell_at, no_cell, own_pins, any_at, one_of, some_read, is_level_of, is_q_of, known_of, Knows, KnowsReads}
 use Rattle.pld_device.specs.declared.carry.Carry.TheVariants as carry
 use Rattle.pld_device.specs.Reads.{row_reads}
 
@@ -26,6 +26,8 @@ one_cell test (x ∷ cells) some = elim (or_cases (test x) (list_any test cells)
 pub enables_is : (k : ℕ) (e : Enable) → is_enable_pin k e ≡ true → e ≡ PinLow k
 enables_is k (Row row) h = absurd (true≢false (sym h))
 enables_is k (PinLow pin) h = ap (λ p. PinLow p) (eqb-true pin k h)
+enables_is k Driven h = absurd (true≢false (sym h))
+enables_is k Released h = absurd (true≢false (sym h))
 
 module _ (t : Table) (laws : IsDevice t) (fuses : List Bool) where
   some_at : (test : Carry → Bool) (row pair : ℕ) (x : Carry) → row < t.rows → row_reads t fuses row pair ≡ true → slice_get t.pairs pair ≡ Some x → test x ≡ true

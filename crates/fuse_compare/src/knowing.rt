@@ -21,7 +21,8 @@ fn may_enable<D: Device>(logic: &MaskedLogic<'_, D>, enable: Enable) -> bool
         → enabled_by D.table logic.now.fuses at enable ≡ false }
 {
     match enable {
-        Enable::PinLow(_pin) => true,
+        Enable::PinLow(_) | Enable::Driven => true,
+        Enable::Released => false,
         Enable::Row(row) => !logic.mask(row).is_empty(),
     }
 }

@@ -89,7 +89,7 @@ fn with_enable<D: Device>(
         (λ at. enabled_by D.table b.now.fuses at enable) own.items more.items) }
 {
     match enable {
-        Enable::PinLow(_pin) => Ok(own),
+        Enable::PinLow(_) | Enable::Driven | Enable::Released => Ok(own),
         Enable::Row(first) => with_rows(alloc, own, a, b, Group { first, room: 1 }),
     }
 }

@@ -80,8 +80,8 @@ fn is_enable_pin(pin: u8, enable: Enable) -> bool
     ensures { result ≡ is_enable_pin pin enable }
 {
     match enable {
-        Enable::Row(_row) => false,
         Enable::PinLow(enabling) => enabling == pin,
+        Enable::Row(_) | Enable::Driven | Enable::Released => false,
     }
 }
 
