@@ -59,10 +59,12 @@ abbrev pub enable_equation : {W : Type 0} → Evaluator W → List (Contribution
 enable_equation ev cs None = ev.constant false
 enable_equation ev cs (Some s) = unwrap_or (control_of ev cs s extension.Oe) (ev.constant true)
 
--- by the cell's enable: a row, or a pin at 0
+-- by the cell's enable: a row, or a pin at 0; a cell without either always drives its pin, or never
 abbrev pub cell_enabled_by : Evaluator Bool → Levels → List (Contribution Bool) → Option ℕ → Enable → Bool
 cell_enabled_by ev at cs s (enable.Row row) = enable_equation ev cs s
 cell_enabled_by ev at cs s (enable.PinLow pin) = not (is_on at.pins pin)
+cell_enabled_by ev at cs s enable.Driven = true
+cell_enabled_by ev at cs s enable.Released = false
 
 -- the cell drives its pin
 abbrev pub cell_is_enabled : Evaluator Bool → Context → Levels → List (Contribution Bool) → (cell : ℕ) → Bool

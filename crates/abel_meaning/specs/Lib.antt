@@ -9,7 +9,6 @@ pub mod CountedBlocks
 pub mod CountedNodes
 pub mod Declarations
 pub mod Designs
-pub mod DeviceStrings
 pub mod Diagrams
 pub mod Directives
 pub mod Follows
@@ -17,11 +16,13 @@ pub mod FormulaBits
 pub mod Functions
 pub mod Held
 pub mod Kinds
+pub mod Models
 pub mod NetlistLogic
 pub mod NetlistReads
 pub mod Netlists
 pub mod Numbers
 pub mod Prelude
+pub mod Reads
 pub mod Rows
 pub mod Sections
 pub mod SignalPins

@@ -1,6 +1,6 @@
 -- A netlist as a logic: what it drives, releases and stores in a device (this project's rule).
-use Rattle.std.specs.Prelude.{ℕ, Bool, true, false, not, nat_lt, if◌then◌else◌, Option, None, Some, unwrap_or, length}
-use Rattle.abel_meaning.specs.Prelude.{is_on, same_level, Levels, Logic, NodeValues, Enable, Row, PinLow, Kinds, complement_if, Table, cell_at, Formula, Const, formula_value}
+use Rattle.std.specs.Prelude.{ℕ, Bool, true, false, not, ◌&&◌, nat_lt, if◌then◌else◌, Option, None, Some, unwrap_or, length}
+use Rattle.abel_meaning.specs.Prelude.{is_on, same_level, Levels, Logic, NodeValues, Enable, Row, PinLow, Driven, Released, Kinds, complement_if, Table, cell_at, Formula, Const, formula_value}
 use Rattle.pld_device.specs.Registers.{stores_by}
 use Rattle.abel_meaning.specs.Functions.{allows, value_with_any_0}
 use Rattle.abel_meaning.specs.Netlists.{Wanted, PlainNetlist, node_at, wanted_at, function_at, as_named, own_or_shared}
@@ -18,17 +18,23 @@ netlist_stores t net c = registers_as (cell_at t c).kinds (wanted_at net c)
 abbrev pub enable_of : Wanted → Formula
 enable_of w = unwrap_or w.enable (Const true)
 
--- the cell drives its pin: by its enable, or while a pin is low; one that is assigned nothing by such a pin alone
+-- the cell drives its pin: by its enable, while a pin is low, always or never; one that is assigned nothing not by a row
 abbrev pub drives : Levels → Option Wanted → Enable → Bool
 drives at None (Row row) = false
 drives at (Some w) (Row row) = formula_value at (enable_of w)
 drives at None (PinLow pin) = not (is_on at.pins pin)
 drives at (Some w) (PinLow pin) = not (is_on at.pins pin)
+drives at found Driven = true
+drives at found Released = false
+
+-- the level of an enabled cell that is assigned nothing: a register's is the complement of Q, any other's 1
+abbrev pub spare_level : Kinds → (q : Bool) → Bool
+spare_level kinds q = not (stores_by kinds false && q)
 
 -- a level that an enabled cell may have: a register's is Q, or the complement of Q
-abbrev pub may_drive : Levels → ℕ → Option Wanted → Bool → Bool
-may_drive at c None level = same_level level (not (is_on at.q c))
-may_drive at c (Some w) level =
+abbrev pub may_drive : Levels → Kinds → ℕ → Option Wanted → Bool → Bool
+may_drive at kinds c None level = same_level level (spare_level kinds (is_on at.q c))
+may_drive at kinds c (Some w) level =
     if w.registered
     then same_level level (complement_if (not w.buffer) (is_on at.q c))
     else allows (function_at at w.function) (as_named w level)
@@ -48,7 +54,7 @@ netlist_logic t net =
       clock = t.clock;
       is_node = λ n. nat_lt n (length net.nodes);
       enabled = λ at c. drives at (wanted_at net c) (cell_at t c).enable;
-      allows_level = λ at c level. may_drive at c (wanted_at net c) level;
+      allows_level = λ at c level. may_drive at (cell_at t c).kinds c (wanted_at net c) level;
       allows_node = λ at n v. allows (function_at at (node_at net n)) v;
       reset = λ at c. formula_value at (own_or_shared (λ (w : Wanted). w.reset) net c);
       preset = λ at c. formula_value at (own_or_shared (λ (w : Wanted). w.preset) net c);

@@ -30,7 +30,7 @@ pub use Rattle.pld_device.specs.Macrocells.{complement_if}
 pub use Rattle.pld_device.specs.Pins.{IsPairOf, carries_cell, cell_on, is_read_pin, pair_pins}
 pub use Rattle.pld_device.specs.Table.{Table, cell_at}
 pub use Rattle.pld_device.specs.declared.enable.Enable.{Enable}
-pub use Rattle.pld_device.specs.declared.enable.Enable.TheVariants.{PinLow, Row}
+pub use Rattle.pld_device.specs.declared.enable.Enable.TheVariants.{PinLow, Driven, Released, Row}
 pub use Rattle.pld_device.specs.declared.flip.Flip.TheVariants.{AfterRegister, Always, BeforeRegister}
 pub use Rattle.pld_device.specs.declared.kinds.Kinds.{Kinds}
 pub use Rattle.pld_device.specs.declared.kinds.Kinds.TheVariants.{Combinational, Either, Registered}

@@ -1,5 +1,5 @@
 -- A design as a logic: what it asks of each point (ABEL-HDL Reference Manual, equations; the devices' datasheets).
-use Rattle.std.specs.Prelude.{ℕ, ◌==◌, Bool, true, false, not, if◌then◌else◌, Option, None, Some, is_some, List, length, position}
+use Rattle.std.specs.Prelude.{ℕ, ◌==◌, Bool, true, false, not, if◌then◌else◌, Option, None, Some, is_some, List, length, position, ◌&&◌}
 use Rattle.abel_meaning.specs.Prelude.{is_on, same_level, Levels, Logic, NodeValues, complement_if, Table, cell_at, Kind, APin, ANode, Entry, is_stored, follows_q, ModuleTree}
 use Rattle.abel_tree.specs.declared.words.Extension.TheVariants as extension
 use Rattle.abel_meaning.specs.Designs.{Context, Design, design_of, name_at}
@@ -32,10 +32,10 @@ assigned_level choice d at cs c s x level =
     if is_stored x then same_level level (complement_if (not (follows_q x)) (is_on at.q c))
     else signal_allows choice d at cs s (complement_if (is_negated x.kind) level)
 
--- the levels of a cell's pin: a register that nothing assigns inverts, and any other such cell is never enabled
+-- the levels of a cell's pin: a register that nothing assigns inverts, and any other such cell has level 1 if it drives at all
 abbrev pub pin_allows : FunctionReading → Context → Levels → List (Contribution Bool) → (cell : ℕ) → Option ℕ
     → Bool → Bool
-pin_allows choice d at cs c None level = if cell_stores d c then same_level level (not (is_on at.q c)) else false
+pin_allows choice d at cs c None level = same_level level (not (cell_stores d c && is_on at.q c))
 pin_allows choice d at cs c (Some s) level = assigned_level choice d at cs c s (name_at d s) level
 
 -- the next Q: for raw data the value itself, else the one with which the name has the value; 0 if nothing is assigned

@@ -70,20 +70,20 @@ names = refl
 
 -- at a point, by the logic itself
 at0 : logic_answers (source_logic gal22v10 source) (point 13878118 629 13) 4
-    ≡ (75 ∷ 135 ∷ 139 ∷ 71 ∷ 75 ∷ 14 ∷ 71 ∷ 75 ∷ 6 ∷ 0 ∷ 5 ∷ 3 ∷ 5 ∷ 3 ∷ [])
+    ≡ (75 ∷ 135 ∷ 139 ∷ 71 ∷ 75 ∷ 14 ∷ 71 ∷ 75 ∷ 6 ∷ 8 ∷ 5 ∷ 3 ∷ 5 ∷ 3 ∷ [])
 unfolding digits
 at0 = refl
 
 -- at a second point
 at1 : answers (design_of gal22v10 source) (point 22822116 430 1) 4
-    ≡ (71 ∷ 139 ∷ 139 ∷ 75 ∷ 71 ∷ 6 ∷ 75 ∷ 71 ∷ 6 ∷ 0 ∷ 3 ∷ 3 ∷ 5 ∷ 3 ∷ 2 ∷ 2 ∷ 2 ∷ 0 ∷ 1 ∷ 1 ∷ 0 ∷ 0 ∷ 0 ∷ 2
+    ≡ (71 ∷ 139 ∷ 139 ∷ 75 ∷ 71 ∷ 6 ∷ 75 ∷ 71 ∷ 6 ∷ 8 ∷ 3 ∷ 3 ∷ 5 ∷ 3 ∷ 2 ∷ 2 ∷ 2 ∷ 0 ∷ 1 ∷ 1 ∷ 0 ∷ 0 ∷ 0 ∷ 2
     ∷ 2 ∷ 0 ∷ 0 ∷ 1 ∷ 2 ∷ 0 ∷ 1 ∷ 2 ∷ 2 ∷ 0 ∷ 2 ∷ [])
 unfolding digits
 at1 = refl
 
 -- at a third
 at2 : answers (design_of gal22v10 source) (point 21363962 670 13) 4
-    ≡ (71 ∷ 139 ∷ 75 ∷ 75 ∷ 75 ∷ 14 ∷ 139 ∷ 71 ∷ 10 ∷ 0 ∷ 5 ∷ 5 ∷ 5 ∷ 3 ∷ 2 ∷ 2 ∷ 2 ∷ 0 ∷ 1 ∷ 0 ∷ 0 ∷ 0 ∷ 0
+    ≡ (71 ∷ 139 ∷ 75 ∷ 75 ∷ 75 ∷ 14 ∷ 139 ∷ 71 ∷ 10 ∷ 8 ∷ 5 ∷ 5 ∷ 5 ∷ 3 ∷ 2 ∷ 2 ∷ 2 ∷ 0 ∷ 1 ∷ 0 ∷ 0 ∷ 0 ∷ 0
     ∷ 2 ∷ 2 ∷ 1 ∷ 1 ∷ 1 ∷ 2 ∷ 1 ∷ 1 ∷ 2 ∷ 2 ∷ 1 ∷ 2 ∷ [])
 unfolding digits
 at2 = refl

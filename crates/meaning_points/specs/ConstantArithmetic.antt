@@ -74,20 +74,20 @@ names = refl
 
 -- at a point, by the logic itself
 at0 : logic_answers (source_logic gal22v10 source) (point 9021436 669 0) 0
-    ≡ (0 ∷ 0 ∷ 6 ∷ 10 ∷ 10 ∷ 6 ∷ 10 ∷ 6 ∷ 6 ∷ 10 ∷ [])
+    ≡ (8 ∷ 8 ∷ 6 ∷ 10 ∷ 10 ∷ 6 ∷ 10 ∷ 6 ∷ 6 ∷ 10 ∷ [])
 unfolding digits
 at0 = refl
 
 -- at a second point
 at1 : answers (design_of gal22v10 source) (point 11983546 492 0) 0
-    ≡ (0 ∷ 0 ∷ 6 ∷ 10 ∷ 10 ∷ 6 ∷ 10 ∷ 6 ∷ 6 ∷ 10 ∷ 2 ∷ 2 ∷ 2 ∷ 2 ∷ 2 ∷ 0 ∷ 1 ∷ 1 ∷ 0 ∷ 1 ∷ 0 ∷ 0 ∷ 1 ∷ 2 ∷ 2
+    ≡ (8 ∷ 8 ∷ 6 ∷ 10 ∷ 10 ∷ 6 ∷ 10 ∷ 6 ∷ 6 ∷ 10 ∷ 2 ∷ 2 ∷ 2 ∷ 2 ∷ 2 ∷ 0 ∷ 1 ∷ 1 ∷ 0 ∷ 1 ∷ 0 ∷ 0 ∷ 1 ∷ 2 ∷ 2
     ∷ 2 ∷ 2 ∷ 2 ∷ 2 ∷ 2 ∷ 2 ∷ 2 ∷ 2 ∷ [])
 unfolding digits
 at1 = refl
 
 -- at a third
 at2 : answers (design_of gal22v10 source) (point 8416212 407 0) 0
-    ≡ (0 ∷ 0 ∷ 6 ∷ 10 ∷ 10 ∷ 6 ∷ 10 ∷ 6 ∷ 6 ∷ 10 ∷ 2 ∷ 2 ∷ 2 ∷ 2 ∷ 2 ∷ 0 ∷ 1 ∷ 1 ∷ 0 ∷ 1 ∷ 0 ∷ 0 ∷ 1 ∷ 2 ∷ 2
+    ≡ (8 ∷ 8 ∷ 6 ∷ 10 ∷ 10 ∷ 6 ∷ 10 ∷ 6 ∷ 6 ∷ 10 ∷ 2 ∷ 2 ∷ 2 ∷ 2 ∷ 2 ∷ 0 ∷ 1 ∷ 1 ∷ 0 ∷ 1 ∷ 0 ∷ 0 ∷ 1 ∷ 2 ∷ 2
     ∷ 2 ∷ 2 ∷ 2 ∷ 2 ∷ 2 ∷ 2 ∷ 2 ∷ 2 ∷ [])
 unfolding digits
 at2 = refl

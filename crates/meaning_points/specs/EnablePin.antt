@@ -36,19 +36,19 @@ names = refl
 
 -- at a point, by the logic itself
 at0 : logic_answers (source_logic pal16r4 source) (point 1951774 133 0) 0
-    ≡ (0 ∷ 0 ∷ 69 ∷ 73 ∷ 73 ∷ 73 ∷ 0 ∷ 0 ∷ [])
+    ≡ (8 ∷ 8 ∷ 69 ∷ 73 ∷ 73 ∷ 73 ∷ 8 ∷ 8 ∷ [])
 unfolding digits
 at0 = refl
 
 -- at a second point
 at1 : answers (design_of pal16r4 source) (point 1096888 111 0) 0
-    ≡ (0 ∷ 0 ∷ 133 ∷ 69 ∷ 73 ∷ 69 ∷ 0 ∷ 0 ∷ 2 ∷ 2 ∷ 2 ∷ 2 ∷ 0 ∷ [])
+    ≡ (8 ∷ 8 ∷ 133 ∷ 69 ∷ 73 ∷ 69 ∷ 8 ∷ 8 ∷ 2 ∷ 2 ∷ 2 ∷ 2 ∷ 0 ∷ [])
 unfolding digits
 at1 = refl
 
 -- at a third
 at2 : answers (design_of pal16r4 source) (point 2090478 72 0) 0
-    ≡ (0 ∷ 0 ∷ 75 ∷ 71 ∷ 75 ∷ 75 ∷ 0 ∷ 0 ∷ 2 ∷ 2 ∷ 2 ∷ 2 ∷ 1 ∷ [])
+    ≡ (8 ∷ 8 ∷ 75 ∷ 71 ∷ 75 ∷ 75 ∷ 8 ∷ 8 ∷ 2 ∷ 2 ∷ 2 ∷ 2 ∷ 1 ∷ [])
 unfolding digits
 at2 = refl
 

@@ -64,20 +64,20 @@ names = refl
 
 -- at a point, by the logic itself
 at0 : logic_answers (source_logic gal22v10 source) (point 10711512 987 0) 2
-    ≡ (139 ∷ 75 ∷ 69 ∷ 139 ∷ 69 ∷ 75 ∷ 8 ∷ 4 ∷ 0 ∷ 0 ∷ 3 ∷ 5 ∷ [])
+    ≡ (139 ∷ 75 ∷ 69 ∷ 139 ∷ 69 ∷ 75 ∷ 8 ∷ 4 ∷ 8 ∷ 8 ∷ 3 ∷ 5 ∷ [])
 unfolding digits
 at0 = refl
 
 -- at a second point
 at1 : answers (design_of gal22v10 source) (point 17925374 702 0) 2
-    ≡ (87 ∷ 91 ∷ 91 ∷ 155 ∷ 151 ∷ 151 ∷ 26 ∷ 20 ∷ 16 ∷ 16 ∷ 5 ∷ 5 ∷ 2 ∷ 2 ∷ 2 ∷ 2 ∷ 2 ∷ 0 ∷ 0 ∷ 0 ∷ 1 ∷ 1 ∷ 0
+    ≡ (87 ∷ 91 ∷ 91 ∷ 155 ∷ 151 ∷ 151 ∷ 26 ∷ 20 ∷ 24 ∷ 24 ∷ 5 ∷ 5 ∷ 2 ∷ 2 ∷ 2 ∷ 2 ∷ 2 ∷ 0 ∷ 0 ∷ 0 ∷ 1 ∷ 1 ∷ 0
     ∷ 1 ∷ 1 ∷ 1 ∷ 1 ∷ 2 ∷ 2 ∷ 2 ∷ [])
 unfolding digits
 at1 = refl
 
 -- at a third
 at2 : answers (design_of gal22v10 source) (point 28907402 163 1) 2
-    ≡ (171 ∷ 171 ∷ 101 ∷ 103 ∷ 169 ∷ 103 ∷ 40 ∷ 36 ∷ 32 ∷ 32 ∷ 3 ∷ 7 ∷ 2 ∷ 2 ∷ 2 ∷ 2 ∷ 2 ∷ 1 ∷ 1 ∷ 0 ∷ 0 ∷ 1
+    ≡ (171 ∷ 171 ∷ 101 ∷ 103 ∷ 169 ∷ 103 ∷ 40 ∷ 36 ∷ 40 ∷ 40 ∷ 3 ∷ 7 ∷ 2 ∷ 2 ∷ 2 ∷ 2 ∷ 2 ∷ 1 ∷ 1 ∷ 0 ∷ 0 ∷ 1
     ∷ 1 ∷ 1 ∷ 1 ∷ 0 ∷ 1 ∷ 2 ∷ 2 ∷ 2 ∷ [])
 unfolding digits
 at2 = refl

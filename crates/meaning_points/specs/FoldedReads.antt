@@ -43,19 +43,19 @@ names = refl
 
 -- at a point, by the logic itself
 at0 : logic_answers (source_logic gal22v10 source) (point 19910590 486 3) 2
-    ≡ (16 ∷ 16 ∷ 16 ∷ 16 ∷ 151 ∷ 30 ∷ 26 ∷ 16 ∷ 16 ∷ 16 ∷ 5 ∷ 7 ∷ [])
+    ≡ (24 ∷ 24 ∷ 24 ∷ 24 ∷ 151 ∷ 30 ∷ 26 ∷ 24 ∷ 24 ∷ 24 ∷ 5 ∷ 7 ∷ [])
 unfolding digits
 at0 = refl
 
 -- at a second point
 at1 : answers (design_of gal22v10 source) (point 13945586 913 2) 2
-    ≡ (16 ∷ 16 ∷ 16 ∷ 16 ∷ 91 ∷ 22 ∷ 20 ∷ 16 ∷ 16 ∷ 16 ∷ 3 ∷ 3 ∷ 2 ∷ 2 ∷ 2 ∷ 0 ∷ 0 ∷ 0 ∷ 0 ∷ 0 ∷ [])
+    ≡ (24 ∷ 24 ∷ 24 ∷ 24 ∷ 91 ∷ 22 ∷ 20 ∷ 24 ∷ 24 ∷ 24 ∷ 3 ∷ 3 ∷ 2 ∷ 2 ∷ 2 ∷ 0 ∷ 0 ∷ 0 ∷ 0 ∷ 0 ∷ [])
 unfolding digits
 at1 = refl
 
 -- at a third
 at2 : answers (design_of gal22v10 source) (point 13250600 853 1) 2
-    ≡ (16 ∷ 16 ∷ 16 ∷ 16 ∷ 91 ∷ 30 ∷ 24 ∷ 16 ∷ 16 ∷ 16 ∷ 3 ∷ 7 ∷ 2 ∷ 2 ∷ 2 ∷ 0 ∷ 1 ∷ 0 ∷ 0 ∷ 0 ∷ [])
+    ≡ (24 ∷ 24 ∷ 24 ∷ 24 ∷ 91 ∷ 30 ∷ 24 ∷ 24 ∷ 24 ∷ 24 ∷ 3 ∷ 7 ∷ 2 ∷ 2 ∷ 2 ∷ 0 ∷ 1 ∷ 0 ∷ 0 ∷ 0 ∷ [])
 unfolding digits
 at2 = refl
 

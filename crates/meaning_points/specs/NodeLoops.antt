@@ -51,19 +51,19 @@ names = refl
 
 -- at a point, by the logic itself
 at0 : logic_answers (source_logic gal22v10 source) (point 904512 132 0) 2
-    ≡ (0 ∷ 0 ∷ 0 ∷ 0 ∷ 135 ∷ 4 ∷ 4 ∷ 0 ∷ 0 ∷ 0 ∷ 7 ∷ 5 ∷ [])
+    ≡ (8 ∷ 8 ∷ 8 ∷ 8 ∷ 135 ∷ 4 ∷ 4 ∷ 8 ∷ 8 ∷ 8 ∷ 7 ∷ 5 ∷ [])
 unfolding digits
 at0 = refl
 
 -- at a second point
 at1 : answers (design_of gal22v10 source) (point 435364 1013 3) 2
-    ≡ (32 ∷ 32 ∷ 32 ∷ 32 ∷ 171 ∷ 42 ∷ 40 ∷ 32 ∷ 32 ∷ 32 ∷ 5 ∷ 5 ∷ 2 ∷ 2 ∷ 2 ∷ 1 ∷ 1 ∷ 1 ∷ 1 ∷ 1 ∷ [])
+    ≡ (40 ∷ 40 ∷ 40 ∷ 40 ∷ 171 ∷ 42 ∷ 40 ∷ 40 ∷ 40 ∷ 40 ∷ 5 ∷ 5 ∷ 2 ∷ 2 ∷ 2 ∷ 1 ∷ 1 ∷ 1 ∷ 1 ∷ 1 ∷ [])
 unfolding digits
 at1 = refl
 
 -- at a third
 at2 : answers (design_of gal22v10 source) (point 11494598 858 1) 2
-    ≡ (32 ∷ 32 ∷ 32 ∷ 32 ∷ 171 ∷ 42 ∷ 40 ∷ 32 ∷ 32 ∷ 32 ∷ 5 ∷ 5 ∷ 2 ∷ 2 ∷ 2 ∷ 1 ∷ 1 ∷ 1 ∷ 1 ∷ 1 ∷ [])
+    ≡ (40 ∷ 40 ∷ 40 ∷ 40 ∷ 171 ∷ 42 ∷ 40 ∷ 40 ∷ 40 ∷ 40 ∷ 5 ∷ 5 ∷ 2 ∷ 2 ∷ 2 ∷ 1 ∷ 1 ∷ 1 ∷ 1 ∷ 1 ∷ [])
 unfolding digits
 at2 = refl
 

@@ -27,19 +27,19 @@ names = refl
 
 -- at a point, by the logic itself
 at0 : logic_answers (source_logic pal16l8 source) (point 1377886 40 0) 0
-    ≡ (0 ∷ 6 ∷ 0 ∷ 0 ∷ 0 ∷ 0 ∷ 0 ∷ 0 ∷ [])
+    ≡ (8 ∷ 6 ∷ 8 ∷ 8 ∷ 8 ∷ 8 ∷ 8 ∷ 8 ∷ [])
 unfolding digits
 at0 = refl
 
 -- at a second point
 at1 : answers (design_of pal16l8 source) (point 485538 68 0) 0
-    ≡ (0 ∷ 6 ∷ 0 ∷ 0 ∷ 0 ∷ 0 ∷ 0 ∷ 0 ∷ 2 ∷ 0 ∷ [])
+    ≡ (8 ∷ 6 ∷ 8 ∷ 8 ∷ 8 ∷ 8 ∷ 8 ∷ 8 ∷ 2 ∷ 0 ∷ [])
 unfolding digits
 at1 = refl
 
 -- at a third
 at2 : answers (design_of pal16l8 source) (point 1474356 228 0) 0
-    ≡ (0 ∷ 6 ∷ 0 ∷ 0 ∷ 0 ∷ 0 ∷ 0 ∷ 0 ∷ 2 ∷ 0 ∷ [])
+    ≡ (8 ∷ 6 ∷ 8 ∷ 8 ∷ 8 ∷ 8 ∷ 8 ∷ 8 ∷ 2 ∷ 0 ∷ [])
 unfolding digits
 at2 = refl
 

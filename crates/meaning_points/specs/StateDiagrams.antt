@@ -77,20 +77,20 @@ names = refl
 
 -- at a point, by the logic itself
 at0 : logic_answers (source_logic pal16r4 source) (point 188586 203 1) 1
-    ≡ (6 ∷ 6 ∷ 75 ∷ 135 ∷ 139 ∷ 75 ∷ 0 ∷ 0 ∷ 3 ∷ [])
+    ≡ (6 ∷ 6 ∷ 75 ∷ 135 ∷ 139 ∷ 75 ∷ 8 ∷ 8 ∷ 3 ∷ [])
 unfolding digits
 at0 = refl
 
 -- at a second point
 at1 : answers (design_of pal16r4 source) (point 1547932 235 0) 1
-    ≡ (10 ∷ 10 ∷ 73 ∷ 69 ∷ 137 ∷ 69 ∷ 0 ∷ 0 ∷ 5 ∷ 2 ∷ 2 ∷ 2 ∷ 2 ∷ 2 ∷ 2 ∷ 1 ∷ 1 ∷ 1 ∷ 1 ∷ 1 ∷ 1 ∷ 2 ∷ 2 ∷ 2
+    ≡ (10 ∷ 10 ∷ 73 ∷ 69 ∷ 137 ∷ 69 ∷ 8 ∷ 8 ∷ 5 ∷ 2 ∷ 2 ∷ 2 ∷ 2 ∷ 2 ∷ 2 ∷ 1 ∷ 1 ∷ 1 ∷ 1 ∷ 1 ∷ 1 ∷ 2 ∷ 2 ∷ 2
     ∷ [])
 unfolding digits
 at1 = refl
 
 -- at a third
 at2 : answers (design_of pal16r4 source) (point 1493318 66 0) 1
-    ≡ (6 ∷ 6 ∷ 201 ∷ 201 ∷ 201 ∷ 73 ∷ 0 ∷ 0 ∷ 3 ∷ 2 ∷ 2 ∷ 2 ∷ 2 ∷ 2 ∷ 2 ∷ 0 ∷ 0 ∷ 0 ∷ 0 ∷ 0 ∷ 0 ∷ 2 ∷ 2 ∷ 2
+    ≡ (6 ∷ 6 ∷ 201 ∷ 201 ∷ 201 ∷ 73 ∷ 8 ∷ 8 ∷ 3 ∷ 2 ∷ 2 ∷ 2 ∷ 2 ∷ 2 ∷ 2 ∷ 0 ∷ 0 ∷ 0 ∷ 0 ∷ 0 ∷ 0 ∷ 2 ∷ 2 ∷ 2
     ∷ [])
 unfolding digits
 at2 = refl

@@ -55,20 +55,20 @@ names = refl
 
 -- at a point, by the logic itself
 at0 : logic_answers (source_logic gal22v10 source) (point 8976370 904 0) 0
-    ≡ (0 ∷ 0 ∷ 6 ∷ 6 ∷ 6 ∷ 6 ∷ 6 ∷ 6 ∷ 6 ∷ 6 ∷ [])
+    ≡ (8 ∷ 8 ∷ 6 ∷ 6 ∷ 6 ∷ 6 ∷ 6 ∷ 6 ∷ 6 ∷ 6 ∷ [])
 unfolding digits
 at0 = refl
 
 -- at a second point
 at1 : answers (design_of gal22v10 source) (point 27343678 750 0) 0
-    ≡ (0 ∷ 0 ∷ 6 ∷ 10 ∷ 10 ∷ 10 ∷ 6 ∷ 6 ∷ 10 ∷ 6 ∷ 2 ∷ 2 ∷ 2 ∷ 2 ∷ 2 ∷ 2 ∷ 2 ∷ 2 ∷ 0 ∷ 1 ∷ 1 ∷ 1 ∷ 0 ∷ 0 ∷ 1
+    ≡ (8 ∷ 8 ∷ 6 ∷ 10 ∷ 10 ∷ 10 ∷ 6 ∷ 6 ∷ 10 ∷ 6 ∷ 2 ∷ 2 ∷ 2 ∷ 2 ∷ 2 ∷ 2 ∷ 2 ∷ 2 ∷ 0 ∷ 1 ∷ 1 ∷ 1 ∷ 0 ∷ 0 ∷ 1
     ∷ 0 ∷ [])
 unfolding digits
 at1 = refl
 
 -- at a third
 at2 : answers (design_of gal22v10 source) (point 29189010 346 0) 0
-    ≡ (0 ∷ 0 ∷ 6 ∷ 6 ∷ 6 ∷ 6 ∷ 6 ∷ 6 ∷ 6 ∷ 6 ∷ 2 ∷ 2 ∷ 2 ∷ 2 ∷ 2 ∷ 2 ∷ 2 ∷ 2 ∷ 0 ∷ 0 ∷ 0 ∷ 0 ∷ 0 ∷ 0 ∷ 0 ∷ 0
+    ≡ (8 ∷ 8 ∷ 6 ∷ 6 ∷ 6 ∷ 6 ∷ 6 ∷ 6 ∷ 6 ∷ 6 ∷ 2 ∷ 2 ∷ 2 ∷ 2 ∷ 2 ∷ 2 ∷ 2 ∷ 2 ∷ 0 ∷ 0 ∷ 0 ∷ 0 ∷ 0 ∷ 0 ∷ 0 ∷ 0
     ∷ [])
 unfolding digits
 at2 = refl

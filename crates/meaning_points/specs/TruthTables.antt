@@ -88,19 +88,19 @@ names = refl
 
 -- at a point, by the logic itself
 at0 : logic_answers (source_logic pal16l8 source) (point 1881868 25 1) 1
-    ≡ (0 ∷ 10 ∷ 14 ∷ 10 ∷ 14 ∷ 0 ∷ 0 ∷ 0 ∷ 7 ∷ [])
+    ≡ (8 ∷ 10 ∷ 14 ∷ 10 ∷ 14 ∷ 8 ∷ 8 ∷ 8 ∷ 7 ∷ [])
 unfolding digits
 at0 = refl
 
 -- at a second point
 at1 : answers (design_of pal16l8 source) (point 147346 228 0) 1
-    ≡ (0 ∷ 6 ∷ 6 ∷ 6 ∷ 6 ∷ 0 ∷ 0 ∷ 0 ∷ 7 ∷ 2 ∷ 2 ∷ 2 ∷ 2 ∷ 2 ∷ 2 ∷ 0 ∷ 0 ∷ 0 ∷ 1 ∷ 0 ∷ 2 ∷ 2 ∷ 2 ∷ 2 ∷ [])
+    ≡ (8 ∷ 6 ∷ 6 ∷ 6 ∷ 6 ∷ 8 ∷ 8 ∷ 8 ∷ 7 ∷ 2 ∷ 2 ∷ 2 ∷ 2 ∷ 2 ∷ 2 ∷ 0 ∷ 0 ∷ 0 ∷ 1 ∷ 0 ∷ 2 ∷ 2 ∷ 2 ∷ 2 ∷ [])
 unfolding digits
 at1 = refl
 
 -- at a third
 at2 : answers (design_of pal16l8 source) (point 1930498 237 0) 1
-    ≡ (0 ∷ 6 ∷ 6 ∷ 6 ∷ 6 ∷ 0 ∷ 0 ∷ 0 ∷ 7 ∷ 2 ∷ 2 ∷ 2 ∷ 2 ∷ 2 ∷ 2 ∷ 0 ∷ 0 ∷ 0 ∷ 1 ∷ 0 ∷ 2 ∷ 2 ∷ 2 ∷ 2 ∷ [])
+    ≡ (8 ∷ 6 ∷ 6 ∷ 6 ∷ 6 ∷ 8 ∷ 8 ∷ 8 ∷ 7 ∷ 2 ∷ 2 ∷ 2 ∷ 2 ∷ 2 ∷ 2 ∷ 0 ∷ 0 ∷ 0 ∷ 1 ∷ 0 ∷ 2 ∷ 2 ∷ 2 ∷ 2 ∷ [])
 unfolding digits
 at2 = refl
 

@@ -37,19 +37,19 @@ names = refl
 
 -- at a point, by the logic itself
 at0 : logic_answers (source_logic pal16r4 source) (point 242548 48 0) 0
-    ≡ (0 ∷ 0 ∷ 139 ∷ 139 ∷ 71 ∷ 71 ∷ 0 ∷ 0 ∷ [])
+    ≡ (8 ∷ 8 ∷ 139 ∷ 139 ∷ 71 ∷ 71 ∷ 8 ∷ 8 ∷ [])
 unfolding digits
 at0 = refl
 
 -- at a second point
 at1 : answers (design_of pal16r4 source) (point 685010 241 0) 0
-    ≡ (0 ∷ 0 ∷ 139 ∷ 139 ∷ 71 ∷ 71 ∷ 0 ∷ 0 ∷ 2 ∷ 2 ∷ 2 ∷ 0 ∷ 0 ∷ [])
+    ≡ (8 ∷ 8 ∷ 139 ∷ 139 ∷ 71 ∷ 71 ∷ 8 ∷ 8 ∷ 2 ∷ 2 ∷ 2 ∷ 0 ∷ 0 ∷ [])
 unfolding digits
 at1 = refl
 
 -- at a third
 at2 : answers (design_of pal16r4 source) (point 1869744 105 0) 0
-    ≡ (0 ∷ 0 ∷ 139 ∷ 71 ∷ 75 ∷ 71 ∷ 0 ∷ 0 ∷ 2 ∷ 2 ∷ 2 ∷ 0 ∷ 1 ∷ [])
+    ≡ (8 ∷ 8 ∷ 139 ∷ 71 ∷ 75 ∷ 71 ∷ 8 ∷ 8 ∷ 2 ∷ 2 ∷ 2 ∷ 0 ∷ 1 ∷ [])
 unfolding digits
 at2 = refl
 

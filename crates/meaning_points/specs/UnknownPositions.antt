@@ -75,20 +75,20 @@ names = refl
 
 -- at a point, by the logic itself
 at0 : logic_answers (source_logic gal22v10 source) (point 18456962 397 0) 0
-    ≡ (0 ∷ 0 ∷ 6 ∷ 6 ∷ 6 ∷ 10 ∷ 6 ∷ 10 ∷ 6 ∷ 10 ∷ [])
+    ≡ (8 ∷ 8 ∷ 6 ∷ 6 ∷ 6 ∷ 10 ∷ 6 ∷ 10 ∷ 6 ∷ 10 ∷ [])
 unfolding digits
 at0 = refl
 
 -- at a second point
 at1 : answers (design_of gal22v10 source) (point 29550830 852 0) 0
-    ≡ (0 ∷ 0 ∷ 6 ∷ 10 ∷ 10 ∷ 10 ∷ 6 ∷ 10 ∷ 10 ∷ 10 ∷ 2 ∷ 2 ∷ 2 ∷ 2 ∷ 2 ∷ 2 ∷ 2 ∷ 1 ∷ 1 ∷ 1 ∷ 0 ∷ 1 ∷ 1 ∷ 1
+    ≡ (8 ∷ 8 ∷ 6 ∷ 10 ∷ 10 ∷ 10 ∷ 6 ∷ 10 ∷ 10 ∷ 10 ∷ 2 ∷ 2 ∷ 2 ∷ 2 ∷ 2 ∷ 2 ∷ 2 ∷ 1 ∷ 1 ∷ 1 ∷ 0 ∷ 1 ∷ 1 ∷ 1
     ∷ 0 ∷ 2 ∷ 2 ∷ 2 ∷ 2 ∷ [])
 unfolding digits
 at1 = refl
 
 -- at a third
 at2 : answers (design_of gal22v10 source) (point 27656312 150 0) 0
-    ≡ (0 ∷ 0 ∷ 6 ∷ 6 ∷ 6 ∷ 10 ∷ 6 ∷ 10 ∷ 6 ∷ 10 ∷ 2 ∷ 2 ∷ 2 ∷ 2 ∷ 2 ∷ 2 ∷ 2 ∷ 1 ∷ 0 ∷ 1 ∷ 0 ∷ 1 ∷ 0 ∷ 0 ∷ 0
+    ≡ (8 ∷ 8 ∷ 6 ∷ 6 ∷ 6 ∷ 10 ∷ 6 ∷ 10 ∷ 6 ∷ 10 ∷ 2 ∷ 2 ∷ 2 ∷ 2 ∷ 2 ∷ 2 ∷ 2 ∷ 1 ∷ 0 ∷ 1 ∷ 0 ∷ 1 ∷ 0 ∷ 0 ∷ 0
     ∷ 2 ∷ 2 ∷ 2 ∷ 2 ∷ [])
 unfolding digits
 at2 = refl

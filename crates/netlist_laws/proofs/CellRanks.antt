@@ -1,6 +1,6 @@
 -- Fitted cells read only cells of lower rank among the netlist's signals, so none reads itself through others.
 use Rattle.std.proofs.Common.{◌≡◌, ℕ, ◌+◌, ◌<◌, ◌≤◌, Bool, true, false, not, ◌&&◌, ◌||◌, List, length, Option, Some, None, refl, ap, sym, ◌∙◌, arith, inl, inr, unwrap_or}
-use Rattle.netlist_laws.proofs.Common.{list_any, cases_lt, and_parts, or_cases, or_left, or_right, true≢false, not-true, Enable, Row, PinLow, Table, cell_at, no_cell, IsDevice, enables_never, never_drives, data_rows, stores, HasNoLoop, row_reads_cell, enable_reads, data_reads, rest_reads, cell_reads, one_of, Leaf, Formula, Const, names, Wanted, PlainNetlist, node_at, wanted_at, enable_of, names_if_any, function_names, cell_names, netlist_names, netlist_waits, signal_count, IsReadable, IsSoundFormula, IsSound, IsFittedEnable, IsFittedCell, IsSpareCell, IsFittedAs, IsFitted, Ranked, no_loop_by_rank}
+use Rattle.netlist_laws.proofs.Common.{list_any, cases_lt, and_parts, or_cases, or_left, or_right, true≢false, not-true, Enable, Row, PinLow, Driven, Released, Table, cell_at, no_cell, IsDevice, enables_never, never_drives, data_rows, stores, HasNoLoop, row_reads_cell, enable_reads, data_reads, rest_reads, cell_reads, one_of, Leaf, Formula, Const, names, Wanted, PlainNetlist, node_at, wanted_at, enable_of, names_if_any, function_names, cell_names, netlist_names, netlist_waits, signal_count, IsReadable, IsSoundFormula, IsSound, IsFittedEnable, IsFittedCell, IsSpareCell, IsFittedAs, IsFitted, Ranked, no_loop_by_rank}
 use Rattle.pld_device.specs.declared.carry.Carry.TheVariants as carry
 use Rattle.bit_expr.specs.declared.node.Leaf.TheVariants as leaf
 use Rattle.netlist_laws.proofs.Valuing.{IsKnown, IsClosed, node_names, waits_for_node, cell_named, node_sound}
@@ -9,6 +9,10 @@ use Rattle.netlist_laws.proofs.WantedCells.{IsSoundAt, sound_at, registers_wante
 use Rattle.netlist_laws.proofs.CoverReads.{leaf_of}
 use Rattle.netlist_laws.proofs.UnusedRows.{unused_never, data_row_below}
 use Rattle.netlist_laws.proofs.ToldRows.{IsTold, told_cell, exact_told, data_told}
+use Rattle.device_logic.proofs.ReadCells.{row_reads_cell-pair}
+use Rattle.pld_device.specs.Reads.{is_never_true, connected_pairs}
+use Rattle.pld_device.specs.Rows.{row_fuses}
+use Rattle.pld_base.specs.Bits.{is_on}
 
 -- the leaves of an enable
 pub enable_names : (e : Option Formula) (l : Leaf) → names (unwrap_or e (Const true)) l ≡ true → names_if_any e l ≡ true
@@ -38,6 +42,14 @@ module _ (t : Table) (laws : IsDevice t) (net : PlainNetlist) (sound : IsSound t
           let kept : stores t fuses c ≡ true = rw kind refl in
           let off : data_reads t fuses c d ≡ false = rw kept refl in
           true≢false (sym some ∙ off)
+      by_enable Driven is drives some =
+          let parts = and_parts (not (stores t fuses c)) (list_any (λ row. row_reads_cell t fuses row d) (data_rows t c)) some in
+          let row = one_of (λ row. row_reads_cell t fuses row d) (cell_at t c).first (cell_at t c).room parts.1 in
+          let never = unused_never t laws fuses fitted.size row.0 (data_row_below t laws c row.0 within (row.1, row.2)) (spare.rows row.0 (row.1, row.2)) in
+          let found = row_reads_cell-pair t fuses row.0 d row.3 in
+          let live = and_parts (not (is_never_true t fuses row.0)) (is_on (connected_pairs (row_fuses t fuses row.0)) found.pair) found.reads in
+          true≢false (sym live.0 ∙ ap not never)
+      by_enable Released is drives some = true≢false (sym drives)
 
   module _ (ranks : Ranked (signal_count t net) (netlist_waits t net)) where
     -- leaves of signals below a rank
@@ -93,6 +105,8 @@ module _ (t : Table) (laws : IsDevice t) (net : PlainNetlist) (sound : IsSound t
           (exact_told t laws fuses fitted.size net sound ranks (Below (ranks.rank c)) (closed (ranks.rank c)) row (enable_of w) ((laws.cells c no_cell within).enable_below row at) (wanted_enable_sound t net c w (sound_at t net sound c w is)) enable_known exact)
           reads
       by_enable (PinLow pin) d d_in plain at exact reads = absurd (true≢false (sym reads))
+      by_enable Driven d d_in plain at exact reads = absurd (true≢false (sym reads))
+      by_enable Released d d_in plain at exact reads = absurd (true≢false (sym reads))
 
       by_data : (d : ℕ) → d < length t.cells → stores t fuses d ≡ false → data_reads t fuses c d ≡ true → ranks.rank d < ranks.rank c
       by_data d d_in d_plain reads =

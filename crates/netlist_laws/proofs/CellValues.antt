@@ -1,6 +1,6 @@
 -- What a fitted cell drives, releases and stores, at a point whose nodes are valued.
-use Rattle.std.proofs.Common.{◌≡◌, ◌≢◌, ℕ, ◌<◌, Bool, true, false, not, ◌&&◌, ◌||◌, if◌then◌else◌, List, [], ◌∷◌, length, map, Option, Some, None, refl, ap, sym, ◌∙◌, subst, inl, inr, IsSome, unwrap_or}
-use Rattle.netlist_laws.proofs.Common.{list_any, cases_Bool, or_left, true≢false, is_on, same_level, Levels, Carry, Enable, Row, PinLow, Flip, IsDevice, data_rows, or_value, enabled_by, is_enabled, complement_if, pin_complements, data_complements, pin_level, next_q, row_if_any, stores, is_inverted, carried, columns_of, row_fuses, is_switched_on, row_is_true, row_value, Table, cell_at, no_cell, any_none, Formula, formula_value, Wanted, PlainNetlist, wanted_at, as_named, own_of, shared_function, own_or_shared, function_at, allows, registers_as, netlist_stores, enable_of, drives, may_drive, may_store, IsValuedFor, IsValuedOfFor, IsExactRow, IsSoundShared, IsSoundCell, IsSound, or_complements, or_may_be, IsFittedEnable, IsFittedCell, IsSpareCell, IsFittedAs, IsFittedShared, AreShared, IsFitted}
+use Rattle.std.proofs.Common.{◌≡◌, ◌≢◌, ℕ, ◌<◌, Bool, true, false, not, ◌&&◌, ◌||◌, if◌then◌else◌, List, [], ◌∷◌, length, map, Option, Some, None, refl, ap, sym, ◌∙◌, subst, inl, inr, IsSome, unwrap_or, ap₂}
+use Rattle.netlist_laws.proofs.Common.{list_any, cases_Bool, or_left, true≢false, is_on, same_level, Levels, Carry, Enable, Row, PinLow, Driven, Released, Flip, IsDevice, data_rows, or_value, enabled_by, is_enabled, complement_if, pin_complements, data_complements, pin_level, next_q, row_if_any, stores, is_inverted, carried, columns_of, row_fuses, is_switched_on, row_is_true, row_value, Table, cell_at, no_cell, any_none, Formula, formula_value, Wanted, PlainNetlist, wanted_at, as_named, own_of, shared_function, own_or_shared, function_at, allows, registers_as, netlist_stores, enable_of, drives, may_drive, spare_level, may_store, IsValuedFor, IsValuedOfFor, IsExactRow, IsSoundShared, IsSoundCell, IsSound, or_complements, or_may_be, IsFittedEnable, IsFittedCell, IsSpareCell, IsFittedAs, IsFittedShared, AreShared, IsFitted, Kinds, Combinational, Registered, Either, stores_by}
 use Rattle.pld_device.specs.declared.carry.Carry.TheVariants as carry
 use Rattle.pld_device.specs.declared.flip.Flip.TheVariants.{Always, AfterRegister, BeforeRegister}
 use Rattle.netlist_laws.proofs.BoolLaws.{both_ways, level_is, level_same}
@@ -61,10 +61,16 @@ flips_register AfterRegister inverted buffer may follows = follows refl
 flips_register BeforeRegister inverted true may follows = let never : BeforeRegister ≡ AfterRegister = may refl in absurd cc
 flips_register BeforeRegister inverted false may follows = refl
 
-flips_spare : (flip : Flip) (inverted : Bool) → (flip ≢ Always → inverted ≡ true) → pin_complements flip true inverted ≡ true
-flips_spare Always inverted says = refl
-flips_spare AfterRegister inverted says = says (λ e. absurd cc)
-flips_spare BeforeRegister inverted says = refl
+flips_spare : (flip : Flip) (register inverted : Bool) → (flip ≢ Always → inverted ≡ true) → pin_complements flip register inverted ≡ true
+flips_spare Always register inverted says = refl
+flips_spare AfterRegister register inverted says = says (λ e. absurd cc)
+flips_spare BeforeRegister true inverted says = refl
+flips_spare BeforeRegister false inverted says = says (λ e. absurd cc)
+
+-- what is at the output of a cell whose rows are 0
+spare_output : (register q sum : Bool) → sum ≡ false → (if register then q else sum) ≡ (register && q)
+spare_output true q sum off = refl
+spare_output false q sum off = off
 
 keeps_spare : (flip : Flip) (inverted : Bool) → (flip ≢ Always → inverted ≡ true) → data_complements flip inverted ≡ false
 keeps_spare Always inverted says = refl
@@ -81,6 +87,10 @@ module _ (t : Table) (laws : IsDevice t) (net : PlainNetlist) (sound : IsSound t
       row_as t fuses net at valued of row ∙ exact_value t net fuses (enable_of w) row valued of.is_valued (subst (IsFittedEnable t net fuses (enable_of w)) is cell.enable)
   enable_as (PinLow pin) None c within is spare = ap (λ xs. not (is_on xs pin)) (sym of.pins)
   enable_as (PinLow pin) (Some w) c within is cell = ap (λ xs. not (is_on xs pin)) (sym of.pins)
+  enable_as Driven None c within is spare = refl
+  enable_as Driven (Some w) c within is cell = refl
+  enable_as Released None c within is spare = refl
+  enable_as Released (Some w) c within is cell = refl
 
   pub same_enable : (c : ℕ) → c < length t.cells → is_enabled t fuses at c ≡ drives valued (wanted_at net c) (cell_at t c).enable
   same_enable c within = enable_as (cell_at t c).enable (wanted_at net c) c within refl (fitted.cells c within)
@@ -93,18 +103,26 @@ module _ (t : Table) (laws : IsDevice t) (net : PlainNetlist) (sound : IsSound t
   spare_or : (c : ℕ) → c < length t.cells → IsSpareCell t fuses c → or_value t fuses at c ≡ false
   spare_or c within spare = any_none (row_value t fuses at) (cell_at t c).first (cell_at t c).room (λ row low high. unused_value t laws fuses fitted.size row at (data_row_below t laws c row within (low, high)) (spare.rows row (low, high)))
 
-  -- a spare cell that drives is a register
-  spare_stores : (e : Enable) (c : ℕ) → c < length t.cells → (cell_at t c).enable ≡ e → drives valued None e ≡ true → stores t fuses c ≡ true
-  spare_stores (Row row) c within is on = absurd (true≢false (sym on))
-  spare_stores (PinLow pin) c within is on =
-      let kind = (laws.cells c no_cell within).pin_registers pin is in
-      rw kind refl
+  -- a spare cell is a register if it can't be anything else
+  spare_stores : (c : ℕ) → IsSpareCell t fuses c → stores t fuses c ≡ stores_by (cell_at t c).kinds false
+  spare_stores c spare = by_kinds (cell_at t c).kinds refl
+    where
+      by_kinds : (kinds : Kinds) → (cell_at t c).kinds ≡ kinds → stores t fuses c ≡ stores_by kinds false
+      by_kinds Combinational is = rw is refl
+      by_kinds Registered is = rw is refl
+      by_kinds Either is = rw is (spare.kind is)
 
-  level_as : (c : ℕ) → c < length t.cells → (found : Option Wanted) → wanted_at net c ≡ found → IsFittedAs t net fuses c found → drives valued found (cell_at t c).enable ≡ true → may_drive valued c found (pin_level t fuses at c) ≡ true
+  -- and has the level that is a spare cell's
+  spare_has : (c : ℕ) → c < length t.cells → IsSpareCell t fuses c → pin_level t fuses at c ≡ spare_level (cell_at t c).kinds (is_on valued.q c)
+  spare_has c within spare =
+      let kind = spare_stores c spare in
+      ap (λ b. complement_if b (if stores t fuses c then is_on at.q c else or_value t fuses at c)) (flips_spare t.flip (stores t fuses c) (is_inverted t fuses c) spare.polarity)
+      ∙ ap not (spare_output (stores t fuses c) (is_on at.q c) (or_value t fuses at c) (spare_or c within spare))
+      ∙ ap₂ (λ b xs. not (b && is_on xs c)) kind (sym of.q)
+
+  level_as : (c : ℕ) → c < length t.cells → (found : Option Wanted) → wanted_at net c ≡ found → IsFittedAs t net fuses c found → drives valued found (cell_at t c).enable ≡ true → may_drive valued (cell_at t c).kinds c found (pin_level t fuses at c) ≡ true
   level_as c within None is spare on =
-      let kept = spare_stores (cell_at t c).enable c within refl on in
-      let level : pin_level t fuses at c ≡ not (is_on valued.q c) = rw (kept, flips_spare t.flip (is_inverted t fuses c) spare.polarity) (ap (λ xs. not (is_on xs c)) (sym of.q)) in
-      rw level (level_same (not (is_on valued.q c)))
+      rw (spare_has c within spare) (level_same (spare_level (cell_at t c).kinds (is_on valued.q c)))
   level_as c within (Some w) is cell on = by_kind w.registered refl
     where
       law : IsSoundCell t net w
@@ -113,7 +131,7 @@ module _ (t : Table) (laws : IsDevice t) (net : PlainNetlist) (sound : IsSound t
       kind : stores t fuses c ≡ w.registered
       kind = registers_wanted t net fuses sound c w is cell
 
-      by_kind : (registered : Bool) → w.registered ≡ registered → may_drive valued c (Some w) (pin_level t fuses at c) ≡ true
+      by_kind : (registered : Bool) → w.registered ≡ registered → may_drive valued (cell_at t c).kinds c (Some w) (pin_level t fuses at c) ≡ true
       by_kind true reg =
           let flips = flips_register t.flip (is_inverted t fuses c) w.buffer (law.buffer reg) (cell.polarity reg) in
           let level : pin_level t fuses at c ≡ complement_if (not w.buffer) (is_on valued.q c) = rw (kind ∙ reg, flips) (ap (λ xs. complement_if (not w.buffer) (is_on xs c)) (sym of.q)) in
@@ -123,14 +141,14 @@ module _ (t : Table) (laws : IsDevice t) (net : PlainNetlist) (sound : IsSound t
           let complements : or_complements t fuses c w ≡ pin_complements t.flip false (is_inverted t fuses c) = rw reg refl in
           let ok : allows (function_at valued w.function) (as_named w (complement_if (pin_complements t.flip false (is_inverted t fuses c)) (or_value t fuses valued c))) ≡ true =
           subst (λ b. allows (function_at valued w.function) (as_named w (complement_if b (or_value t fuses valued c))) ≡ true) complements (or_allowed t net fuses c w valued of.is_valued cell) in
-          let drive : may_drive valued c (Some w) (pin_level t fuses at c) ≡ allows (function_at valued w.function) (as_named w (pin_level t fuses at c)) = may_drive_plain w (pin_level t fuses at c) c reg in
+          let drive : may_drive valued (cell_at t c).kinds c (Some w) (pin_level t fuses at c) ≡ allows (function_at valued w.function) (as_named w (pin_level t fuses at c)) = may_drive_plain w (pin_level t fuses at c) c reg in
           drive ∙ (ap (λ v. allows (function_at valued w.function) (as_named w v)) level ∙ ok)
         where
-          may_drive_plain : (x : Wanted) (v : Bool) (d : ℕ) → x.registered ≡ false → may_drive valued d (Some x) v ≡ allows (function_at valued x.function) (as_named x v)
+          may_drive_plain : (x : Wanted) (v : Bool) (d : ℕ) → x.registered ≡ false → may_drive valued (cell_at t d).kinds d (Some x) v ≡ allows (function_at valued x.function) (as_named x v)
           may_drive_plain x v d plain = ap (λ b. if b then same_level v (complement_if (not x.buffer) (is_on valued.q d)) else allows (function_at valued x.function) (as_named x v)) plain
 
-  pub level_allowed : (c : ℕ) → c < length t.cells → drives valued (wanted_at net c) (cell_at t c).enable ≡ true → (v : Bool) → same_level v (pin_level t fuses at c) ≡ true → may_drive valued c (wanted_at net c) v ≡ true
-  level_allowed c within on v same = subst (λ x. may_drive valued c (wanted_at net c) x ≡ true) (sym (level_is v (pin_level t fuses at c) same)) (level_as c within (wanted_at net c) refl (fitted.cells c within) on)
+  pub level_allowed : (c : ℕ) → c < length t.cells → drives valued (wanted_at net c) (cell_at t c).enable ≡ true → (v : Bool) → same_level v (pin_level t fuses at c) ≡ true → may_drive valued (cell_at t c).kinds c (wanted_at net c) v ≡ true
+  level_allowed c within on v same = subst (λ x. may_drive valued (cell_at t c).kinds c (wanted_at net c) x ≡ true) (sym (level_is v (pin_level t fuses at c) same)) (level_as c within (wanted_at net c) refl (fitted.cells c within) on)
 
   -- ---- next Qs
 

@@ -20,7 +20,7 @@ pub use Rattle.abel_meaning.specs.Follows.{Follows, seen}
 pub use Rattle.abel_meaning.specs.FormulaBits.{binary_word, bits_of, bits_of_all, formulas, kept_bits, make_source, met_by, met_word, operator_word, resized}
 pub use Rattle.abel_meaning.specs.Functions.{Function, allows, allows_plain, any_against, both_function, function_of, gives_in, gives_some, is_both, is_data_in}
 pub use Rattle.abel_meaning.specs.Functions.{is_data_to, is_free_elsewhere, is_raw_signal, same_gives, single_function, some_holds, value_with_any_0}
-pub use Rattle.abel_meaning.specs.NetlistLogic.{drives, enable_of, may_drive, may_store, netlist_logic, netlist_stores, netlist_values, registers_as}
+pub use Rattle.abel_meaning.specs.NetlistLogic.{drives, enable_of, may_drive, may_store, netlist_logic, netlist_stores, netlist_values, registers_as, spare_level}
 pub use Rattle.abel_meaning.specs.NetlistReads.{HasNoNetlistLoop, HasNoNetlistPath, cell_leaf, cell_names, is_register_signal, netlist_names, netlist_passes}
 pub use Rattle.abel_meaning.specs.NetlistReads.{netlist_reads, netlist_reset_reads, netlist_waits, signal_count, signal_leaf}
 pub use Rattle.abel_meaning.specs.Netlists.{PlainNetlist, Wanted, as_named, earlier_name, first_with, function_at, no_function, node_at, own_of, own_or_shared}
@@ -62,7 +62,7 @@ pub use Rattle.pld_device.specs.Table.{IsDataRow, Table, cell_at, no_cell, regis
 pub use Rattle.pld_device.specs.declared.carry.Carry.{Carry}
 pub use Rattle.pld_device.specs.declared.cell.Cell.{Cell}
 pub use Rattle.pld_device.specs.declared.enable.Enable.{Enable}
-pub use Rattle.pld_device.specs.declared.enable.Enable.TheVariants.{PinLow, Row}
+pub use Rattle.pld_device.specs.declared.enable.Enable.TheVariants.{PinLow, Driven, Released, Row}
 pub use Rattle.pld_device.specs.declared.flip.Flip.{Flip}
 pub use Rattle.pld_device.specs.declared.kinds.Kinds.{Kinds}
 pub use Rattle.pld_device.specs.declared.kinds.Kinds.TheVariants.{Combinational, Either, Registered}

@@ -1,6 +1,6 @@
 -- An exchanged netlist allows what the netlist's logic allows with the same cells exchanged.
 use Rattle.std.proofs.Common.{◌≡◌, ℕ, ◌<◌, Bool, true, false, not, length, Option, None, Some, refl, sym, ap, ◌∙◌, inl, inr, arith, find, if◌then◌else◌, nat_lt, unwrap_or, List, [], ◌∷◌, ◌==◌}
-use Rattle.netlist_laws.proofs.Common.{option_map, cases_Bool, eqb-true, length-map, is_on, same_level, IsPoint, Levels, Enable, PinLow, Row, IsDevice, complement_if, Table, cell_at, Refines, AllowsAt, Const, Formula, formula_value, Function, allows, value_with_any_0, PlainNetlist, Wanted, as_named, function_at, node_at, own_or_shared, wanted_at, drives, may_drive, may_store, netlist_logic, netlist_stores, registers_as, exchanged, exchanged_at, in_sense, ExchangedMeansSo, MayExchangeIn, formula_exchanged, function_exchanged, netlist_exchanged, wanted_exchanged}
+use Rattle.netlist_laws.proofs.Common.{option_map, cases_Bool, eqb-true, length-map, is_on, same_level, IsPoint, Levels, Enable, PinLow, Driven, Released, Row, IsDevice, complement_if, Table, cell_at, Refines, AllowsAt, Const, Formula, formula_value, Function, allows, value_with_any_0, PlainNetlist, Wanted, as_named, function_at, node_at, own_or_shared, wanted_at, drives, may_drive, spare_level, may_store, netlist_logic, netlist_stores, registers_as, exchanged, exchanged_at, in_sense, ExchangedMeansSo, MayExchangeIn, formula_exchanged, function_exchanged, netlist_exchanged, wanted_exchanged}
 use Rattle.netlist_laws.proofs.ExchangedCells.{own_or_shared_exchanged, stores_exchanged, wanted_at_exchanged}
 use Rattle.netlist_laws.proofs.ExchangedFormulas.{function_value_exchanged, node_exchanged, q_at, value_exchanged}
 
@@ -62,6 +62,10 @@ module _ (t : Table) (laws : IsDevice t) (net : PlainNetlist) (x : ℕ → Bool)
   drives_by None (PinLow pin) = refl
   drives_by (Some w) (Row row) = opt_value w.enable
   drives_by (Some w) (PinLow pin) = refl
+  drives_by None Driven = refl
+  drives_by (Some w) Driven = refl
+  drives_by None Released = refl
+  drives_by (Some w) Released = refl
 
   enabled_same : (c : ℕ) → drives at (wanted_at (netlist_exchanged x net) c) (cell_at t c).enable ≡ drives (exchanged_at x at) (wanted_at net c) (cell_at t c).enable
   enabled_same c = ap (λ o. drives at o (cell_at t c).enable) (wanted_at_exchanged x net c) ∙ drives_by (wanted_at net c) (cell_at t c).enable
@@ -76,8 +80,8 @@ module _ (t : Table) (laws : IsDevice t) (net : PlainNetlist) (x : ℕ → Bool)
   named_plain c w v combinational = rw combinational refl
 
   level_by : (c : ℕ) (found : Option Wanted) → wanted_at net c ≡ found → (v : Bool) → ((w : Wanted) → found ≡ Some w → w.cell ≡ c)
-      → may_drive at c (option_map (wanted_exchanged x) found) v ≡ may_drive (exchanged_at x at) c found v
-  level_by c None found v cell = ap (λ q. same_level v (not q)) (q_same c (spare c found))
+      → may_drive at (cell_at t c).kinds c (option_map (wanted_exchanged x) found) v ≡ may_drive (exchanged_at x at) (cell_at t c).kinds c found v
+  level_by c None found v cell = ap (λ q. same_level v (spare_level (cell_at t c).kinds q)) (q_same c (spare c found))
   level_by c (Some w) found v cell = by w.registered refl
     where
       named : Function Bool → Bool
@@ -135,9 +139,9 @@ module _ (t : Table) (laws : IsDevice t) (net : PlainNetlist) (x : ℕ → Bool)
     low_cells : (c : ℕ) → x c ≡ true → c < 32
     low_cells c on = low t laws net x may at is c on
 
-    level_same : (c : ℕ) (v : Bool) → may_drive at c (wanted_at (netlist_exchanged x net) c) v ≡ may_drive (exchanged_at x at) c (wanted_at net c) v
+    level_same : (c : ℕ) (v : Bool) → may_drive at (cell_at t c).kinds c (wanted_at (netlist_exchanged x net) c) v ≡ may_drive (exchanged_at x at) (cell_at t c).kinds c (wanted_at net c) v
     level_same c v =
-        ap (λ o. may_drive at c o v) (wanted_at_exchanged x net c)
+        ap (λ o. may_drive at (cell_at t c).kinds c o v) (wanted_at_exchanged x net c)
         ∙ level_by t laws net x may at is c (wanted_at net c) refl v (λ w found. cell_found c net.cells w found)
 
     registered_of : (c : ℕ) (w : Wanted) → wanted_at net c ≡ Some w → netlist_stores t net c ≡ true → w.registered ≡ true

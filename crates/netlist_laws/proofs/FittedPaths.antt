@@ -1,6 +1,6 @@
 -- No chain of reads of fitted fuses leads from the reset to a register.
 use Rattle.std.proofs.Common.{◌≡◌, ℕ, ◌<◌, Bool, true, false, not, ◌&&◌, ◌||◌, eqb, List, [], ◌∷◌, ◌++◌, length, get_or, Option, Some, None, refl, ap, sym, ◌∙◌, subst, arith, inl, inr}
-use Rattle.netlist_laws.proofs.Common.{list_any, and_parts, or_cases, or_left, or_right, not-true, true≢false, Enable, Row, PinLow, Table, cell_at, no_cell, IsDevice, never_drives, data_rows, stores, has, IsChain, eqb_same, Ranked, row_reads_cell, enable_reads, data_reads, rest_reads, reset_in, one_of, Leaf, Formula, names, Wanted, PlainNetlist, wanted_at, shared_function, enable_of, names_if_any, function_names, netlist_waits, signal_count, IsSoundFormula, IsSound, IsFittedEnable, IsFittedShared, IsFittedCell, IsFittedAs, IsFitted}
+use Rattle.netlist_laws.proofs.Common.{list_any, and_parts, or_cases, or_left, or_right, not-true, true≢false, Enable, Row, PinLow, Driven, Released, Table, cell_at, no_cell, IsDevice, never_drives, data_rows, stores, has, IsChain, eqb_same, Ranked, row_reads_cell, enable_reads, data_reads, rest_reads, reset_in, one_of, Leaf, Formula, names, Wanted, PlainNetlist, wanted_at, shared_function, enable_of, names_if_any, function_names, netlist_waits, signal_count, IsSoundFormula, IsSound, IsFittedEnable, IsFittedShared, IsFittedCell, IsFittedAs, IsFitted}
 use Rattle.pld_device.specs.declared.carry.Carry.TheVariants as carry
 use Rattle.device_logic.specs.ResetPaths.{row_reads_if_any, plain_reads, HasNoResetPath}
 use Rattle.netlist_laws.proofs.CellRanks.{enable_names, wanted_enable_sound, spare_reads}
@@ -42,6 +42,8 @@ module _ (t : Table) (laws : IsDevice t) (net : PlainNetlist) (sound : IsSound t
           (exact_told t laws fuses fitted.size net sound ranks (Clean t net) (clean_closed t net sound) row (enable_of w) ((laws.cells c no_cell within).enable_below row at) (wanted_enable_sound t net c w (sound_at t net sound c w is)) enable_known exact)
           reads
       by_enable (PinLow pin) d at exact reads = absurd (true≢false (sym reads))
+      by_enable Driven d at exact reads = absurd (true≢false (sym reads))
+      by_enable Released d at exact reads = absurd (true≢false (sym reads))
 
       by_data : (d : ℕ) → data_reads t fuses c d ≡ true → MayBeClean d
       by_data d reads =

@@ -1,6 +1,6 @@
 -- The netlist of a module and the module allow the same at every point, and value the nodes alike.
-use Rattle.std.proofs.Common.{◌≡◌, ℕ, ◌<◌, Bool, true, false, not, List, [], ◌∷◌, map, length, Option, Some, None, refl, sym, ap, ap₂, ◌∙◌, inl, inr, is_some, unwrap_or, nat_lt, if◌then◌else◌}
-use Rattle.netlist_laws.proofs.Common.{option_map, cases_Bool, Levels, Refines, SameCells, AllowsAt, Enable, Row, PinLow, Kinds, Combinational, Registered, Either, IsDevice, complement_if, stores_by, Table, cell_at, no_cell, Formula, Const, formula_value, Extension, Entry, is_stored, follows_q, ModuleTree, truth_at, given_at, Contribution, signal_on, must_register, cell_stores_for, cell_stores, cell_enabled_by, control_of, control_if_stored, shared_control, register_control, is_free_signal, Design, design_of, name_at, seen, formulas, Function, function_of, is_raw_signal, allows, value_with_any_0, Wanted, node_at, wanted_at, no_function, function_at, as_named, own_of, shared_function, own_or_shared, registers_as, netlist_stores, drives, may_drive, may_store, netlist_logic, netlist_values, given_formulas, is_negated, pin_allows, next_allows, q_complements, node_signal, node_allows, node_value_by, source_logic, source_values, formulas_have_values, formula_function, formula_control, MeansTheSame, is_free_wanted, GatheredMeansTheSame, by_row, wanted_for, gathered, netlist_of, RegistersHaveCells}
+use Rattle.std.proofs.Common.{◌≡◌, ℕ, ◌<◌, Bool, true, false, not, List, [], ◌∷◌, map, length, Option, Some, None, refl, sym, ap, ap₂, ◌∙◌, inl, inr, is_some, unwrap_or, nat_lt, if◌then◌else◌, ◌&&◌}
+use Rattle.netlist_laws.proofs.Common.{option_map, cases_Bool, Levels, Refines, SameCells, AllowsAt, Enable, Row, PinLow, Driven, Released, Kinds, Combinational, Registered, Either, IsDevice, complement_if, stores_by, Table, cell_at, no_cell, Formula, Const, formula_value, Extension, Entry, is_stored, follows_q, ModuleTree, truth_at, given_at, Contribution, signal_on, must_register, cell_stores_for, cell_stores, cell_enabled_by, control_of, control_if_stored, shared_control, register_control, is_free_signal, Design, design_of, name_at, seen, formulas, Function, function_of, is_raw_signal, allows, value_with_any_0, Wanted, node_at, wanted_at, no_function, function_at, as_named, own_of, shared_function, own_or_shared, registers_as, netlist_stores, drives, may_drive, may_store, netlist_logic, netlist_values, given_formulas, is_negated, pin_allows, next_allows, q_complements, node_signal, node_allows, node_value_by, source_logic, source_values, formulas_have_values, formula_function, formula_control, MeansTheSame, is_free_wanted, GatheredMeansTheSame, by_row, wanted_for, gathered, netlist_of, RegistersHaveCells, is_on, same_level}
 use Rattle.abel_tree.specs.declared.words.Extension.TheVariants as extension
 use Rattle.netlist_laws.proofs.CellsFound.{wanted_found}
 use Rattle.netlist_laws.proofs.NodeNumbers.{names_numbered}
@@ -60,30 +60,28 @@ module _ (d : Design) (laws : IsDevice d.context.device) (at : Levels) (c : ℕ)
   enabled_as None (Row row) is = refl
   enabled_as None (PinLow pin) is = refl
   enabled_as (Some s) (PinLow pin) is = refl
+  enabled_as None Driven is = refl
+  enabled_as (Some s) Driven is = refl
+  enabled_as None Released is = refl
+  enabled_as (Some s) Released is = refl
   enabled_as (Some s) (Row row) is =
       ap (λ e. formula_value at (unwrap_or (by_row e (control_of (formulas d.context) (given_formulas d) s extension.Oe)) (Const true))) is
       ∙ unwrapped at (control_of (formulas d.context) (given_formulas d) s extension.Oe) (Const true)
       ∙ ap (λ f. unwrap_or f true) (formula_control d at s extension.Oe)
 
-  -- a cell that is assigned nothing is enabled by a pin alone, and then it is a register
-  alone : (enable : Enable) → (cell_at d.context.device c).enable ≡ enable → cell_enabled_by (truth_at d.context at) at (given_at d at) None enable ≡ true → must_register (cell_at d.context.device c).kinds ≡ true
-  alone (Row row) is enabled = absurd cc
-  alone (PinLow pin) is enabled = rw ((laws.cells c no_cell within).pin_registers pin is) refl
-
   -- whether or not it is enabled
-  pub level_of : (s : ℕ) (v : Bool) → signal_on d.context c ≡ Some s → may_drive at c (Some (here s)) v ≡ pin_allows allows d.context at (given_at d at) c (Some s) v
+  pub level_of : (s : ℕ) (v : Bool) → signal_on d.context c ≡ Some s → may_drive at (cell_at d.context.device c).kinds c (Some (here s)) v ≡ pin_allows allows d.context at (given_at d at) c (Some s) v
   level_of s v is =
       elim (cases_Bool (is_stored (name_at d.context s))) [
         | inl stored ↦ rw stored refl
         | inr combinational ↦ rw combinational (ap (λ f. allows f (complement_if (is_negated (name_at d.context s).kind) v)) (function_is s))
       ]
 
-  level_as : (found : Option ℕ) (v : Bool) → signal_on d.context c ≡ found → cell_enabled_by (truth_at d.context at) at (given_at d at) found (cell_at d.context.device c).enable ≡ true
-      → may_drive at c (option_map here found) v ≡ pin_allows allows d.context at (given_at d at) c found v
-  level_as None v is enabled =
-      let stores : cell_stores d.context c ≡ true = rw is (alone (cell_at d.context.device c).enable refl enabled) in
-      rw stores refl
-  level_as (Some s) v is enabled = level_of s v is
+  level_as : (found : Option ℕ) (v : Bool) → signal_on d.context c ≡ found
+      → may_drive at (cell_at d.context.device c).kinds c (option_map here found) v ≡ pin_allows allows d.context at (given_at d at) c found v
+  level_as None v is =
+      ap (λ b. same_level v (not (b && is_on at.q c))) (kind_without (cell_at d.context.device c).kinds ∙ ap (cell_stores_for d.context c) (sym is))
+  level_as (Some s) v is = level_of s v is
 
   pub next_as : (found : Option ℕ) (v : Bool) → cell_stores_for d.context c found ≡ true → may_store at (option_map here found) v ≡ next_allows allows d.context at (given_at d at) found v
   next_as None v stores = refl
@@ -185,10 +183,10 @@ module _ (t : Table) (m : ModuleTree) (laws : IsDevice t) (has : RegistersHaveCe
       ap (λ w. drives at w (cell_at t c).enable) (wanted_found e.context (given_formulas e) laws c within)
       ∙ enabled_as e laws at c within (signal_on e.context c) (cell_at t c).enable refl
 
-  level_agree : (at : Levels) (c : ℕ) (v : Bool) → c < length t.cells → (source_logic t m).enabled at c ≡ true → (netlist_logic t (gathered e)).allows_level at c v ≡ (source_logic t m).allows_level at c v
-  level_agree at c v within enabled =
-      ap (λ w. may_drive at c w v) (wanted_found e.context (given_formulas e) laws c within)
-      ∙ level_as e laws at c within (signal_on e.context c) v refl enabled
+  level_agree : (at : Levels) (c : ℕ) (v : Bool) → c < length t.cells → (netlist_logic t (gathered e)).allows_level at c v ≡ (source_logic t m).allows_level at c v
+  level_agree at c v within =
+      ap (λ w. may_drive at (cell_at t c).kinds c w v) (wanted_found e.context (given_formulas e) laws c within)
+      ∙ level_as e laws at c within (signal_on e.context c) v refl
 
   next_agree : (at : Levels) (c : ℕ) (v : Bool) → c < length t.cells → cell_stores e.context c ≡ true → (netlist_logic t (gathered e)).allows_next at c v ≡ (source_logic t m).allows_next at c v
   next_agree at c v within stores =
@@ -210,7 +208,7 @@ module _ (t : Table) (m : ModuleTree) (laws : IsDevice t) (has : RegistersHaveCe
   to_allows : (at : Levels) → AllowsAt (netlist_logic t (gathered e)) (source_logic t m) at at
   to_allows at = record {
     enabled = enabled_agree at;
-    level = λ c within enabled v allowed. sym (level_agree at c v within enabled) ∙ allowed;
+    level = λ c within enabled v allowed. sym (level_agree at c v within) ∙ allowed;
     reset = reset_agree at;
     preset = preset_agree at;
     next = λ c within stores v allowed. sym (next_agree at c v within stores) ∙ allowed;
@@ -219,7 +217,7 @@ module _ (t : Table) (m : ModuleTree) (laws : IsDevice t) (has : RegistersHaveCe
   from_allows : (at : Levels) → AllowsAt (source_logic t m) (netlist_logic t (gathered e)) at at
   from_allows at = record {
     enabled = λ c within. sym (enabled_agree at c within);
-    level = λ c within enabled v allowed. level_agree at c v within (sym (enabled_agree at c within) ∙ enabled) ∙ allowed;
+    level = λ c within enabled v allowed. level_agree at c v within ∙ allowed;
     reset = λ c within stores. sym (reset_agree at c within (sym (stores_agree c within) ∙ stores));
     preset = λ c within stores. sym (preset_agree at c within (sym (stores_agree c within) ∙ stores));
     next = λ c within stores v allowed. next_agree at c v within (sym (stores_agree c within) ∙ stores) ∙ allowed;

@@ -1,6 +1,6 @@
 -- The signals of a gathered netlist, which are the cells and the nodes, read what the module's signals read.
 use Rattle.std.proofs.Common.{◌≡◌, ℕ, ◌-◌, ◌<◌, Bool, true, false, not, ◌&&◌, ◌||◌, nat_lt, length, Option, Some, None, refl, sym, ap, ◌∙◌, subst, inl, inr, arith, unwrap_or, if◌then◌else◌}
-use Rattle.netlist_laws.proofs.Common.{option_map, cases_Bool, cases_lt, and_parts, or_cases, or_left, or_right, eqb-true, eq-eqb, ltb-true, get_or_past, position-Some, Cell, Enable, Row, PinLow, IsDevice, cell_at, no_cell, own_pins, Leaf, Formula, names, Extension, Kind, APin, ANode, AConstant, ADeviceName, Entry, is_stored, cell_on, is_on_pin, signal_on, control_of, Design, name_at, no_name, formulas, function_of, node_at, no_function, netlist_stores, cell_names, netlist_names, is_register_signal, cell_leaf, signal_leaf, netlist_reads, given_formulas, settles, leaf_by, leaf_of, names_if_any, function_names, signal_names, signal_reads, is_stored_signal, is_node_number, node_signal, by_row, wanted_for, cell_by, cell_of, gathered, PinsApart, is_row, is_enabled_by_row, is_kept}
+use Rattle.netlist_laws.proofs.Common.{option_map, cases_Bool, cases_lt, and_parts, or_cases, or_left, or_right, eqb-true, eq-eqb, ltb-true, get_or_past, position-Some, Cell, Enable, Row, PinLow, Driven, Released, IsDevice, cell_at, no_cell, own_pins, Leaf, Formula, names, Extension, Kind, APin, ANode, AConstant, ADeviceName, Entry, is_stored, cell_on, is_on_pin, signal_on, control_of, Design, name_at, no_name, formulas, function_of, node_at, no_function, netlist_stores, cell_names, netlist_names, is_register_signal, cell_leaf, signal_leaf, netlist_reads, given_formulas, settles, leaf_by, leaf_of, names_if_any, function_names, signal_names, signal_reads, is_stored_signal, is_node_number, node_signal, by_row, wanted_for, cell_by, cell_of, gathered, PinsApart, is_row, is_enabled_by_row, is_kept}
 use Rattle.bit_expr.specs.declared.node.Leaf.TheVariants as leaf
 use Rattle.abel_tree.specs.declared.words.Extension.TheVariants as extension
 use Rattle.netlist_laws.proofs.CellsFound.{has_pin, wanted_found}
@@ -12,6 +12,8 @@ use Rattle.netlist_laws.proofs.SoundLeaves.{only_place, stores_alike, IsDeclared
 by_row_names : (e : Enable) (f : Option Formula) (l : Leaf) → names_if_any (by_row e f) l ≡ true → names_if_any f l ≡ true
 by_row_names (Row row) f l is = is
 by_row_names (PinLow pin) f l is = absurd cc
+by_row_names Driven f l is = absurd cc
+by_row_names Released f l is = absurd cc
 
 -- what names a leaf by an enable that is kept or by a function names it by either
 enable_or_function : (kept enable plain function : Bool) → (kept ≡ true → enable ≡ true) → (kept || (plain && function)) ≡ true → (function || enable) ≡ true
@@ -192,6 +194,8 @@ module _ (d : Design) (laws : IsDevice d.context.device) (numbered : AreNumbered
 
   enable_declared : (c s : ℕ) (l : Leaf) (e : Enable) → c < count → signal_on d.context c ≡ Some s → (cell_at d.context.device c).enable ≡ e → names_if_any (by_row e (control_of (formulas d.context) (given_formulas d) s extension.Oe)) l ≡ true → IsDeclared d.context l
   enable_declared c s l (PinLow pin) within is enable named = absurd cc
+  enable_declared c s l Driven within is enable named = absurd cc
+  enable_declared c s l Released within is enable named = absurd cc
   enable_declared c s l (Row row) within is enable named =
       control_declared s extension.Oe l (ap (λ o. is_enabled_by_row d.context.device o) mine ∙ ap (λ a. is_row a) enable) (control_of (formulas d.context) (given_formulas d) s extension.Oe) refl named
     where

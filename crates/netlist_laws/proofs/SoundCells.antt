@@ -1,6 +1,6 @@
 -- Each cell of the netlist of a design that a device can take is one that it can have, and is once.
 use Rattle.std.proofs.Common.{◌≡◌, ◌≢◌, ℕ, suc, ◌+◌, ◌<◌, ◌≤◌, Bool, true, false, not, ◌&&◌, List, [], ◌∷◌, length, get_or, Option, Some, None, refl, sym, ap, ◌∙◌, subst, inl, inr, arith}
-use Rattle.netlist_laws.proofs.Common.{All, AllPairs, option_map, cases_Bool, eqb-true, eq-eqb, All-cons, All-nil, position-Some, Enable, Row, PinLow, IsDevice, cell_at, no_cell, Leaf, Formula, Extension, Kind, APin, ANode, AConstant, ADeviceName, Entry, is_stored, cell_on, is_free, is_on_pin, control_of, control_if_stored, Design, name_at, no_name, formulas, Function, function_of, Wanted, given_formulas, IsReadable, IsSoundFormula, IsSoundFunction, IsSoundShared, IsSoundCell, IsSoundFree, HasNoControls, by_row, wanted_for, cell_by, cell_of, and_cell, cells_from, and_node, nodes_from, gathered, PinsApart, is_row, is_enabled_by_row, is_kept, ControlIsThere, HasNoEquation, MayChoose, IsTakeable}
+use Rattle.netlist_laws.proofs.Common.{All, AllPairs, option_map, cases_Bool, eqb-true, eq-eqb, All-cons, All-nil, position-Some, Enable, Row, PinLow, Driven, Released, IsDevice, cell_at, no_cell, Leaf, Formula, Extension, Kind, APin, ANode, AConstant, ADeviceName, Entry, is_stored, cell_on, is_free, is_on_pin, control_of, control_if_stored, Design, name_at, no_name, formulas, Function, function_of, Wanted, given_formulas, IsReadable, IsSoundFormula, IsSoundFunction, IsSoundShared, IsSoundCell, IsSoundFree, HasNoControls, by_row, wanted_for, cell_by, cell_of, and_cell, cells_from, and_node, nodes_from, gathered, PinsApart, is_row, is_enabled_by_row, is_kept, ControlIsThere, HasNoEquation, MayChoose, IsTakeable}
 use Rattle.std.proofs.lemmas.List.Kept.{AllPairs-cons}
 use Rattle.abel_tree.specs.declared.words.Extension.TheVariants as extension
 use Rattle.netlist_laws.proofs.CellsFound.{has_pin}
@@ -95,6 +95,8 @@ module _ (d : Design) (laws : IsDevice d.context.device) (numbered : AreNumbered
   -- an enable equation if a row enables
   enable_named : (s c : ℕ) (enable : Enable) → cell_of d.context.device (name_at d.context s) ≡ Some c → (cell_at d.context.device c).enable ≡ enable → (f : Formula) → by_row enable (control_of (formulas d.context) (given_formulas d) s extension.Oe) ≡ Some f → IsSoundFormula d.context.device (gathered d) f
   enable_named s c (PinLow pin) on is f has = absurd cc
+  enable_named s c Driven on is f has = absurd cc
+  enable_named s c Released on is f has = absurd cc
   enable_named s c (Row row) on is f has =
       of_control d IsRead (given_formulas d) kept s extension.Oe
       (λ x o same control. control_kept d IsRead extension.Oe x (subst (λ y. is_kept d.context y (Some extension.Oe) ≡ true) (sym (eqb-true x s same)) here) o control)

@@ -1,6 +1,6 @@
 -- The fuses of a netlist in a device, by rows: what a fitter owes (this project's rule).
 use Rattle.std.specs.Prelude.{◌≡◌, ◌≢◌, ℕ, ◌*◌, ◌<◌, ◌≤◌, Bool, true, false, not, if◌then◌else◌, Option, None, Some, List, length, All}
-use Rattle.netlist_laws.specs.Prelude.{is_on, Levels, Enable, Row, PinLow, Always, AfterRegister, complement_if, pin_complements, data_complements, data_rows, says, is_inverted, is_switched_on, Table, cell_at, registered_at, IsDataRow, has, Formula, formula_value, allows, Wanted, PlainNetlist, wanted_at, function_at, as_named, shared_function, enable_of}
+use Rattle.netlist_laws.specs.Prelude.{is_on, Levels, Enable, Row, PinLow, Driven, Released, Always, AfterRegister, complement_if, pin_complements, data_complements, data_rows, says, is_inverted, is_switched_on, Table, cell_at, registered_at, IsDataRow, has, Formula, formula_value, allows, Wanted, PlainNetlist, wanted_at, function_at, as_named, shared_function, enable_of}
 use Rattle.pld_device.specs.declared.fuse_bit.FuseBit.{FuseBit}
 use Rattle.pld_device.specs.declared.kinds.Kinds.TheVariants.{Either}
 use Rattle.pld_device.specs.ControlFuses.{control_fuses}
@@ -20,10 +20,12 @@ abbrev pub or_may_be : Table → List Bool → ℕ → Wanted → Levels → Boo
 or_may_be t fuses c w at v =
     allows (function_at at w.function) (as_named w (complement_if (or_complements t fuses c w) v))
 
--- the enable row has the formula's value; a pin that enables asks for no fuse
+-- the enable row has the formula's value; without such a row no fuse is asked for
 abbrev pub IsFittedEnable : Table → PlainNetlist → List Bool → Formula → Enable → Type 0
 IsFittedEnable t net fuses f (Row row) = IsExactRow t net fuses f row
 IsFittedEnable t net fuses f (PinLow pin) = Unit {0}
+IsFittedEnable t net fuses f Driven = Unit {0}
+IsFittedEnable t net fuses f Released = Unit {0}
 
 -- an assigned cell: it is a register as it is asked to be, and follows Q or its complement; its enable row has the
 -- enable's value; and its data rows cover its function: if the OR can't be 0, and only if it may be 1

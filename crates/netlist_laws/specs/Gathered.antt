@@ -1,15 +1,17 @@
 -- The netlist of a module: for each node its function, and for each assigned cell its function and its own controls
 -- (this project's rule, over the definitions of functions and controls).
 use Rattle.std.specs.Prelude.{ℕ, suc, ◌&&◌, Option, None, Some, List, [], ◌∷◌, if◌then◌else◌}
-use Rattle.netlist_laws.specs.Prelude.{option_map, Enable, Row, PinLow, Table, cell_at, Formula, Kind, APin, ANode, Entry, is_stored, follows_q, ModuleTree, cell_on, is_free, Contribution, control_of, control_if_stored, Context, Design, design_of, formulas, Function, function_of, is_raw_signal, Wanted, PlainNetlist, given_formulas, is_negated}
+use Rattle.netlist_laws.specs.Prelude.{option_map, Enable, Row, PinLow, Driven, Released, Table, cell_at, Formula, Kind, APin, ANode, Entry, is_stored, follows_q, ModuleTree, cell_on, is_free, Contribution, control_of, control_if_stored, Context, Design, design_of, formulas, Function, function_of, is_raw_signal, Wanted, PlainNetlist, given_formulas, is_negated}
 use Rattle.abel_tree.specs.declared.words.Extension.TheVariants as extension
 
 -- ---- cells
 
--- an enable of its own, if the cell's enable is a row; none if a pin enables it
+-- an enable of its own, if the cell's enable is a row, else none
 abbrev pub by_row : Enable → Option Formula → Option Formula
 by_row (Row row) f = f
 by_row (PinLow pin) f = None
+by_row Driven f = None
+by_row Released f = None
 
 -- what a signal asks of its cell
 abbrev pub wanted_for : Context → List (Contribution Formula) → (cell signal : ℕ) → Entry → Wanted

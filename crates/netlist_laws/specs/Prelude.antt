@@ -30,7 +30,7 @@ pub use Rattle.pld_device.specs.Rows.{columns_of, is_switched_on, pair_values, r
 pub use Rattle.pld_device.specs.SampleTable.{sample}
 pub use Rattle.pld_device.specs.Table.{IsDataRow, Table, cell_at, registered_at}
 pub use Rattle.pld_device.specs.declared.enable.Enable.{Enable}
-pub use Rattle.pld_device.specs.declared.enable.Enable.TheVariants.{PinLow, Row}
+pub use Rattle.pld_device.specs.declared.enable.Enable.TheVariants.{PinLow, Driven, Released, Row}
 pub use Rattle.pld_device.specs.declared.flip.Flip.TheVariants.{AfterRegister, Always}
 pub use Rattle.pld_machine.specs.Comparison.{DoesTheSame, IsValued, IsValuedOf, NodeValues}
 pub use Rattle.pld_machine.specs.Refines.{RefinesValued, SameValues, Refines}

@@ -2,7 +2,7 @@
 -- devices' datasheets).
 use Rattle.std.specs.Prelude.{◌≡◌, ℕ, ◌<◌, Bool, true, false, Option, None, Some, IsSome, List, length, slice_get}
 use Rattle.pld_device.specs.declared.carry.Carry.TheVariants as carry
-use Rattle.netlist_laws.specs.Prelude.{Enable, Row, PinLow, AfterRegister, IsPairOf, Table, cell_at, Leaf, Formula, Extension, ANode, Entry, is_stored, follows_q, is_free, Contribution, is_on_pin, cell_stores, control_of, Context, Design, name_at, formulas, is_raw_signal, given_formulas, HasNoSignalLoop, HasNoSignalPath, MayRegister}
+use Rattle.netlist_laws.specs.Prelude.{Enable, Row, PinLow, Driven, Released, AfterRegister, IsPairOf, Table, cell_at, Leaf, Formula, Extension, ANode, Entry, is_stored, follows_q, is_free, Contribution, is_on_pin, cell_stores, control_of, Context, Design, name_at, formulas, is_raw_signal, given_formulas, HasNoSignalLoop, HasNoSignalPath, MayRegister}
 use Rattle.bit_expr.specs.declared.node.Leaf.TheVariants as leaf
 use Rattle.abel_tree.specs.declared.words.Extension.TheVariants as extension
 use Rattle.netlist_laws.specs.Gathered.{cell_of}
@@ -30,14 +30,16 @@ NodesAreFew d = (s n : ℕ) → (name_at d s).kind ≡ ANode n → n < 128
 abbrev pub is_row : Enable → Bool
 is_row (Row row) = true
 is_row (PinLow pin) = false
+is_row Driven = false
+is_row Released = false
 
 -- the cell that there may be is one that a row enables
 abbrev pub is_enabled_by_row : Table → Option ℕ → Bool
 is_enabled_by_row t None = false
 is_enabled_by_row t (Some c) = is_row (cell_at t c).enable
 
--- the netlist has what is given to the signal with this extension: not so a clock, nor the enable of a cell that a
--- pin enables, which only say what the device does anyway
+-- the netlist has what is given to the signal with this extension: not so a clock, nor the enable of a cell that no
+-- row enables, which only say what the device does anyway
 abbrev pub is_kept : Context → (signal : ℕ) → Option Extension → Bool
 is_kept d s None = true
 is_kept d s (Some extension.D) = true
