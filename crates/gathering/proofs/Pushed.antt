@@ -2,7 +2,7 @@
 use Rattle.std.proofs.Common.{◌≡◌, ℕ, suc, Bool, true, false, List, [], ◌∷◌, ◌++◌, length, map, append_assoc, Option, Some, None, refl, sym, ap, ◌∙◌, subst, All, option_map, unwrap_or}
 use Rattle.gathering.proofs.Common.{All-nil, All-push, map-append, append-nil, Table, cell_at, Control, Formula, Extension, Kind, ANode, Entry, is_stored, control_of, control_if_stored, Context, formulas, function_of, IsFunctionIn, IsControlIn, IsCellIn, Contribution, Totals, contributions_in, AreGiven, first_target, target_place, control_place, by_row, wanted_for, cell_of, cell_by, and_cell, cells_from, and_node, nodes_from, Link, is_node_kind, is_linked, IsLinkOf, AreLinksFrom, control_by_row, control_if, asked_cell, Asks, AsksBefore, IsControlPlaced, IsPlaced}
 use Rattle.pld_device.specs.declared.enable.Enable.{Enable}
-use Rattle.pld_device.specs.declared.enable.Enable.TheVariants.{Row, PinLow}
+use Rattle.pld_device.specs.declared.enable.Enable.TheVariants.{Row, PinLow, Driven, Released}
 use Rattle.abel_tree.specs.declared.words.Extension.TheVariants as extension
 use Rattle.abel_meaning.specs.Contributions as meant
 use Rattle.abel_meaning.specs.Functions as meant_function
@@ -14,10 +14,14 @@ use Rattle.gathering.specs.declared.asked.Asked.{Asked}
 row_seen : (fs : List Formula) (e : Enable) (control : Option Control) → plain_control fs (control_by_row e control) ≡ by_row e (plain_control fs control)
 row_seen fs (Row row) control = refl
 row_seen fs (PinLow pin) control = refl
+row_seen fs Driven control = refl
+row_seen fs Released control = refl
 
 row_inside : (count : ℕ) (e : Enable) (control : Option Control) → IsControlIn count control → IsControlIn count (control_by_row e control)
 row_inside count (Row row) control inside = inside
 row_inside count (PinLow pin) control inside = tt
+row_inside count Driven control inside = tt
+row_inside count Released control inside = tt
 
 if_inside : (count : ℕ) (stored : Bool) (control : Option Control) → IsControlIn count control → IsControlIn count (control_if stored control)
 if_inside count true control inside = inside
@@ -34,6 +38,8 @@ placed cs s e control same c is = sym same ∙ ap (λ o. control_place o) is
 row_placed : (cs : List Contribution) (s : ℕ) (e : Extension) (enable : Enable) (control : Option Control) → IsControlPlaced cs s e control → IsControlPlaced cs s e (control_by_row enable control)
 row_placed cs s e (Row row) control is = is
 row_placed cs s e (PinLow pin) control is = λ c none. absurd cc
+row_placed cs s e Driven control is = λ c none. absurd cc
+row_placed cs s e Released control is = λ c none. absurd cc
 
 if_placed : (cs : List Contribution) (s : ℕ) (e : Extension) (stored : Bool) (control : Option Control) → IsControlPlaced cs s e control → IsControlPlaced cs s e (control_if stored control)
 if_placed cs s e true control is = is

@@ -2,7 +2,7 @@
 use Rattle.std.specs.Prelude.{◌≡◌, ℕ, Bool, true, false, ◌&&◌, Option, None, List, ◌++◌, All, length, map, unwrap_or}
 use Rattle.gathering.specs.Prelude.{Table, cell_at, CellWanted, Control, Formula, Entry, is_stored, follows_q, is_free, Context, plain_function, plain_wanted, IsFunctionIn, IsCellIn, Contribution, cells_from, nodes_from}
 use Rattle.pld_device.specs.declared.enable.Enable.{Enable}
-use Rattle.pld_device.specs.declared.enable.Enable.TheVariants.{Row, PinLow}
+use Rattle.pld_device.specs.declared.enable.Enable.TheVariants.{Row, PinLow, Driven, Released}
 use Rattle.abel_meaning.specs.SourceLogic.{is_negated}
 use Rattle.gathering.specs.declared.signal.Totals.{Totals}
 use Rattle.gathering.specs.Amounts.{contributions_in}
@@ -15,6 +15,8 @@ use Rattle.gathering.specs.Placed.{IsPlaced}
 abbrev pub control_by_row : Enable → Option Control → Option Control
 control_by_row (Row row) control = control
 control_by_row (PinLow pin) control = None
+control_by_row Driven control = None
+control_by_row Released control = None
 
 -- a control of a signal that is stored
 abbrev pub control_if : Bool → Option Control → Option Control

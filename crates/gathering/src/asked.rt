@@ -39,7 +39,7 @@ fn by_row(enable: Enable, control: Option<Control>) -> Option<Control>
 {
     match enable {
         Enable::Row(_) => control,
-        Enable::PinLow(_) => None,
+        Enable::PinLow(_) | Enable::Driven | Enable::Released => None,
     }
 }
 

@@ -9,7 +9,7 @@ pub use Rattle.std.specs.Option.{option_map}
 pub use Rattle.abel_meaning.specs.Controls.{cell_stores, cell_stores_for, signal_on}
 pub use Rattle.abel_meaning.specs.Designs.{Design, design_of, name_at}
 pub use Rattle.abel_meaning.specs.Functions.{Function, allows, allows_plain, function_of, is_raw_signal, value_with_any_0}
-pub use Rattle.abel_meaning.specs.NetlistLogic.{drives, enable_of, may_drive, may_store, netlist_logic, netlist_stores, netlist_values}
+pub use Rattle.abel_meaning.specs.NetlistLogic.{drives, enable_of, may_drive, may_store, netlist_logic, netlist_stores, netlist_values, spare_level}
 pub use Rattle.abel_meaning.specs.NetlistReads.{is_register_signal, netlist_names, netlist_passes, netlist_reset_reads, netlist_waits, signal_count}
 pub use Rattle.abel_meaning.specs.NetlistReads.{signal_leaf}
 pub use Rattle.abel_meaning.specs.Netlists.{PlainNetlist, Wanted, as_named, earlier_name, first_with, function_at, no_function, node_at, own_of, own_or_shared}
@@ -40,7 +40,7 @@ pub use Rattle.pld_device.proofs.OwnPins.{own_pins}
 pub use Rattle.pld_device.specs.Laws.{IsDevice}
 pub use Rattle.pld_device.specs.Macrocells.{complement_if}
 pub use Rattle.pld_device.specs.Table.{Table, cell_at, no_cell}
-pub use Rattle.pld_device.specs.declared.enable.Enable.TheVariants.{PinLow, Row}
+pub use Rattle.pld_device.specs.declared.enable.Enable.TheVariants.{PinLow, Driven, Released, Row}
 pub use Rattle.pld_machine.proofs.OneRun.{is_determined}
 pub use Rattle.pld_machine.specs.Exchanged.{exchanged, exchanged_at, exchanged_lookups, exchanged_qs, in_sense}
 pub use Rattle.pld_machine.specs.Lookups.{Lookups, logic_of, sets_node, sets_pin}

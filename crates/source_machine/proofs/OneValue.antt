@@ -1,12 +1,13 @@
 -- A netlist with any as 0 allows nothing that the netlist doesn't allow; in an order of its signals it is a logic that
 -- the machine takes.
 use Rattle.std.proofs.Common.{◌≡◌, ℕ, Bool, true, false, not, ◌&&◌, if◌then◌else◌, List, Option, Some, None, refl, ap, ◌∙◌, subst}
-use Rattle.source_machine.proofs.Common.{is_on, same_level, Levels, IsOrdered, HasRunsOf, Refines, IsDetermined, is_determined, IsDevice, complement_if, Table, ModuleTree, Function, allows, allows_plain, value_with_any_0, Wanted, PlainNetlist, as_named, function_at, node_at, wanted_at, may_drive, may_store, netlist_logic, netlist_values, IsSound, source_logic, MeansTheSame, data_with_any_0, level_with_any_0, next_with_any_0, netlist_with_any_0, IsSignalOrder, netlist_lookups}
+use Rattle.source_machine.proofs.Common.{is_on, same_level, Levels, IsOrdered, HasRunsOf, Refines, IsDetermined, is_determined, IsDevice, complement_if, Table, ModuleTree, Function, allows, allows_plain, value_with_any_0, Wanted, PlainNetlist, as_named, function_at, node_at, wanted_at, may_drive, may_store, netlist_logic, netlist_values, IsSound, source_logic, MeansTheSame, data_with_any_0, level_with_any_0, next_with_any_0, netlist_with_any_0, IsSignalOrder, netlist_lookups, cell_at}
 use Rattle.pld_machine.proofs.Refined.{run_refines}
 use Rattle.netlist_laws.proofs.BoolLaws.{level_is}
 use Rattle.source_machine.proofs.CleanSlots.{resets_free}
 use Rattle.source_machine.proofs.NetlistOrdered.{reads_earlier}
 use Rattle.source_machine.proofs.SignalPlaces.{has_pins, has_slots, same_logic}
+use Rattle.pld_device.specs.declared.kinds.Kinds.{Kinds}
 
 module _ (t : Table) (laws : IsDevice t) (net : PlainNetlist) (sound : IsSound t net) (order : List ℕ) (ordered : IsSignalOrder t net order) where
   pub is_ordered : IsOrdered (netlist_lookups t net order)
@@ -54,9 +55,9 @@ allows_data at w v same =
     ∙ ap (allows (function_at at w.function)) (twice w.raw w.negated (w.registered && not w.buffer) (value_with_any_0 (function_at at w.function)))
     ∙ allows_value (function_at at w.function)
 
-level_allowed : (at : Levels) (c : ℕ) (found : Option Wanted) (v : Bool) → same_level v (level_with_any_0 at c found) ≡ true → may_drive at c found v ≡ true
-level_allowed at c None v same = same
-level_allowed at c (Some w) v same =
+level_allowed : (at : Levels) (kinds : Kinds) (c : ℕ) (found : Option Wanted) (v : Bool) → same_level v (level_with_any_0 at kinds c found) ≡ true → may_drive at kinds c found v ≡ true
+level_allowed at kinds c None v same = same
+level_allowed at kinds c (Some w) v same =
     by_kind w.registered (same_level v (complement_if (not w.buffer) (is_on at.q c))) (same_level v (data_with_any_0 at w)) (allows (function_at at w.function) (as_named w v))
     (allows_data at w v) (chosen w.registered ∙ same)
   where
@@ -78,7 +79,7 @@ refines t net = record {
   is_node = λ n low. refl;
   allows = λ at is. record {
     enabled = λ c within. refl;
-    level = λ c within on v same. level_allowed at c (wanted_at net c) v same;
+    level = λ c within on v same. level_allowed at (cell_at t c).kinds c (wanted_at net c) v same;
     reset = λ c within stores. refl;
     preset = λ c within stores. refl;
     next = λ c within stores v same. next_allowed at (wanted_at net c) v same;

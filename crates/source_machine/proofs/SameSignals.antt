@@ -1,18 +1,20 @@
 -- A signal asks the same at two points that agree at what it names.
-use Rattle.std.proofs.Common.{◌≡◌, ℕ, ◌+◌, ◌<◌, Bool, true, false, not, ◌&&◌, if◌then◌else◌, length, Option, Some, None, refl, ap, sym}
-use Rattle.source_machine.proofs.Common.{or_left, or_right, true≢false, is_on, Levels, SameAt, Row, PinLow, IsDevice, complement_if, Table, cell_at, no_cell, Leaf, leaf_value, names, Wanted, PlainNetlist, no_function, node_at, wanted_at, as_named, drives, enable_of, netlist_stores, netlist_values, netlist_names, function_names, names_if_any, IsReadable, IsSound, value_same, cell_named, node_names, sound_at, data_with_any_0, level_with_any_0, netlist_lookups}
+use Rattle.std.proofs.Common.{◌≡◌, ℕ, ◌+◌, ◌<◌, Bool, true, false, not, ◌&&◌, if◌then◌else◌, length, Option, Some, None, refl, ap, sym, ◌∙◌}
+use Rattle.source_machine.proofs.Common.{or_left, or_right, true≢false, is_on, Levels, SameAt, Row, PinLow, Driven, Released, IsDevice, complement_if, Table, cell_at, no_cell, Leaf, leaf_value, names, Wanted, PlainNetlist, no_function, node_at, wanted_at, as_named, drives, enable_of, netlist_stores, netlist_values, netlist_names, function_names, names_if_any, IsReadable, IsSound, value_same, cell_named, node_names, sound_at, data_with_any_0, level_with_any_0, netlist_lookups}
 use Rattle.pld_machine.specs.declared.logic.Slot.TheVariants as slot
 use Rattle.pld_device.specs.declared.enable.Enable.{Enable}
 use Rattle.netlist_laws.proofs.CellRanks.{enable_names, wanted_enable_sound}
+use Rattle.pld_device.specs.Registers.{stores_by}
+use Rattle.abel_meaning.specs.NetlistLogic.{registers_as}
 
 if_same : (r x y u v : Bool) → (r ≡ true → x ≡ y) → (r ≡ false → u ≡ v) → (if r then x else u) ≡ (if r then y else v)
 if_same true x y u v first second = first refl
 if_same false x y u v first second = second refl
 
--- a cell that is assigned nothing is enabled by a pin alone, and then it is a register
-pub alone : (t : Table) → IsDevice t → (net : PlainNetlist) (at : Levels) (c : ℕ) → c < length t.cells → (e : Enable) → (cell_at t c).enable ≡ e → wanted_at net c ≡ None → drives at None e ≡ true → netlist_stores t net c ≡ true
-alone t laws net at c within (Row row) by is on = absurd (true≢false (sym on))
-alone t laws net at c within (PinLow pin) by is on = rw (is, (laws.cells c no_cell within).pin_registers pin by) refl
+-- the level of a cell that is assigned nothing depends on Q alone, and only if it is a register
+spare_same : (register : Bool) (q r : Bool) → (register ≡ true → q ≡ r) → not (register && q) ≡ not (register && r)
+spare_same true q r same = ap not (same refl)
+spare_same false q r same = refl
 
 module _ (t : Table) (laws : IsDevice t) (net : PlainNetlist) (sound : IsSound t net) (a b : Levels) where
   -- the points agree at what the signal names
@@ -31,14 +33,18 @@ module _ (t : Table) (laws : IsDevice t) (net : PlainNetlist) (sound : IsSound t
     enable_same None (Row row) is at = refl
     enable_same None (PinLow pin) is at = ap not (pins pin at)
     enable_same (Some w) (PinLow pin) is at = ap not (pins pin at)
+    enable_same None Driven is at = refl
+    enable_same (Some w) Driven is at = refl
+    enable_same None Released is at = refl
+    enable_same (Some w) Released is at = refl
     enable_same (Some w) (Row row) is at =
         value_same (enable_of w) a b
         (λ l named. agree l (wanted_enable_sound t net c w (sound_at t net sound c w is) l named)
         (rw (cell_named t net c l within, is) (or_left (names_if_any w.enable l) (not w.registered && function_names w.function l) (enable_names w.enable l named))))
 
-    level_same : (found : Option Wanted) → wanted_at net c ≡ found → drives a found (cell_at t c).enable ≡ true → level_with_any_0 a c found ≡ level_with_any_0 b c found
-    level_same None is on = ap not (q (alone t laws net a c within (cell_at t c).enable refl is on))
-    level_same (Some w) is on =
+    level_same : (found : Option Wanted) → wanted_at net c ≡ found → level_with_any_0 a (cell_at t c).kinds c found ≡ level_with_any_0 b (cell_at t c).kinds c found
+    level_same None is = spare_same (stores_by (cell_at t c).kinds false) (is_on a.q c) (is_on b.q c) (λ register. q (ap (registers_as (cell_at t c).kinds) is ∙ register))
+    level_same (Some w) is =
         if_same w.registered (complement_if (not w.buffer) (is_on a.q c)) (complement_if (not w.buffer) (is_on b.q c)) (data_with_any_0 a w) (data_with_any_0 b w)
         (λ kept. ap (complement_if (not w.buffer)) (q (rw is kept)))
         (λ plain. ap (λ v. as_named w (complement_if w.function.complement v))
@@ -49,4 +55,4 @@ module _ (t : Table) (laws : IsDevice t) (net : PlainNetlist) (sound : IsSound t
         (rw (plain, or_left (names w.function.one l) (names w.function.any l) named) refl))))))
 
     pub cell_same : (order : _) → SameAt (netlist_lookups t net order) (slot.Cell c) a b
-    cell_same order = (enable_same (wanted_at net c) (cell_at t c).enable refl refl, level_same (wanted_at net c) refl)
+    cell_same order = (enable_same (wanted_at net c) (cell_at t c).enable refl refl, λ on. level_same (wanted_at net c) refl)

@@ -1,6 +1,6 @@
 -- The netlist of a module and the module have the same one values with any as 0.
-use Rattle.std.proofs.Common.{◌≡◌, ℕ, ◌<◌, Bool, true, false, not, List, [], ◌∷◌, map, length, Option, Some, None, refl, sym, subst, ap, ◌∙◌, inl, inr}
-use Rattle.source_machine.proofs.Common.{option_map, cases_Bool, same_level, Levels, IsPoint, Refines, IsDevice, complement_if, Table, cell_at, formula_value, ModuleTree, signal_on, cell_stores, cell_stores_for, Design, design_of, name_at, function_of, is_raw_signal, value_with_any_0, Wanted, PlainNetlist, function_at, wanted_at, drives, given_formulas, is_negated, logic_with_any_0, next_allows, node_allows, node_signal, node_value_by, pin_allows, q_complements, takes_any_as_0, MeansTheSame, netlist_of, wanted_for, data_with_any_0, level_with_any_0, next_with_any_0, netlist_with_any_0, AllowTheSame, GatheredAs0}
+use Rattle.std.proofs.Common.{◌≡◌, ℕ, ◌<◌, Bool, true, false, not, List, [], ◌∷◌, map, length, Option, Some, None, refl, sym, subst, ap, ◌∙◌, inl, inr, ◌&&◌}
+use Rattle.source_machine.proofs.Common.{option_map, cases_Bool, same_level, Levels, IsPoint, Refines, IsDevice, complement_if, Table, cell_at, formula_value, ModuleTree, signal_on, cell_stores, cell_stores_for, Design, design_of, name_at, function_of, is_raw_signal, value_with_any_0, Wanted, PlainNetlist, function_at, wanted_at, drives, given_formulas, is_negated, logic_with_any_0, next_allows, node_allows, node_signal, node_value_by, pin_allows, q_complements, takes_any_as_0, MeansTheSame, netlist_of, wanted_for, data_with_any_0, level_with_any_0, next_with_any_0, netlist_with_any_0, AllowTheSame, GatheredAs0, is_on}
 use Rattle.pld_machine.specs.Through.{AllowsAt}
 use Rattle.pld_machine.specs.Comparison.{SameCells}
 use Rattle.abel_tree.specs.Entries.{is_stored, follows_q}
@@ -11,7 +11,8 @@ use Rattle.abel_meaning.proofs.FormulasFollow.{formulas_have_values}
 use Rattle.abel_meaning.proofs.FunctionValues.{formula_function}
 use Rattle.netlist_laws.proofs.CellsFound.{wanted_found}
 use Rattle.netlist_laws.proofs.Meaning.{gathered_means_the_same, value_as}
-use Rattle.source_machine.proofs.SameSignals.{alone}
+use Rattle.pld_device.specs.Registers.{stores_by}
+use Rattle.abel_meaning.specs.NetlistLogic.{registers_as}
 
 -- ---- truth values
 
@@ -59,22 +60,22 @@ module _ (t : Table) (m : ModuleTree) (laws : IsDevice t) (means : MeansTheSame 
     raw_is s = sym (raw_of (formula_value at) s (given_formulas d)) ∙ ap (λ cs. is_raw_signal cs s) (formulas_have_values d at)
 
     module _ (c : ℕ) (within : c < length t.cells) where
-      level_by : (found : Option ℕ) (v : Bool) → signal_on d.context c ≡ found → drives at (wanted_at net c) (cell_at t c).enable ≡ true
-          → same_level v (level_with_any_0 at c (option_map (here c) found)) ≡ pin_allows takes_any_as_0 d.context at (given_at d at) c found v
-      level_by None v is on =
+      level_by : (found : Option ℕ) (v : Bool) → signal_on d.context c ≡ found
+          → same_level v (level_with_any_0 at (cell_at t c).kinds c (option_map (here c) found)) ≡ pin_allows takes_any_as_0 d.context at (given_at d at) c found v
+      level_by None v is =
           let none : wanted_at net c ≡ None = wanted_found d.context (given_formulas d) laws c within ∙ ap (option_map (here c)) is in
-          let stores : cell_stores d.context c ≡ true =
-          sym (means.to.same_cells.stores c within) ∙ alone t laws net at c within (cell_at t c).enable refl none (ap (λ w. drives at w (cell_at t c).enable) (sym none) ∙ on) in
-          rw stores refl
-      level_by (Some s) v is on =
+          let stores : stores_by (cell_at t c).kinds false ≡ cell_stores d.context c =
+          ap (registers_as (cell_at t c).kinds) (sym none) ∙ means.to.same_cells.stores c within in
+          ap (λ b. same_level v (not (b && is_on at.q c))) stores
+      level_by (Some s) v is =
           elim (cases_Bool (is_stored (name_at d.context s))) [
             | inl kept ↦ rw kept refl
             | inr plain ↦ rw plain (turned (is_negated (name_at d.context s).kind) v (value_with_any_0 (function_at at (here c s).function)) ∙ ap (same_level (complement_if (is_negated (name_at d.context s).kind) v)) (value_is s c))
           ]
 
-      level_same : (v : Bool) → drives at (wanted_at net c) (cell_at t c).enable ≡ true → (netlist_with_any_0 t net).allows_level at c v ≡ (logic_with_any_0 d).allows_level at c v
-      level_same v on =
-          ap (λ w. same_level v (level_with_any_0 at c w)) (wanted_found d.context (given_formulas d) laws c within) ∙ level_by (signal_on d.context c) v refl on
+      level_same : (v : Bool) → (netlist_with_any_0 t net).allows_level at c v ≡ (logic_with_any_0 d).allows_level at c v
+      level_same v =
+          ap (λ w. same_level v (level_with_any_0 at (cell_at t c).kinds c w)) (wanted_found d.context (given_formulas d) laws c within) ∙ level_by (signal_on d.context c) v refl
 
       next_named : (s : ℕ) (v raw : Bool) → is_stored (name_at d.context s) ≡ true → is_raw_signal (given_formulas d) s ≡ raw
           → same_level v (data_with_any_0 at (here c s)) ≡ same_level (complement_if (q_complements raw (name_at d.context s)) v) (value_with_any_0 (function_at at (here c s).function))
@@ -104,7 +105,7 @@ module _ (t : Table) (m : ModuleTree) (laws : IsDevice t) (means : MeansTheSame 
       let to = means.to.allows at is in
       record {
         enabled = to.enabled;
-        level = λ c within on v allowed. sym (level_same at c within v (to.enabled c within ∙ on)) ∙ allowed;
+        level = λ c within on v allowed. sym (level_same at c within v) ∙ allowed;
         reset = to.reset;
         preset = to.preset;
         next = λ c within stores v allowed. sym (next_same at c within v stores) ∙ allowed;
@@ -115,7 +116,7 @@ module _ (t : Table) (m : ModuleTree) (laws : IsDevice t) (means : MeansTheSame 
       let from = means.from.allows at is in
       record {
         enabled = from.enabled;
-        level = λ c within on v allowed. level_same at c within v on ∙ allowed;
+        level = λ c within on v allowed. level_same at c within v ∙ allowed;
         reset = from.reset;
         preset = from.preset;
         next = λ c within stores v allowed. next_same at c within v (means.from.same_cells.stores c within ∙ stores) ∙ allowed;

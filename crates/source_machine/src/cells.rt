@@ -1,8 +1,9 @@
 //! The cells of a device as a netlist asks of them.
 
-ghost use Rattle.std.specs.Prelude.{◌≡◌, ◌<◌, All, IfSome, length};
+ghost use Rattle.std.specs.Prelude.{◌≡◌, ◌<◌, All, IfSome, false, length};
 ghost use Rattle.source_machine.specs.Prelude.{option_map, levels_of, cell_at, arena, node_at, plain_function, plain_netlist, plain_wanted, wanted_at, drives, netlist_stores, IsCellIn, IsFunctionIn};
 ghost use Rattle.device_logic.specs.Array.{EnableInRange};
+ghost use Rattle.pld_device.specs.Registers.{stores_by};
 ghost use Rattle.source_machine.specs.AnyAs0.{level_with_any_0, next_with_any_0};
 
 use crate::values::{as_named, control_value, value};
@@ -65,6 +66,8 @@ pub(crate) fn enable<D: Device>(device: &Loaded<D>, net: &Netlist, cell: u8, at:
 {
     match cell_of::<D>(device, cell).enable {
         Enable::PinLow(pin) => !level_at(at.pins, pin),
+        Enable::Driven => true,
+        Enable::Released => false,
         Enable::Row(_) => match cell_wanted(net, cell) {
             None => false,
             Some(wanted) => control_value(&net.exprs, wanted.enable, true, at),
@@ -72,14 +75,22 @@ pub(crate) fn enable<D: Device>(device: &Loaded<D>, net: &Netlist, cell: u8, at:
     }
 }
 
+/// Whether a cell that is assigned nothing is a register: if it can't be anything else.
+fn registers_alone(kinds: Kinds) -> bool
+    ensures { result ≡ stores_by kinds false }
+{
+    kinds == Kinds::Registered
+}
+
 /// The level with which the cell drives its pin while it is enabled.
-pub(crate) fn level(net: &Netlist, cell: u8, at: &Point) -> bool
+pub(crate) fn level<D: Device>(device: &Loaded<D>, net: &Netlist, cell: u8, at: &Point) -> bool
     requires inside { All (IsCellIn (length (arena net.now.exprs))) net.now.cells }
-    requires cell { cell < 32 }
-    ensures { result ≡ level_with_any_0 (levels_of at.now) cell (wanted_at (plain_netlist net.now) cell) }
+    requires cell { cell < length D.table.cells }
+    requires low { cell < 32 }
+    ensures { result ≡ level_with_any_0 (levels_of at.now) (cell_at D.table cell).kinds cell (wanted_at (plain_netlist net.now) cell) }
 {
     match cell_wanted(net, cell) {
-        None => !level_at(at.q, cell),
+        None => !(registers_alone(cell_of::<D>(device, cell).kinds) && level_at(at.q, cell)),
         Some(wanted) => {
             if wanted.registered {
                 level_at(at.q, cell) == wanted.buffer

@@ -29,7 +29,7 @@ fn own_control(which: RegisterControl, wanted: Option<CellWanted>) -> Option<Con
     }
 }
 
-/// Of a cell and the first of those after it the one that is first by name, of those with such an equation.
+/// The cell of the lesser name: this one, if it has such an equation, or the first of those after it.
 fn earlier(
     which: RegisterControl,
     wanted: CellWanted,

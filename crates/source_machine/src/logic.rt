@@ -130,7 +130,12 @@ impl<'a, D: Device> Logic for SourceLogic<'a, D> {
     }
 
     fn level(&self, at: &Point, cell: u8) -> bool {
-        cells::level(self.net, cell, &as_named_point(at, self.complemented))
+        cells::level::<D>(
+            self.device,
+            self.net,
+            cell,
+            &as_named_point(at, self.complemented),
+        )
     }
 
     fn node(&self, at: &Point, node: u8) -> bool {
