@@ -71,7 +71,7 @@ fn asking(yes: u32) -> Cube {
     Cube { yes, no: 0 }
 }
 
-/// A pool of three cubes, of which the first and the last change places: the last, those before it, what is left after
+/// A pool of three cubes, whose outer two change places: the last, those before it, what is left after
 /// the mark of one cube, and whether the room is as it should be on the way.
 pub(crate) fn put_pool(alloc: Global, found: &mut Found) -> Option<()> {
     let Ok(mut pool) = CubePool::with_room(alloc, 3) else {

@@ -3,7 +3,7 @@ use Rattle.std.proofs.Common.{◌≡◌, ℕ, zero, suc, ◌+◌, ◌-◌, ◌<�
 use Rattle.fit_plans.proofs.Common.{nat_tests, eqb-true, get_or_from_slice_get, slice_get-get_or, slice_get_within, drop_more, drop_all, IsDevice, Table, no_cell, cell_at, IsDataRow, Data, Enabling, Reset, Preset, CellPlan, Plan, DevicesHaveOwners, planned, is_data, is_row, enables_as, enables, shared_owner, owner_from, owner}
 use Rattle.pld_device.specs.declared.cell.Cell.{Cell}
 use Rattle.pld_device.specs.declared.enable.Enable.{Enable}
-use Rattle.pld_device.specs.declared.enable.Enable.TheVariants.{Row, PinLow}
+use Rattle.pld_device.specs.declared.enable.Enable.TheVariants.{Row, PinLow, Driven, Released}
 use Rattle.pld_device.proofs.RowsApart.{rows_apart}
 
 drop_at : {X : Type 0} (xs : List X) (i : ℕ) (x : X) → slice_get xs i ≡ Some x → drop i xs ≡ x ∷ drop (i + 1) xs
@@ -39,6 +39,8 @@ data_on cell row low high = grind (arith, nat_tests, low, high)
 enables_is : (e : Enable) (row : ℕ) → enables_as e row ≡ true → e ≡ Row row
 enables_is (Row enabling) row on = ap Row (eqb-true enabling row on)
 enables_is (PinLow pin) row on = absurd cc
+enables_is Driven row on = absurd cc
+enables_is Released row on = absurd cc
 
 enables_on : (e : Enable) (row : ℕ) → e ≡ Row row → enables_as e row ≡ true
 enables_on e row same = rw same (grind (arith, nat_tests))

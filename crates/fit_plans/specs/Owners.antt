@@ -3,7 +3,7 @@ use Rattle.std.specs.Prelude.{◌≡◌, ℕ, suc, ◌-◌, ◌<◌, ◌==◌, B
 use Rattle.fit_plans.specs.Prelude.{Cube, IsDevice, Table, IsDataRow, cell_at}
 use Rattle.pld_device.specs.declared.cell.Cell.{Cell}
 use Rattle.pld_device.specs.declared.enable.Enable.{Enable}
-use Rattle.pld_device.specs.declared.enable.Enable.TheVariants.{Row, PinLow}
+use Rattle.pld_device.specs.declared.enable.Enable.TheVariants.{Row, PinLow, Driven, Released}
 use Rattle.fit_plans.specs.declared.plan.CellPlan.{CellPlan}
 use Rattle.fit_plans.specs.declared.plan.Owner.{Owner}
 use Rattle.fit_plans.specs.declared.plan.Owner.TheVariants.{Data, Enabling, Reset, Preset, Nobody}
@@ -17,6 +17,8 @@ is_data cell row = nat_le cell.first row && nat_lt (row - cell.first) cell.room
 abbrev pub enables_as : Enable → ℕ → Bool
 enables_as (Row enabling) row = enabling == row
 enables_as (PinLow pin) row = false
+enables_as Driven row = false
+enables_as Released row = false
 
 -- it enables the cell
 abbrev pub enables : Cell → ℕ → Bool

@@ -48,7 +48,7 @@ fn enables(cell: Cell, row: u16) -> bool
 {
     match cell.enable {
         Enable::Row(enabling) => enabling == row,
-        Enable::PinLow(_) => false,
+        Enable::PinLow(_) | Enable::Driven | Enable::Released => false,
     }
 }
 

@@ -87,7 +87,7 @@ pub use Rattle.pld_device.specs.Rows.{carried, columns_of, is_switched_on, pair_
 pub use Rattle.pld_device.specs.Table.{IsDataRow, Table, cell_at, inverted_at, no_cell, registered_at}
 pub use Rattle.pld_device.specs.declared.carry.Carry.{Carry}
 pub use Rattle.pld_device.specs.declared.cell.Cell.{Cell}
-pub use Rattle.pld_device.specs.declared.enable.Enable.TheVariants.{PinLow, Row}
+pub use Rattle.pld_device.specs.declared.enable.Enable.TheVariants.{PinLow, Driven, Released, Row}
 pub use Rattle.pld_device.specs.declared.flip.Flip.{Flip}
 pub use Rattle.pld_device.specs.declared.flip.Flip.TheVariants.{AfterRegister, Always, BeforeRegister}
 pub use Rattle.pld_device.specs.declared.kinds.Kinds.TheVariants.{Combinational, Either, Registered}

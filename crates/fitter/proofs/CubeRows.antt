@@ -6,7 +6,7 @@ use Rattle.covers.proofs.CubeBits.{bit_at_without, literal_below, literal_other,
 use Rattle.netlist_laws.proofs.RowLiterals.{pair_of}
 use Rattle.fitter.proofs.PairPoints.{point_of}
 
--- ---- the row of a cube (as for the first profile)
+-- ---- the row of a cube
 
 high_value : (a b rest : Bool) → ((a || true) && ((b || false) && rest)) ≡ (b && rest)
 high_value true true rest = refl

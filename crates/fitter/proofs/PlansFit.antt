@@ -1,6 +1,6 @@
 -- Fuses that hold a plan for a netlist are those of the netlist under the choice that they show.
 use Rattle.std.proofs.Common.{◌≡◌, ◌≢◌, ℕ, ◌+◌, ◌-◌, ◌<◌, ◌≤◌, Bool, true, false, not, ◌&&◌, ◌||◌, if◌then◌else◌, List, [], length, slice_get, Option, Some, None, refl, sym, ap, ap₂, ◌∙◌, subst, arith, unwrap_or}
-use Rattle.fitter.proofs.Common.{range_with_len, option_map, option_to_list, slice_get_past, same_level, IsPoint, Levels, PinLow, Row, Flip, AfterRegister, Always, BeforeRegister, Combinational, Either, Registered, IsDevice, complement_if, data_complements, data_rows, pin_complements, is_inverted, says, stores, stores_by, IsDataRow, Table, cell_at, no_cell, registered_at, preset_in, reset_in, CellWanted, Function, Netlist, ExprId, arena, formula_at, Const, Formula, formula_value, allows_plain, PlainNetlist, Wanted, function_at, plain_netlist, plain_wanted, shared_function, wanted_at, enable_of, netlist_stores, registers_as, IsSoundNetlist, IsSound, IsSoundFormula, IsSoundFree, MayRegister, Cube, IsExactRow, IsPrimeCover, is_used, IsFitted, IsFittedAs, IsFittedCell, IsFittedEnable, IsFittedShared, IsSpareCell, or_complements, or_may_be, data_row_below, all_turned, one_of, one_or_any, control_function, follows_as, may_be_inverted_as, names_or, or_is_complement, rows_are_positive, CellForm, CellPlan, Plan, IsBurned, form_at, planned, IsSoundId, IsFunctionOf, PlansAs, PlansCell, PlansControl, PlansFit, PlansNetlist, PlansShared, PlansSpare, cell_wanted, enable_bit, is_chosen, is_free_cell, exchanged_at, in_sense, MayExchangeIn, formula_exchanged, function_exchanged, is_free_wanted, netlist_exchanged, shown, wanted_exchanged, shared_exchanged, wanted_at_exchanged, function_value_exchanged, value_exchanged}
+use Rattle.fitter.proofs.Common.{range_with_len, option_map, option_to_list, slice_get_past, same_level, IsPoint, Levels, PinLow, Driven, Released, Row, Flip, AfterRegister, Always, BeforeRegister, Combinational, Either, Registered, IsDevice, complement_if, data_complements, data_rows, pin_complements, is_inverted, says, stores, stores_by, IsDataRow, Table, cell_at, no_cell, registered_at, preset_in, reset_in, CellWanted, Function, Netlist, ExprId, arena, formula_at, Const, Formula, formula_value, allows_plain, PlainNetlist, Wanted, function_at, plain_netlist, plain_wanted, shared_function, wanted_at, enable_of, netlist_stores, registers_as, IsSoundNetlist, IsSound, IsSoundFormula, IsSoundFree, MayRegister, Cube, IsExactRow, IsPrimeCover, is_used, IsFitted, IsFittedAs, IsFittedCell, IsFittedEnable, IsFittedShared, IsSpareCell, or_complements, or_may_be, data_row_below, all_turned, one_of, one_or_any, control_function, follows_as, may_be_inverted_as, names_or, or_is_complement, rows_are_positive, CellForm, CellPlan, Plan, IsBurned, form_at, planned, IsSoundId, IsFunctionOf, PlansAs, PlansCell, PlansControl, PlansFit, PlansNetlist, PlansShared, PlansSpare, cell_wanted, enable_bit, is_chosen, is_free_cell, exchanged_at, in_sense, MayExchangeIn, formula_exchanged, function_exchanged, is_free_wanted, netlist_exchanged, shown, wanted_exchanged, shared_exchanged, wanted_at_exchanged, function_value_exchanged, value_exchanged}
 use Rattle.pld_device.specs.declared.enable.Enable.{Enable}
 use Rattle.pld_device.specs.declared.kinds.Kinds.{Kinds}
 use Rattle.netlist_laws.proofs.ExchangedSound.{exchanged_is_sound}
@@ -213,6 +213,8 @@ module _ (t : Table) (laws : IsDevice t) (net : Netlist) (sound : IsSoundNetlist
 
     enable_by : (e : Enable) → (cell_at t c).enable ≡ e → IsFittedEnable t (netlist_exchanged z (plain_netlist net)) fuses (enable_of (wanted_exchanged z (plain_wanted (arena net.exprs) w))) e
     enable_by (PinLow pin) enables = tt
+    enable_by Driven enables = tt
+    enable_by Released enables = tt
     enable_by (Row row) enables =
         subst (λ f. IsExactRow t (netlist_exchanged z (plain_netlist net)) fuses f row) (ap (formula_exchanged z) (enable_is net w) ∙ sym (enable_under (plain_wanted (arena net.exprs) w).enable))
         (exact (enable_bit w) (enable_id t net sound c w ids) row x.enable ((laws.cells c no_cell within).enable_below row enables)

@@ -74,8 +74,8 @@ fn next_covers<D: Device>(
     }
 }
 
-/// The covers of all assigned cells, one entry a cell of the device; or, of the cells that are too wide, the first in the
-/// source. With `stops` the functions of the cells after the first that is over its room are not covered.
+/// The covers of all assigned cells, one entry a cell of the device; or the cell that is too wide and first assigned in the
+/// source. With `stops`, once a cell is over its room, no function of a later cell is covered.
 pub(crate) fn cover_cells<D: Device>(
     space: &mut Workspace,
     fit: &SoundFit<D>,

@@ -7,8 +7,8 @@ use std::alloc::{AllocError, AllocFailed};
 use std::fmt::{self, Debug, Formatter};
 use thiserror::Error;
 
-/// Why a netlist does not fit a device: the first of these in this order; TooWide the first by the cells' places in the
-/// source, of another kind the first by cell. A number is a cell's, in the order of the device.
+/// Why a netlist does not fit a device: the first of these in this order. TooWide names the cell that is first in the source,
+/// another kind the cell that is first in the device. A number is a cell's, in the order of the device.
 #[derive(Drop, Error)]
 pub enum FitFault {
     /// A written list of the cell's function, in each form that it may have, or of a control of it, would pass 1,024

@@ -18,7 +18,7 @@ use pld_device::Device;
 use sop_lowering::{LowerFault, lower};
 use std::alloc::{AllocError, Global};
 
-/// The equation of the second cell differs from that of the first at the point.
+/// Two cells whose equations differ at the point.
 #[derive(Clone, Copy, PartialEq, Eq)]
 pub struct NotShared {
     pub first: u8,
@@ -119,7 +119,7 @@ fn same_for_all<D: Device>(
 }
 
 /// The bit of the reset, or the preset, that all registers share: that of the cell of the least name that has one, else 0.
-/// Of cells whose own equations differ from it the first in the device's order is answered, with a point.
+/// If own equations of cells differ from it, the answer is the first such cell in the device's order, with a point.
 pub fn shared_bit<D: Device>(
     space: &mut Workspace,
     fit: &SoundFit<D>,

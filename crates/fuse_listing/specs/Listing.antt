@@ -7,7 +7,7 @@ use Rattle.pld_base.specs.Bits.{is_on}
 use Rattle.pld_device.specs.declared.carry.Carry.{Carry}
 use Rattle.pld_device.specs.declared.carry.Carry.TheVariants as carry
 use Rattle.pld_device.specs.declared.enable.Enable.{Enable}
-use Rattle.pld_device.specs.declared.enable.Enable.TheVariants.{Row, PinLow}
+use Rattle.pld_device.specs.declared.enable.Enable.TheVariants.{Row, PinLow, Driven, Released}
 use Rattle.pld_device.specs.Macrocells.{complement_if, data_rows, pin_complements}
 use Rattle.pld_device.specs.Registers.{is_inverted, stores}
 use Rattle.pld_device.specs.Rows.{is_switched_on}
@@ -114,6 +114,8 @@ row_line t fuses es word row = word ++ row_text t fuses es row ++ codes "\n"
 abbrev pub enable_text : Table → List Bool → List Entry → Enable → List ℕ
 enable_text t fuses es (Row row) = row_text t fuses es row
 enable_text t fuses es (PinLow pin) = codes "!pin" ++ decimal pin
+enable_text t fuses es Driven = codes "1"
+enable_text t fuses es Released = codes "0"
 
 -- the data rows in use
 abbrev pub rows_in_use : Table → List Bool → (cell : ℕ) → List ℕ

@@ -45,6 +45,8 @@ fn put_enable<D: Device>(
             out.extend_from_slice(b"!pin")?;
             put_decimal(alloc, out, usize::from(pin))
         }
+        Enable::Driven => Ok(out.extend_from_slice(b"1")?),
+        Enable::Released => Ok(out.extend_from_slice(b"0")?),
     }
 }
 
