@@ -1,7 +1,9 @@
 -- If nothing is refused, a register follows Q, or may, only if the device complements after it.
 use Rattle.std.proofs.Common.{◌≡◌, ◌≢◌, ℕ, ◌==◌, Bool, true, false, not, ◌&&◌, ◌||◌, if◌then◌else◌, Option, Some, None, List, [], ◌∷◌, ◌++◌, get_or, option_map, refl, sym, ap, ap₂, subst, ◌∙◌, arith, zero-add, slice_get, unwrap_or}
 use Rattle.declared_names.proofs.Common.{All, list_all, and_parts, true≢false, nat_tests, get_or_from_slice_get, slice_get_within, unwrap_or-slice_get, Flip, Table, Assigned, named_of, sections_assign, is_assigned, is_clocked_target, Entry, find, is_signal, is_stored, follows_q, SectionTree, ModuleTree, GivenName, declared_names, no_name, Holds, holds_of, is_held, is_buffer_by_default, is_registered, words_with_kind, with_kind, with_kinds, names_of, none_left, none_right, Targets, is_marked, all_marks, all_declarations, always_inverts, all_buffered, is_register_at, buffers_refused, module_buffers_refused, names_once, read_refusals, name_refusals, BuffersAreAllowed, module_accepted, AreSound}
+use Rattle.std.proofs.lemmas.Bool.{or_right}
 use Rattle.std.proofs.lemmas.List.Elements.{All-get_or}
+use Rattle.pld_base.specs.Models.{has_modes}
 use Rattle.pld_device.specs.declared.flip.Flip.TheVariants.{Always, AfterRegister, BeforeRegister}
 use Rattle.pld_device.specs.Macrocells.{pin_complements}
 use Rattle.declared_names.proofs.AssignedMarks.{is_found}
@@ -32,7 +34,7 @@ name_at_or flip held found es s o is =
     ∙ ap (λ (x : Option Entry). unwrap_or x no_name) (kinds_at flip held found 0 es s ∙ ap₂ (λ n (x : Option Entry). option_map (with_kind flip held found n) x) (zero-add s) is)
 
 inverts : (t : Table) → t.clock ≢ 0 → pin_complements t.flip true false ≡ true → always_inverts t ≡ true
-inverts t clock complements = ap₂ (λ a b. not a && b) (other t.clock clock) complements
+inverts t clock complements = ap₂ (λ a b. (a && b)) (or_right (has_modes t.name) (not (t.clock == 0)) (ap not (other t.clock clock))) complements
   where
     other : (n : ℕ) → n ≢ 0 → (n == 0) ≡ false
     other n apart = grind (arith, nat_tests)

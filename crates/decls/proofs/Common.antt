@@ -21,7 +21,7 @@ pub use Rattle.std.specs.Str.{bytes_eq, str_to_ascii_lowercase}
 pub use Rattle.abel_meaning.specs.Declarations.{GivenName, all_said, constant_entries, declared, entry, given_names, has_word, is_unnumbered, no_words}
 pub use Rattle.abel_meaning.specs.Declarations.{node_count, node_entries, parts_words, pin_entries, said_by_either, said_words, section_declarations}
 pub use Rattle.abel_meaning.specs.Declarations.{with_words, words_of}
-pub use Rattle.abel_meaning.specs.DeviceStrings.{first_device, unquoted}
+pub use Rattle.abel_meaning.specs.Models.{first_device, unquoted}
 pub use Rattle.abel_meaning.specs.Kinds.{names_of, with_kinds}
 pub use Rattle.abel_tree.proofs.FirstRefusals.{first_push}
 pub use Rattle.abel_tree.specs.Entries.{AConstant, ADeviceName, ANode, APin, Entry, Kind, Words, find, is_signal, is_value, kind_of, names_any, passes}

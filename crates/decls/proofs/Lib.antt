@@ -36,6 +36,7 @@ pub mod SaidWords
 pub mod Sayings
 pub mod SoundEntries
 pub mod SureNames
+pub mod TakenAlike
 pub mod Telling
 pub mod Told
 pub mod TooManyNodesExamples

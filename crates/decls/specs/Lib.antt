@@ -1,3 +1,4 @@
+pub mod Alike
 pub mod AllDeclarations
 pub mod Attributes
 pub mod Buffers

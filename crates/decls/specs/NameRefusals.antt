@@ -1,6 +1,7 @@
 -- All that is refused of the names of a module, and the first of it (this project's rule).
-use Rattle.std.specs.Prelude.{ℕ, Bool, true, false, not, ◌&&◌, ◌==◌, Option, None, Some, List, [], ◌∷◌, ◌++◌, if◌then◌else◌, filter, slice_get}
+use Rattle.std.specs.Prelude.{ℕ, Bool, true, false, not, ◌&&◌, ◌||◌, ◌==◌, Option, None, Some, List, [], ◌∷◌, ◌++◌, if◌then◌else◌, filter, slice_get}
 use Rattle.decls.specs.Prelude.{Table, Entry, find, is_signal, names_any, first_refusal, Declaration, SomePins, SomeNodes, SomeAttributes, SectionTree, Declarations, ModuleTree, section_uses, GivenName, given_names, all_said}
+use Rattle.pld_base.specs.Models.{has_modes}
 use Rattle.pld_device.specs.Macrocells.{pin_complements}
 use Rattle.abel_tree.specs.Assigned.{Assigned, named_of, sections_assign, is_clocked_target}
 use Rattle.abel_meaning.specs.Kinds.{is_registered}
@@ -23,10 +24,14 @@ sections_refused t before (x ∷ xs) =
 
 -- ---- registers that the device can't buffer
 
+-- the device has registers, in this mode or in another one
+abbrev pub has_registers : Table → Bool
+has_registers t = has_modes t.name || not (t.clock == 0)
+
 -- each register's pin is the complement of Q: the device has registers, and complements at their pins with no fuse that
 -- says so
 abbrev pub always_inverts : Table → Bool
-always_inverts t = not (t.clock == 0) && pin_complements t.flip true false
+always_inverts t = has_registers t && pin_complements t.flip true false
 
 -- the names of a declaration whose strings say `buffer`, of those that follow these names
 abbrev pub buffered : List Entry → Declaration → List GivenName

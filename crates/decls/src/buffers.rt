@@ -6,11 +6,18 @@ ghost use Rattle.abel_tree.specs.declared.declarations.Decl.{Decl};
 ghost use Rattle.abel_tree.specs.declared.sections.Section.{Section};
 ghost use Rattle.decls.specs.AllDeclarations.{all_declarations};
 ghost use Rattle.decls.specs.Buffers.{registers_wait, says_buffer};
-ghost use Rattle.decls.specs.NameRefusals.{always_inverts};
+ghost use Rattle.decls.specs.NameRefusals.{always_inverts, has_registers};
 
 use crate::saying::all_in;
 use abel_tree::{Decl, Module, Section};
 use pld_device::{Device, Flip, Loaded};
+
+/// Whether the device has registers, in this mode or in another one.
+fn has_registers<D: Device>(device: &Loaded<D>) -> bool
+    ensures { result ≡ has_registers D.table }
+{
+    device.name().has_modes() || device.clock() != 0
+}
 
 /// Whether the device has registers and always complements them at their pins.
 pub fn always_inverts<D: Device>(device: &Loaded<D>) -> bool
@@ -21,7 +28,7 @@ pub fn always_inverts<D: Device>(device: &Loaded<D>) -> bool
         Flip::AfterRegister => false,
         Flip::BeforeRegister => true,
     };
-    device.clock() != 0 && always
+    has_registers::<D>(device) && always
 }
 
 /// Whether registers wait for what is assigned: the device always inverts, and some string says `buffer`.

@@ -2,7 +2,7 @@
 
 ghost use Rattle.std.specs.Prelude.{◌≡◌, Option, Some, None, IfOk, IfErr, option_copied, map, [], ◌∷◌};
 ghost use Rattle.decls.specs.Prelude.{view_decl, view_section, view_module, section_declarations};
-ghost use Rattle.abel_meaning.specs.DeviceStrings.{device_named, unquoted};
+ghost use Rattle.abel_meaning.specs.Models.{device_named, unquoted};
 ghost use Rattle.pld_base.specs.DeviceNames.{named_device};
 ghost use Rattle.decls.specs.declared.fault.NameFault.TheVariants.{UnknownDevice};
 ghost use Rattle.decls.specs.AllDeclarations.{all_declarations};

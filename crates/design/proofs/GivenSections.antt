@@ -3,7 +3,7 @@ use Rattle.std.proofs.Common.{◌≡◌, ℕ, Bool, true, false, not, Option, No
 use Rattle.design.proofs.Common.{AllByRecursion, list_all, and_parts, Table, cell_at, Formula, Const, Extension, Named, Assigned, signals_of, target_extension, without_extension, is_clocked, assigned_each, statement_assigns, else_assigns, statements_assign, list_assigns, with_assigns, branch_assigns, other_assigns, choices_assign, branches_assign, states_assign, section_assigns, sections_assign, is_assigned, Tree, AParen, Statement, AnAssign, AWhen, AGroup, ADontCare, Otherwise, NoElse, AnElse, Statements, NoStatement, MoreStatements, statements_of, Branch, AGoal, AnIf, ACase, OtherBranch, NoBranch, ABranch, Choices, NoChoice, MoreChoices, StateTree, SectionTree, Declarations, Equations, ATable, ADiagram, SomeVectors, DontCareSection, Contribution, Guard, guarded, condition, Context, name_at, goal_gives, branch_gives, other_gives, choices_give, branches_give, in_state, states_give, is_other, first_of_each, other_matches, with_statements, Part, ATarget, AValue, statement_parts, else_parts, statements_parts, list_parts, with_parts, branch_parts, other_parts, choices_parts, branches_parts, states_parts, section_parts, sections_parts, sign_gives, statement_gives, else_gives, statements_give, rows_give, no_matches, targets_of, some_signals, term_of, cell_of, SignalUse, term_uses, reads_of_terms, is_kept, is_enabled_by_row, is_row, expression_found, Manner, names_signals, target_member, left_side, CountedUnit, units_refused, right_empty, side_positions, statement_manners, statements_manners, units_of_statement, units_of_else, units_of_statements, register_manners, state_guard, state_manners, branch_manners, units_of_branch, units_of_other, units_of_choices, units_of_branches, units_of_states, listed_after, section_manners, units_of_section, units_of_sections, among, PlacedUse, is_by_pin, is_cell_by_pin, is_enabled_by_pin, is_compared_by, is_compared, HasBareHeader, HaveBareHeaders, flat_map, PartTree, Outputs, Value, part, parts_in_branch, parts_in_choices, parts_in_else, parts_in_other, parts_in_row, parts_in_section, parts_in_state, parts_in_statement, parts_in_statements, parts_in_with, located, part_uses}
 use Rattle.std.proofs.lemmas.Grind.{flat_map-append}
 use Rattle.pld_device.specs.declared.enable.Enable.{Enable}
-use Rattle.pld_device.specs.declared.enable.Enable.TheVariants.{Row, PinLow}
+use Rattle.pld_device.specs.declared.enable.Enable.TheVariants.{Row, PinLow, Driven, Released}
 use Rattle.abel_tree.specs.declared.words.Extension.TheVariants as extension
 use Rattle.abel_meaning.specs.CountedNodes.{condition_of, guard_then, guard_else}
 use Rattle.abel_meaning.specs.Directives.{after_section}
@@ -20,7 +20,7 @@ use Rattle.design.proofs.NamedTerms.{signals_in, IsWithin, without_within}
 
 -- ---- what is compared, the netlist doesn't have
 
--- a signal on a cell that a pin enables has no enable of its own
+-- a signal on a cell that no row enables has no enable of its own
 by_pin_not_row : (t : Table) (c : Option ℕ) → is_cell_by_pin t c ≡ true → is_enabled_by_row t c ≡ true → ⊥
 by_pin_not_row t None pin row = absurd cc
 by_pin_not_row t (Some c) pin row = by (cell_at t c).enable pin row
@@ -28,6 +28,8 @@ by_pin_not_row t (Some c) pin row = by (cell_at t c).enable pin row
     by : (e : Enable) → is_by_pin e ≡ true → is_row e ≡ true → ⊥
     by (Row r) pin row = absurd cc
     by (PinLow p) pin row = absurd cc
+    by Driven pin row = absurd cc
+    by Released pin row = absurd cc
 
 module _ (d : Context) (A : Type 0) where
   abbrev IfKept : Option Extension → ℕ → Type 0

@@ -1,7 +1,7 @@
 -- What an equation for a clock, or for the enable of a cell that a pin enables, must say: what the device does anyway
 -- (the devices' datasheets, macrocell diagrams); how it must be written is said in `design_checks`.
 use Rattle.std.specs.Prelude.{ℕ, ◌==◌, Bool, true, false, not, Option, None, Some}
-use Rattle.design_checks.specs.Prelude.{Enable, Row, PinLow, Table, cell_at, Leaf, Formula, Const, Read, Not, And, Or, Xor, Extension, Entry, cell_of}
+use Rattle.design_checks.specs.Prelude.{Enable, Row, PinLow, Driven, Released, Table, cell_at, Leaf, Formula, Const, Read, Not, And, Or, Xor, Extension, Entry, cell_of}
 use Rattle.bit_expr.specs.declared.node.Leaf.TheVariants as leaf
 use Rattle.abel_tree.specs.declared.words.Extension.TheVariants as extension
 use Rattle.design_checks.specs.SectionUses.{is_cell_by_pin}
@@ -38,7 +38,7 @@ is_level_if true pin f = is_other_level pin f
 
 -- ---- what is compared
 
--- an equation for this signal is compared: one for a clock, or for the enable of a cell that a pin enables
+-- an equation for this signal is compared: one for a clock, or for the enable of a cell that no row enables
 abbrev pub is_compared_of : Table → Option Extension → Entry → Bool
 is_compared_of t (Some extension.Clk) x = true
 is_compared_of t (Some extension.Oe) x = is_cell_by_pin t (cell_of t x)
@@ -46,10 +46,12 @@ is_compared_of t _ x = false
 
 -- ---- what is said
 
--- an equation for an enable, of the control or of its complement: a pin enables at 0
+-- an equation for an enable, of the control or of its complement: a pin enables at 0; a cell without either has no equation
 abbrev pub enables_so : Enable → (complement : Bool) → Formula → Bool
 enables_so (Row row) complement f = true
 enables_so (PinLow pin) complement f = is_level_if (not complement) pin f
+enables_so Driven complement f = false
+enables_so Released complement f = false
 
 abbrev pub cell_enables_so : Table → Option ℕ → (complement : Bool) → Formula → Bool
 cell_enables_so t None complement f = true

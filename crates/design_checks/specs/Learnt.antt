@@ -35,7 +35,7 @@ first_read r d us = first_signal (λ (u : SignalUse). refuses_use d.device r (na
 
 -- ---- positions
 
--- each signal is on a cell that a pin enables
+-- each signal is on a cell that no row enables
 abbrev pub are_by_pin : Context → List (Option ℕ) → Bool
 are_by_pin d ss = list_all (is_enabled_by_pin d) (some_signals ss)
 

@@ -22,17 +22,17 @@ pub(crate) fn cell_of<D: Device>(device: &Loaded<D>, declared: &Declared) -> Opt
     }
 }
 
-/// Whether the signal is assigned on a cell that a pin enables.
+/// Whether the signal is assigned on a cell that no row enables.
 pub(crate) fn is_enabled_by_pin<D: Device>(device: &Loaded<D>, declared: &Declared) -> bool
     ensures { result ≡ is_cell_by_pin D.table (cell_of D.table (view_declared declared.now)) }
 {
     match cell_of::<D>(device, declared) {
-        Some(cell) => matches!(device.cell(cell).enable, Enable::PinLow(_)),
+        Some(cell) => !matches!(device.cell(cell).enable, Enable::Row(_)),
         None => false,
     }
 }
 
-/// Whether an equation for this signal is compared: one for a clock, or for the enable of a cell that a pin enables.
+/// Whether an equation for this signal is compared: one for a clock, or for the enable of a cell that no row enables.
 pub(crate) fn is_compared<D: Device>(
     device: &Loaded<D>,
     declared: &Declared,

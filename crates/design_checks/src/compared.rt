@@ -59,6 +59,7 @@ pub(crate) fn says_always<D: Device>(
             Some(cell) => match device.cell(cell).enable {
                 Enable::Row(_) => true,
                 Enable::PinLow(pin) => is_level_if(exprs, given.when, !given.complement, pin),
+                Enable::Driven | Enable::Released => false,
             },
         },
         _ => true,
