@@ -53,7 +53,7 @@ pub use Rattle.decls.proofs.Placed.{found_at, kind_at, same_name}
 pub use Rattle.decls.proofs.Rows.{mapped_more}
 pub use Rattle.decls.proofs.SaidBuffers.{items_signals}
 pub use Rattle.decls.specs.Attributes.{brings_clash, has_unknown, is_refused_string, strings_refused}
-pub use Rattle.decls.specs.NameRefusals.{all_buffered, always_inverts, buffered, buffers_refused, is_register_at, module_buffers_refused, name_refusals}
+pub use Rattle.decls.specs.NameRefusals.{all_buffered, always_inverts, buffered, buffers_refused, has_registers, is_register_at, module_buffers_refused, name_refusals}
 pub use Rattle.decls.specs.NameRefusals.{names_once, read_refusals, sections_refused}
 pub use Rattle.decls.specs.NamesBefore.{added, names_behind, words_named, words_of_names}
 pub use Rattle.abel_meaning.specs.SignalPins.{is_taken, is_signal_pin, has_wrong_kind, has_wrong_kind_by, has_wrong_kind_on, is_registered_by, is_registered_node, has_read_path, has_read_path_on, reads_by}
@@ -84,15 +84,15 @@ pub use Rattle.placer.specs.Following.{HasFittingPin, HasNumberedNames, IsFollow
 pub use Rattle.placer.specs.Given.{AreKnown, declaration_given, declarations_given, items_left, module_given, node_given, pin_given, pins_given, released_if}
 pub use Rattle.placer.specs.Given.{section_given}
 pub use Rattle.placer.specs.Marks.{AreMarks, AreSeen, HasMark, HasMarks, HasSameMark, IsMarkOf, IsUnion, numbers_named}
-pub use Rattle.placer.specs.NamedSignals.{read_after, read_names_of, signals_in, signals_used, stands_for}
+pub use Rattle.abel_meaning.specs.Reads.{read_after, read_names_of, signals_in, signals_used, stands_for}
 pub use Rattle.placer.specs.PartReads.{enabled_in, parts_of, read_in, reads_as, signals_at}
 pub use Rattle.placer.specs.PlacedModule.{Pinned, item_at, node_alone, node_declaration, node_pinned, numbers_for, placed_declaration, placed_declarations}
 pub use Rattle.placer.specs.PlacedModule.{placed_module, placed_section, register_string, released, span_at, spans_for, unpinned, unpinned_items}
 pub use Rattle.placer.specs.PlacedModule.{with_equations}
 pub use Rattle.placer.specs.Placements.{HasNoPlacement, IsPlacedModule, Pins, all_released, dc_of, is_node, module_wishes, node_pin_of, pin_of, placed_with}
 pub use Rattle.placer.specs.Placements.{with_pins}
-pub use Rattle.placer.specs.Reads.{enables, has_enable, is_enable, is_read, read_parts, reads}
-pub use Rattle.placer.specs.Signals.{cells_of_room, has_cell_for, is_buried_register, is_enabled_by, is_pin_free, large_cells, large_to, needs_pin, pin_fits}
+pub use Rattle.abel_meaning.specs.Reads.{enables, has_enable, is_enable, is_read, read_parts, reads}
+pub use Rattle.placer.specs.Signals.{cells_of_room, has_cell_for, has_unsuited_on, is_buried_register, is_enabled_by, is_pin_free, large_cells, large_to, needs_pin, pin_fits}
 pub use Rattle.placer.specs.Signals.{preferred, small_to, to_place, to_place_from, wish, wishes}
 pub use Rattle.placer.specs.Wanted.{AreFree, wanted_of, with_signal}
 pub use Rattle.placer.specs.declared.seen.Seen.{Seen}

@@ -1,6 +1,6 @@
 -- On a pin that fits it, a signal has a cell that can be what it is, and a column for its bare name.
 use Rattle.std.proofs.Common.{◌≡◌, ℕ, ◌<◌, Bool, true, false, not, ◌&&◌, ◌||◌, None, is_some, List, [], length, get_or, refl, sym, ap, ◌∙◌, subst, eqb-true}
-use Rattle.placer.proofs.Common.{filter, true≢false, and_parts, get_or-map, length-map, Table, APin, Entry, is_stored, cell_on, no_name, has, IsAssignment, wish_of, HasFittingPin, has_wrong_kind, has_wrong_kind_on, has_read_path, has_read_path_on, reads_by, has_cell_for, is_pin_free, pin_fits, preferred, to_place, wish, wishes}
+use Rattle.placer.proofs.Common.{filter, true≢false, and_parts, get_or-map, length-map, Table, APin, Entry, is_stored, cell_on, no_name, has, IsAssignment, wish_of, HasFittingPin, has_wrong_kind, has_wrong_kind_on, has_read_path, has_read_path_on, reads_by, has_cell_for, has_unsuited_on, is_pin_free, pin_fits, preferred, to_place, wish, wishes}
 use Rattle.std.specs.Cmp.{nat_eq_equiv}
 use Rattle.std.proofs.lemmas.Map.Made.{is_member-filter}
 
@@ -13,14 +13,17 @@ given true b h is = h
 given false b h is = absurd (true≢false (sym is))
 
 module _ (t : Table) (read : Bool) (x : Entry) (pin : ℕ) (negated : Bool) (fit : pin_fits t read x pin ≡ true) where
+  parts : (((not x.assigned || has_cell_for t x pin) && not (has_unsuited_on t x.assigned pin)) ≡ true) × ((not read || has_read_path_on t x pin None) ≡ true)
+  parts = and_parts ((not x.assigned || has_cell_for t x pin) && not (has_unsuited_on t x.assigned pin)) (not read || has_read_path_on t x pin None) fit
+
   pub no_wrong_kind : x.assigned ≡ true → has_wrong_kind t (record x { kind = APin pin negated }) ≡ false
   no_wrong_kind assigned =
-      let taken = given x.assigned (has_cell_for t x pin) (and_parts (not x.assigned || has_cell_for t x pin) (not read || has_read_path_on t x pin None) fit).0 assigned in
+      let taken = given x.assigned (has_cell_for t x pin) (and_parts (not x.assigned || has_cell_for t x pin) (not (has_unsuited_on t x.assigned pin)) parts.0).0 assigned in
       not_true (has_wrong_kind_on t pin (is_stored x)) (and_parts (is_some (cell_on t pin)) (not (has_wrong_kind_on t pin (is_stored x))) taken).1
 
   pub has_path : read ≡ true → has_read_path t (record x { kind = APin pin negated }) None ≡ true
   has_path reads =
-      same (is_stored x) (given read (has_read_path_on t x pin None) (and_parts (not x.assigned || has_cell_for t x pin) (not read || has_read_path_on t x pin None) fit).1 reads)
+      same (is_stored x) (given read (has_read_path_on t x pin None) parts.1 reads)
     where
       same : (stored : Bool) → reads_by t x stored (APin pin false) None ≡ true → reads_by t (record x { kind = APin pin negated }) stored (APin pin negated) None ≡ true
       same true path = path

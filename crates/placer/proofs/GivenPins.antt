@@ -1,6 +1,6 @@
 -- The pins of an assignment, name by name.
 use Rattle.std.proofs.Common.{◌≡◌, ℕ, zero, suc, ◌+◌, ◌<◌, ◌==◌, Bool, true, false, not, ◌&&◌, ◌||◌, Option, None, Some, List, [], ◌∷◌, ◌++◌, length, get_or, if◌then◌else◌, refl, sym, ap, ap₂, subst, ◌∙◌, arith, inl, inr, is_some, bytes_eq}
-use Rattle.placer.proofs.Common.{list_any, true≢false, and_parts, cases_lt, or_cases, length-map, slice_get-get_or, Cell, Flip, Table, Named, list_assigns, named_of, sections_assign, Kind, APin, ANode, AConstant, ADeviceName, Entry, find, kind_of, is_value, passes, names_any, ModuleTree, list_uses, declared_names, is_unnumbered, no_name, holds_of, is_buffer_by_default, names_of, always_inverts, name_refusals, is_taken, is_signal_pin, uses_refused, same_bytes, Alike, alike_kinds, alike_settled, entries_sound, found_at, kind_at, same_name, is_registered_node, IsAssignment, Pinned, released, Pins, with_pins, is_node, pin_of, node_pin_of, all_released, is_buried_register, is_enabled_by, is_pin_free, needs_pin, to_place, to_place_from, wish, wishes}
+use Rattle.placer.proofs.Common.{list_any, true≢false, and_parts, cases_lt, or_cases, length-map, slice_get-get_or, Cell, Flip, Table, Named, list_assigns, named_of, sections_assign, Kind, APin, ANode, AConstant, ADeviceName, Entry, find, kind_of, is_value, passes, names_any, ModuleTree, list_uses, declared_names, is_unnumbered, no_name, holds_of, is_buffer_by_default, names_of, always_inverts, has_registers, name_refusals, is_taken, is_signal_pin, uses_refused, same_bytes, Alike, alike_kinds, alike_settled, entries_sound, found_at, kind_at, same_name, is_registered_node, IsAssignment, Pinned, released, Pins, with_pins, is_node, pin_of, node_pin_of, all_released, is_buried_register, is_enabled_by, is_pin_free, needs_pin, to_place, to_place_from, wish, wishes}
 use Rattle.pld_device.specs.declared.flip.Flip.TheVariants.{Always, AfterRegister, BeforeRegister}
 use Rattle.pld_device.specs.Macrocells.{pin_complements}
 use Rattle.decls.specs.declared.fault.NameFault.TheVariants as fault
@@ -285,7 +285,7 @@ module _ (t : Table) (m : ModuleTree) (none : name_refusals t m ≡ []) (read : 
       no_default BeforeRegister h = refl
 
       default : is_buffer_by_default t.flip ≡ false
-      default = no_default t.flip (and_parts (not (t.clock == 0)) (pin_complements t.flip true false) inverts).1
+      default = no_default t.flip (and_parts (has_registers t) (pin_complements t.flip true false) inverts).1
 
       -- a node needs none
       no_need : (x : Entry) → is_node x.kind ≡ true → needs_pin t x ≡ true → ⊥

@@ -28,6 +28,7 @@ pub mod Promise
 pub mod Reading
 pub mod Released
 pub mod Signals
+pub mod SomeEnable
 pub mod Targeted
 pub mod ToldSignals
 pub mod UsedSignals

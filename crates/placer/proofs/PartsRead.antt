@@ -14,15 +14,15 @@ module _ (f : PartTree → List ℕ) (g : Part → List ℕ) (a : Follows f g) (
   in_section (SomeVectors text place inputs outputs rows) = ap₂ (λ x y. x ++ y) (a.entry inputs) (ap₂ (λ x y. x ++ y) (a.entry outputs) (in_rows f g a rows))
   in_section (DontCareSection directive) = refl
 
-  in_sections : (xs : List SectionTree) → flat_map f (flat_map parts_of (map with_parts xs)) ≡ flat_map g (flat_map read_parts xs)
+  pub in_sections : (xs : List SectionTree) → flat_map f (flat_map parts_of (map with_parts xs)) ≡ flat_map g (flat_map read_parts xs)
   in_sections [] = refl
   in_sections (x ∷ xs) =
       flat_map-append f (parts_in_section x) (flat_map parts_of (map with_parts xs))
       ∙ (ap₂ (λ us vs. us ++ vs) (in_section x) (in_sections xs) ∙ sym (flat_map-append g (read_parts x) (flat_map read_parts xs)))
 
 -- a test of parts, by what they give
-module _ (p : ℕ → Bool) (test : Part → Bool) (g : Part → List ℕ) (same : (u : Part) → list_any p (g u) ≡ test u) where
-  any_given : (us : List Part) → list_any p (flat_map g us) ≡ list_any test us
+module _ {A : Type 0} (p : ℕ → Bool) (test : A → Bool) (g : A → List ℕ) (same : (u : A) → list_any p (g u) ≡ test u) where
+  pub any_given : (us : List A) → list_any p (flat_map g us) ≡ list_any test us
   any_given [] = refl
   any_given (u ∷ us) = list_any-append p (g u) (flat_map g us) ∙ ap₂ (λ x y. x || y) (same u) (any_given us)
 

@@ -4,7 +4,7 @@ use Rattle.placer.specs.Prelude.{list_any, Table, APin, Entry, ModuleTree, are_n
 use Rattle.abel_meaning.specs.Terms.{known_of}
 use Rattle.design_checks.specs.LocatedUses.{PlacedUse}
 use Rattle.design_checks.specs.SectionUses.{design_uses}
-use Rattle.placer.specs.Reads.{is_read}
+use Rattle.abel_meaning.specs.Reads.{is_read}
 use Rattle.placer.specs.Placements.{IsPlacedModule}
 use Rattle.placer.specs.Signals.{is_pin_free, pin_fits, to_place, wishes}
 

@@ -2,11 +2,9 @@ pub mod Faults
 pub mod Following
 pub mod Given
 pub mod Marks
-pub mod NamedSignals
 pub mod PartReads
 pub mod PlacedModule
 pub mod Placements
 pub mod Prelude
-pub mod Reads
 pub mod Signals
 pub mod Wanted

@@ -3,8 +3,7 @@ use Rattle.std.specs.Prelude.{Bool, true, false, List, [], ℕ, if◌then◌else
 use Rattle.placer.specs.Prelude.{flat_map, Named, signals_of, target_extension, without_extension, Tree, PartRole, PartTree, Target, Value, Read, Registers, PartedSection}
 use Rattle.decls.specs.PartUses.{use_of}
 use Rattle.name_uses.specs.NamesUsed.{UsedName}
-use Rattle.placer.specs.NamedSignals.{signals_used}
-use Rattle.placer.specs.Reads.{is_enable}
+use Rattle.abel_meaning.specs.Reads.{is_enable, signals_used}
 
 -- the signals of a name that is used, or of a range
 abbrev pub signals_at : List Named → UsedName → List ℕ
@@ -25,6 +24,9 @@ read_in ks p = if reads_as p.role then flat_map (signals_at ks) p.uses else []
 abbrev pub is_enabling : PartRole → Tree → Bool
 is_enabling (Target sign) t = is_enable (target_extension t)
 is_enabling _ t = false
+
+abbrev pub enables_it : PartTree → Bool
+enables_it p = is_enabling p.role p.tree
 
 -- the signals whose enable a part assigns
 abbrev pub enabled_in : List Named → PartTree → List ℕ

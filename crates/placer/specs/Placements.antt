@@ -1,7 +1,7 @@
 -- The placed module of a module, and why there may be none (this project's rule).
 use Rattle.std.specs.Prelude.{◌≡◌, ℕ, Bool, true, false, not, ◌&&◌, None, Some, List, [], ◌∷◌, if◌then◌else◌, map, get_or, bytes_eq}
 use Rattle.placer.specs.Prelude.{Table, Kind, ANode, Entry, names_any, Statement, ModuleTree, no_name, names_of, name_refusals, IsTaken, IsKept}
-use Rattle.placer.specs.Reads.{is_read, has_enable}
+use Rattle.abel_meaning.specs.Reads.{is_read, has_enable}
 use Rattle.placer.specs.PlacedModule.{Pinned, placed_module, released}
 use Rattle.placer.specs.Signals.{to_place, wishes}
 

@@ -3,7 +3,7 @@
 use Rattle.std.specs.Prelude.{ℕ, zero, suc, Bool, true, false, not, ◌&&◌, ◌||◌, ◌==◌, None, is_some, is_none, List, [], ◌∷◌, ◌++◌, if◌then◌else◌, map, filter, get_or}
 use Rattle.placer.specs.Prelude.{list_any, range_with_len, Cell, Table, Entry, is_stored, cell_on, is_unnumbered, no_name, is_buffer_by_default, is_taken, is_signal_pin, has_wrong_kind_on, is_registered_node, has_read_path_on}
 use Rattle.pld_device.specs.declared.enable.Enable.{Enable}
-use Rattle.pld_device.specs.declared.enable.Enable.TheVariants.{Row, PinLow}
+use Rattle.pld_device.specs.declared.enable.Enable.TheVariants.{Driven, PinLow, Released}
 
 -- ---- signals
 
@@ -26,8 +26,8 @@ to_place t es = to_place_from t 0 es
 -- ---- free pins
 
 abbrev pub is_enabled_by : (pin : ℕ) → Enable → Bool
-is_enabled_by pin (Row row) = false
 is_enabled_by pin (PinLow p) = p == pin
+is_enabled_by pin _ = false
 
 -- a pin that may have a name, is neither the clock nor enables a cell, and that no number names
 abbrev pub is_pin_free : Table → List Entry → (pin : ℕ) → Bool
@@ -41,9 +41,19 @@ is_pin_free t es pin =
 abbrev pub has_cell_for : Table → Entry → (pin : ℕ) → Bool
 has_cell_for t x pin = is_some (cell_on t pin) && not (has_wrong_kind_on t pin (is_stored x))
 
+-- a cell that always drives its pin is for what is assigned, and one that never does for what isn't
+abbrev pub is_unsuited : (assigned : Bool) → Enable → Bool
+is_unsuited assigned Driven = not assigned
+is_unsuited assigned Released = assigned
+is_unsuited assigned _ = false
+
+abbrev pub has_unsuited_on : Table → (assigned : Bool) → (pin : ℕ) → Bool
+has_unsuited_on t assigned pin = list_any (λ (c : Cell). (c.pin == pin) && is_unsuited assigned c.enable) t.cells
+
 -- what is assigned needs a cell that can be what it is, and what is read a column for its bare name
 abbrev pub pin_fits : Table → (read : Bool) → Entry → (pin : ℕ) → Bool
-pin_fits t read x pin = (not x.assigned || has_cell_for t x pin) && (not read || has_read_path_on t x pin None)
+pin_fits t read x pin =
+    (not x.assigned || has_cell_for t x pin) && not (has_unsuited_on t x.assigned pin) && (not read || has_read_path_on t x pin None)
 
 -- ---- preference
 

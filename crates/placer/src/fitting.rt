@@ -1,14 +1,14 @@
 //! Which pins are free, and which fit a signal.
 
-ghost use Rattle.std.specs.Prelude.{◌≡◌, map, is_some};
+ghost use Rattle.std.specs.Prelude.{◌≡◌, ◌==◌, ◌&&◌, map, is_some};
 ghost use Rattle.placer.specs.Prelude.{list_any, Cell, view_declared, view_meaning, cell_on, is_on_pin, is_taken, is_signal_pin};
-ghost use Rattle.placer.specs.Signals.{has_cell_for, is_enabled_by, is_pin_free, pin_fits};
+ghost use Rattle.placer.specs.Signals.{has_cell_for, has_unsuited_on, is_enabled_by, is_pin_free, is_unsuited, pin_fits};
 ghost use Rattle.placer.specs.Wanted.{AreFree};
 
 use abel_tree::{Declared, Meaning};
 use design_checks::{has_read_path_on, has_wrong_kind_on};
 use pld_base::with_level;
-use pld_device::{Device, Enable, Loaded, cell_on};
+use pld_device::{Cell, Device, Enable, Loaded, cell_on};
 
 /// Whether a pin may have a name: it is neither ground nor the supply.
 fn is_signal_pin<D: Device>(device: &Loaded<D>, pin: u8) -> bool
@@ -24,6 +24,8 @@ fn is_enabled_by(pin: u8, enable: Enable) -> bool
     match enable {
         Enable::Row(_) => false,
         Enable::PinLow(enabling) => enabling == pin,
+        Enable::Driven => false,
+        Enable::Released => false,
     }
 }
 
@@ -39,8 +41,8 @@ fn is_enabling<D: Device>(device: &Loaded<D>, pin: u8) -> bool
     false
 }
 
-/// Whether it is declared on the pin.
-fn is_on_pin(pin: u8, meaning: &Meaning) -> bool
+/// Whether it is declared on the pin. Takes no memory.
+pub fn is_on_pin(pin: u8, meaning: &Meaning) -> bool
     ensures { result ≡ is_on_pin pin (view_meaning meaning.now) }
 {
     match meaning {
@@ -52,8 +54,8 @@ fn is_on_pin(pin: u8, meaning: &Meaning) -> bool
     }
 }
 
-/// Whether a number names the pin.
-fn is_taken(names: &[Declared], pin: u8) -> bool
+/// Whether a number names the pin. Takes no memory.
+pub fn is_taken(names: &[Declared], pin: u8) -> bool
     ensures { result ≡ is_taken (map view_declared names.now) pin }
 {
     for declared in names {
@@ -95,6 +97,38 @@ fn has_cell_for<D: Device>(device: &Loaded<D>, declared: &Declared, pin: u8) -> 
         && !has_wrong_kind_on::<D>(device, pin, declared.is_stored())
 }
 
+/// Whether a cell with this enable is for what is assigned, where the signal isn't, or for what isn't.
+fn is_unsuited(assigned: bool, enable: Enable) -> bool
+    ensures { result ≡ is_unsuited assigned enable }
+{
+    match enable {
+        Enable::Row(_) => false,
+        Enable::PinLow(_) => false,
+        Enable::Driven => !assigned,
+        Enable::Released => assigned,
+    }
+}
+
+/// Whether the cell is on the pin, and is so.
+fn is_unsuited_on(cell: &Cell, assigned: bool, pin: u8) -> bool
+    ensures { result ≡ ((cell.now.pin == pin) && is_unsuited assigned cell.now.enable) }
+{
+    cell.pin == pin && is_unsuited(assigned, cell.enable)
+}
+
+/// Whether there is such a cell on the pin.
+fn has_unsuited_on<D: Device>(device: &Loaded<D>, assigned: bool, pin: u8) -> bool
+    ensures { result ≡ has_unsuited_on D.table assigned pin }
+{
+    for index in 0..device.cells() {
+        let cell = device.cell(index);
+        if is_unsuited_on(&cell, assigned, pin) {
+            return true;
+        }
+    }
+    false
+}
+
 /// Whether the pin fits the signal.
 pub(crate) fn pin_fits<D: Device>(
     device: &Loaded<D>,
@@ -105,5 +139,6 @@ pub(crate) fn pin_fits<D: Device>(
     ensures { result ≡ pin_fits D.table read (view_declared declared.now) pin }
 {
     (!declared.assigned || has_cell_for::<D>(device, declared, pin))
+        && !has_unsuited_on::<D>(device, declared.assigned, pin)
         && (!read || has_read_path_on::<D>(device, declared, pin, None))
 }

@@ -4,7 +4,7 @@
 ghost use Rattle.std.specs.Prelude.{◌≤◌, IfOk, length, map};
 ghost use Rattle.placer.specs.Prelude.{view_declared, view_module};
 ghost use Rattle.placer.specs.Marks.{HasMarks};
-ghost use Rattle.placer.specs.Reads.{has_enable, is_read};
+ghost use Rattle.abel_meaning.specs.Reads.{has_enable, is_read};
 
 mod declaring;
 mod fault;
@@ -27,8 +27,10 @@ mod writing;
 
 use abel_tree::Declared;
 pub use fault::PlaceFault;
+pub use fitting::{is_on_pin, is_taken};
 pub use laws::{fitting_pins_are_followed, placed_names_are_numbered, uses_are_reads};
 use name_uses::ModuleParts;
+pub use parts::has_enables;
 pub use placing::place;
 use pld_base::OutOfMemory;
 pub use seen::Seen;

@@ -6,7 +6,7 @@ ghost use Rattle.std.specs.Prelude.{◌≡◌, ◌≤◌, ℕ, List, IfOk, OnOk,
 ghost use Rattle.placer.specs.Prelude.{bit_or, flat_map, Named, signals_of_name, signals_of_names, view, view_use};
 ghost use Rattle.name_uses.specs.RangeParts.{name_items};
 ghost use Rattle.placer.specs.Marks.{AreMarks, HasMark, IsMarkOf};
-ghost use Rattle.placer.specs.NamedSignals.{signals_in};
+ghost use Rattle.abel_meaning.specs.Reads.{signals_in};
 ghost use Rattle.placer.specs.PartReads.{signals_at};
 
 use abel_tree::Expr;

@@ -1,15 +1,17 @@
 //! What the parts of a module read, and of which signals they assign the enable.
 
 ghost use Rattle.std.specs.Prelude.{◌≡◌, IfOk, map, ◌∷◌, []};
-ghost use Rattle.placer.specs.Prelude.{flat_map, target_extension, view, view_part, view_role, view_section_parts};
+ghost use Rattle.name_uses.specs.declared.part.Part.{Part};
+ghost use Rattle.name_uses.specs.declared.source.SectionParts.{SectionParts};
+ghost use Rattle.placer.specs.Prelude.{flat_map, list_any, target_extension, view, view_module, view_part, view_role, view_section_parts};
 ghost use Rattle.placer.specs.Marks.{AreSeen, IsMarkOf};
-ghost use Rattle.placer.specs.PartReads.{enabled_in, is_enabling, parts_of, read_in, reads_as};
-ghost use Rattle.placer.specs.Reads.{is_enable};
+ghost use Rattle.placer.specs.PartReads.{enabled_in, enables_it, is_enabling, parts_of, read_in, reads_as};
+ghost use Rattle.abel_meaning.specs.Reads.{has_enables, is_enable};
 
 use crate::read_names::Naming;
 use crate::seen::{NOTHING, Seen, both};
 use abel_tree::{Expr, Extension};
-use name_uses::{Part, Role, SectionParts};
+use name_uses::{ModuleParts, Part, Role, SectionParts};
 use pld_base::OutOfMemory;
 use std::alloc::Global;
 
@@ -58,6 +60,36 @@ fn is_enabling(role: Role<'_>, expr: &Expr) -> bool
         Role::Outputs(_) => false,
         Role::Entry => false,
     }
+}
+
+/// Whether a part is the target of an enable.
+fn is_enable_of(part: &Part<'_>) -> bool
+    ensures { result ≡ enables_it (view_part part.now) }
+{
+    is_enabling(part.role, part.expr)
+}
+
+/// Whether one of these parts is.
+fn has_enable_of(parts: &[Part<'_>]) -> bool
+    ensures { result ≡ list_any (λ (p : Part). enables_it (view_part p)) parts.now }
+{
+    parts.iter().any(|part| is_enable_of(part))
+}
+
+/// Whether some part of these sections is.
+fn any_enable(sections: &[SectionParts<'_>]) -> bool
+    ensures { result ≡ list_any (λ (s : SectionParts). list_any (λ (p : Part). enables_it (view_part p)) s.parts.items) sections.now }
+{
+    sections
+        .iter()
+        .any(|section| has_enable_of(section.parts.as_slice()))
+}
+
+/// Whether the sections of a module assign an enable. Takes no memory.
+pub fn has_enables(source: &ModuleParts<'_>) -> bool
+    ensures { result ≡ has_enables (view_module source.now).sections }
+{
+    any_enable(source.sections())
 }
 
 impl Naming {

@@ -4,7 +4,7 @@ ghost use Rattle.std.specs.Prelude.{◌≡◌, ◌<◌, ◌≤◌, [], ℕ, List
 ghost use Rattle.placer.specs.Prelude.{entries_of, view_declared, view_module, no_name, names_of, name_refusals, IsKept};
 ghost use Rattle.pin_matching.specs.Refusals.{IsRefusal};
 ghost use Rattle.placer.specs.Marks.{HasMarks};
-ghost use Rattle.placer.specs.Reads.{has_enable, is_read};
+ghost use Rattle.abel_meaning.specs.Reads.{has_enable, is_read};
 ghost use Rattle.placer.specs.Faults.{TellsKeptSet, IsUnplaced};
 ghost use Rattle.placer.specs.Following.{AreFollowed, HasNumberedNames};
 ghost use Rattle.placer.specs.Placements.{IsPlacedModule};

@@ -3,7 +3,7 @@
 ghost use Rattle.std.specs.Prelude.{◌≤◌, ℕ, List, IfOk, OnOk, length, map, ◌++◌, ◌∷◌, []};
 ghost use Rattle.placer.specs.Prelude.{Named, meant, named_of, view_declared, view_meaning};
 ghost use Rattle.placer.specs.Marks.{AreMarks, HasMark};
-ghost use Rattle.placer.specs.NamedSignals.{read_names_of, stands_for};
+ghost use Rattle.abel_meaning.specs.Reads.{read_names_of, stands_for};
 
 use crate::marks::{Marks, mark_of};
 use abel_tree::{Declared, Meaning};
