@@ -1,8 +1,8 @@
 -- The words that the proofs of this crate are said in, passed on from one place. Declares nothing.
 pub use Rattle.std.proofs.lemmas.Result.{err_from_is_err_and}
 pub use Rattle.abel_meaning.specs.Designs.{design_of, name_at}
-pub use Rattle.abel_meaning.specs.DeviceStrings.{device_named}
 pub use Rattle.abel_meaning.specs.Kinds.{names_of}
+pub use Rattle.abel_meaning.specs.Models.{model_named, model_of}
 pub use Rattle.abel_meaning.specs.Netlists.{Wanted, plain_netlist, plain_wanted, wanted_at}
 pub use Rattle.abel_meaning.specs.Vectors.{source_vectors}
 pub use Rattle.abel_tree.specs.Entries.{Entry, entries_of}
@@ -23,7 +23,7 @@ pub use Rattle.compile_phases.specs.declared.fault.SourceFault.{SourceFault}
 pub use Rattle.compile_phases.specs.declared.fault.SourceFault.TheVariants.{Design, Expand, Names, Parse, Scan, Sections, Width}
 pub use Rattle.decls.specs.FaultOrder.{name_order}
 pub use Rattle.decls.specs.NameRefusals.{name_refusals}
-pub use Rattle.devices.specs.Devices.{table_of}
+pub use Rattle.devices.specs.Models.{table_at}
 pub use Rattle.fitter.specs.Answers.{IsFitOf}
 pub use Rattle.fitter.specs.declared.answer.Fitted.{Fitted}
 pub use Rattle.jedec_file.specs.CanonicalFile.{IsPlainName, canonical_file}
@@ -32,6 +32,7 @@ pub use Rattle.module_reader.specs.Texts.{IsRead, SpellsModule}
 pub use Rattle.placer.specs.Following.{HasNumberedNames}
 pub use Rattle.placer.specs.Placements.{IsPinned, IsPlacedModule}
 pub use Rattle.pld_base.specs.declared.device_name.DeviceName.{DeviceName}
+pub use Rattle.pld_base.specs.declared.model.Model.{Model}
 pub use Rattle.pld_device.specs.Laws.{IsDevice}
 pub use Rattle.pld_device.specs.Table.{Table}
 pub use Rattle.reports.specs.Summary.{design_cells, summary_of}

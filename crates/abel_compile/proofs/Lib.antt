@@ -8,6 +8,5 @@ pub mod NeverRefused
 pub mod NothingRefused
 pub mod OrderedRows
 pub mod PlacedModules
-pub mod Refusals
 pub mod ToldFuses
 pub mod WrongFuses

@@ -1,6 +1,6 @@
 -- A source that is accepted and fits as it is written is refused only for lack of memory.
-use Rattle.std.proofs.Common.{◌≡◌, ◌≢◌, ℕ, Some, None, List, Result, Ok, Err, refl, sym, ap, ◌∙◌, subst, IfErr}
-use Rattle.abel_compile.proofs.Common.{DeviceName, IsDevice, Table, ModuleTree, device_named, name_order, name_refusals, SpellsModule, IsRead, read_or_not, Compiled, CompileFault, Source, Place, Fit, OutOfMemory, SourceFault, Expand, Scan, Parse, Names, Sections, Design, Width, FitsAsWritten, IsUnfitFor, IsNeverRefused, table_of, IsOfSource, IsTextFault, IsNameFault, IsUnnamed, IsReadAlone, IsRefusedBy, IsPlacedFor, IsAcceptedFor, IsRefusedSo, no_first, not_fit, not_source, one_placed, placed_not_unplaced}
+use Rattle.std.proofs.Common.{◌≡◌, ◌≢◌, ℕ, Some, None, List, Result, Ok, Err, refl, sym, ap, ◌∙◌, subst, IfErr, option_map}
+use Rattle.abel_compile.proofs.Common.{Model, IsDevice, Table, ModuleTree, model_named, model_of, name_order, name_refusals, SpellsModule, IsRead, read_or_not, Compiled, CompileFault, Source, Place, Fit, OutOfMemory, SourceFault, Expand, Scan, Parse, Names, Sections, Design, Width, FitsAsWritten, IsUnfitFor, IsNeverRefused, table_at, IsOfSource, IsTextFault, IsNameFault, IsUnnamed, IsReadAlone, IsRefusedBy, IsPlacedFor, IsAcceptedFor, IsRefusedSo, no_first, not_fit, not_source, one_placed, placed_not_unplaced}
 use Rattle.module_reader.specs.declared.fault.ReadFault.TheVariants as reading
 
 -- ---- of the text
@@ -34,9 +34,9 @@ pub spelled : (text : List ℕ) (m : ModuleTree) → IsRead text m → SpellsMod
 spelled text m read =
     record { expanded = read.expanded; expands = read.expands; tokens = read.tokens; scanned = read.scanned; so = (64, read.so) }
 
-not_unnamed : (m : ModuleTree) (device : DeviceName) (e : CompileFault) → device_named m ≡ Some device → e ≢ OutOfMemory
+not_unnamed : (m : ModuleTree) (device : Model) (e : CompileFault) → model_named m ≡ Some device → e ≢ OutOfMemory
     → IsOfSource (IsNameFault (IsUnnamed m)) e → ⊥
-not_unnamed m device (Source (Names f) line) named memory h = let gone : None ≡ Some device = sym h.0.0 ∙ named in absurd (cc)
+not_unnamed m device (Source (Names f) line) named memory h = let gone : None ≡ Some device = sym (ap (option_map (model_of m)) h.0.0) ∙ named in absurd (cc)
 not_unnamed m device (Source (Expand f) line) named memory h = h
 not_unnamed m device (Source (Scan f) line) named memory h = h
 not_unnamed m device (Source (Parse f) line) named memory h = h
@@ -51,11 +51,11 @@ pub never_device : (text : List ℕ) (m : ModuleTree) (e : CompileFault) → IsR
     → IsNeverRefused text (Err e)
 never_device text m e alone h = λ p f memory is.
     let same : p.source ≡ m = alone.only p.source (spelled text p.source p.read) in
-    not_unnamed m p.device e (sym (ap device_named same) ∙ p.named) (λ out. memory (sym (same_fault e f is) ∙ out)) h
+    not_unnamed m p.device e (sym (ap model_named same) ∙ p.named) (λ out. memory (sym (same_fault e f is) ∙ out)) h
 
 -- ---- of its module
 
-same_device : (a b : DeviceName) → Some a ≡ Some b → a ≡ b
+same_device : (a b : Model) → Some a ≡ Some b → a ≡ b
 same_device a b e = cc
 
 abbrev AcceptedAndFits : Table → ModuleTree → Type 0
@@ -78,13 +78,13 @@ not_by t m laws p (Place f line) memory h = placed_not_unplaced t m p.placed f l
 not_by t m laws p (Fit f line) memory h = not_fit t p.placed laws p.so.0 p.so.1 f line.items h.0 (brought t m p (IsUnfitFor f line.items) h.1)
 not_by t m laws p OutOfMemory memory h = memory refl
 
-pub never_on : (text : List ℕ) (m : ModuleTree) (device : DeviceName) (r : Result Compiled CompileFault) → IsDevice (table_of device) → IsReadAlone text m
-    → device_named m ≡ Some device → IfErr r (IsRefusedBy (table_of device) m) → IsNeverRefused text r
+pub never_on : (text : List ℕ) (m : ModuleTree) (device : Model) (r : Result Compiled CompileFault) → IsDevice (table_at device) → IsReadAlone text m
+    → model_named m ≡ Some device → IfErr r (IsRefusedBy (table_at device) m) → IsNeverRefused text r
 never_on text m device (Ok c) laws alone named h = λ p f memory is. absurd cc
 never_on text m device (Err e) laws alone named h = λ p f memory is.
     let same : p.source ≡ m = alone.only p.source (spelled text p.source p.read) in
-    let here : p.device ≡ device = same_device p.device device (sym p.named ∙ ap device_named same ∙ named) in
-    let so : IsPlacedFor AcceptedAndFits (table_of device) m =
-    subst (λ (d : DeviceName). IsPlacedFor AcceptedAndFits (table_of d) m) here
-    (subst (λ (x : ModuleTree). IsPlacedFor AcceptedAndFits (table_of p.device) x) same p.so) in
-    not_by (table_of device) m laws so e (λ out. memory (sym (same_fault e f is) ∙ out)) h
+    let here : p.device ≡ device = same_device p.device device (sym p.named ∙ ap model_named same ∙ named) in
+    let so : IsPlacedFor AcceptedAndFits (table_at device) m =
+    subst (λ (d : Model). IsPlacedFor AcceptedAndFits (table_at d) m) here
+    (subst (λ (x : ModuleTree). IsPlacedFor AcceptedAndFits (table_at p.device) x) same p.so) in
+    not_by (table_at device) m laws so e (λ out. memory (sym (same_fault e f is) ∙ out)) h

@@ -1,8 +1,8 @@
 -- Either answer for a placed module, as one for its source.
 use Rattle.std.proofs.Common.{Result, Ok, Err, IfErr, IfOk}
-use Rattle.abel_compile.proofs.Common.{DeviceName, Table, ModuleTree, names_of, HasNumberedNames, IsPlacedModule, CompileFault, IsRefusedBy, IsRefusedFor, IsPlacedFor, of_placed, Compiled, IsCompiledOn}
+use Rattle.abel_compile.proofs.Common.{Model, Table, ModuleTree, names_of, HasNumberedNames, IsPlacedModule, CompileFault, IsRefusedBy, IsRefusedFor, IsPlacedFor, of_placed, Compiled, IsCompiledOn}
 
-pub compiled_placed : (t : Table) (device : DeviceName) (m placed : ModuleTree) (r : Result Compiled CompileFault) → IsPlacedModule t m placed
+pub compiled_placed : (t : Table) (device : Model) (m placed : ModuleTree) (r : Result Compiled CompileFault) → IsPlacedModule t m placed
     → IfOk r (λ c. IsCompiledOn t (names_of t m) device placed c) → IfOk r (λ c. IsPlacedFor (λ t p. IsCompiledOn t (names_of t m) device p c) t m)
 compiled_placed t device m placed (Ok c) is h = record { placed = placed; is = is; so = h }
 compiled_placed t device m placed (Err e) is h = tt

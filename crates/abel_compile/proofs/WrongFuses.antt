@@ -3,7 +3,8 @@ use Rattle.std.proofs.Common.{◌≡◌, ◌≢◌, ℕ, ◌*◌, ◌<◌, ◌�
 use Rattle.std.proofs.lemmas.List.Elements.{All-get_or}
 use Rattle.std.proofs.lemmas.Option.{slice_get_within, get_or_from_slice_get}
 use Rattle.std.specs.Global.{Vec}
-use Rattle.abel_compile.proofs.Common.{Table, Netlist, ModuleTree, design_of, table_of}
+use Rattle.abel_compile.proofs.Common.{Table, Netlist, ModuleTree, design_of}
+use Rattle.devices.specs.Devices.{table_of}
 use Rattle.pld_base.specs.declared.device_name.DeviceName.TheVariants.{GAL16V8C}
 use Rattle.bit_expr.specs.declared.netlist.CellWanted.{CellWanted}
 use Rattle.covers.specs.declared.cube.Cube.{Cube}

@@ -1,6 +1,6 @@
 -- Private: what compiling a module answers, and the law of its fuses (this project's rule).
 use Rattle.std.specs.Prelude.{◌≡◌, ◌≤◌, Bool, List, length, Ok}
-use Rattle.abel_compile.specs.Prelude.{DeviceName, IsDevice, Table, canonical_file, file_of, Entry, ModuleTree, design_of, names_of, source_vectors, listing_text, design_cells, summary_of, IsFitOf, IsTakeable, IsNetlistFor, IsAcceptedFor}
+use Rattle.abel_compile.specs.Prelude.{Model, IsDevice, Table, canonical_file, file_of, Entry, ModuleTree, design_of, names_of, source_vectors, listing_text, design_cells, summary_of, IsFitOf, IsTakeable, IsNetlistFor, IsAcceptedFor}
 use Rattle.abel_lexer.specs.Kinds.{longest_name}
 use Rattle.bit_expr.specs.declared.netlist.Netlist.{Netlist}
 use Rattle.jedec_reader.specs.DeviceFiles.{limit}
@@ -34,8 +34,8 @@ pub record IsCompiledFor (t : Table) (declared : List Entry) (m : ModuleTree) (c
   pub right : AreRightFuses t m fuses
   pub told : IsToldOf t declared m fuses c
 
--- and for this device
-pub record IsCompiledOn (t : Table) (declared : List Entry) (device : DeviceName) (m : ModuleTree) (c : Compiled) : Type 0 where
+-- and for this device in its mode
+pub record IsCompiledOn (t : Table) (declared : List Entry) (device : Model) (m : ModuleTree) (c : Compiled) : Type 0 where
   pub device_is : c.device ≡ device
   pub compiled : IsCompiledFor t declared m c
 

@@ -1,11 +1,10 @@
 //! From the bytes of a source to its fuse file.
 
-ghost use Rattle.std.specs.Prelude.{◌≡◌, ◌≤◌, Some, IfOk, IfErr, length, All};
-ghost use Rattle.abel_compile.specs.Prelude.{IsPlainName, IsTestVector, entries_of, view_module, design_of, names_of, SpellsModule, table_of, AreDeclaredBy, AreNamesFor, IsNameFault, IsNetlistFor, IsOfSource, IsRefusedBy, IsRefusedFor, IsPlacedFor};
+ghost use Rattle.std.specs.Prelude.{◌≡◌, ◌≤◌, IfOk, IfErr, length, All};
+ghost use Rattle.abel_compile.specs.Prelude.{IsPlainName, IsTestVector, entries_of, view_module, design_of, names_of, SpellsModule, table_at, AreDeclaredBy, AreNamesFor, IsNetlistFor, IsRefusedBy, IsRefusedFor, IsPlacedFor};
 ghost use Rattle.abel_vectors.specs.AllSections.{AreSections};
 ghost use Rattle.abel_compile.specs.Answers.{CompileAnswers, IsNeverRefused};
 ghost use Rattle.abel_compile.specs.Statement.{IsRightFile};
-ghost use Rattle.decls.specs.NameRefusals.{first_name_refusal};
 ghost use Rattle.abel_compile.specs.Compiling.{IsCompiledOn};
 
 use crate::compiled::Compiled;
@@ -15,11 +14,11 @@ use crate::telling::compiled_of;
 use abel_tree::{Module, Names};
 use abel_vectors::SourceSections;
 use compile_phases::{
-    CompileFault, declared_of, device_named, fitted_of, module_of, names_of, netlist_of, parts_of,
-    placed_of, read_names_are_plain, scope_of, sections_of,
+    CompileFault, Modelled, device_named, fitted_of, modelled_of, module_of, names_of, netlist_of,
+    parts_of, placed_of, read_names_are_plain, scope_of, sections_of,
 };
-use devices::loaded;
-use pld_base::DeviceName;
+use devices::loaded_at;
+use pld_base::Model;
 use pld_device::{Device, Loaded};
 use std::alloc::Global;
 use std::marker::Brand;
@@ -31,7 +30,7 @@ fn compile_placed<D: Device>(
 ) -> Result<Compiled, CompileFault>
     requires name { IsPlainName (view_module placed.now.module).name.text }
     requires names { AreNamesFor D.table (view_module placed.now.module) placed.now.names }
-    ensures ok { IfOk result (λ c. IsCompiledOn D.table (entries_of placed.now.declared) D.table.name (view_module placed.now.module) c) }
+    ensures ok { IfOk result (λ c. IsCompiledOn D.table (entries_of placed.now.declared) placed.now.model (view_module placed.now.module) c) }
     ensures err { IfErr result (IsRefusedFor D.table (view_module placed.now.module)) }
 {
     fits_are_right();
@@ -47,36 +46,25 @@ fn compile_placed<D: Device>(
     Ok(compiled)
 }
 
-/// The names that a module declares, before its signals are placed.
-fn names_in<D: Device>(
-    alloc: Global,
-    device: &Loaded<D>,
-    module: &Module,
-) -> Result<Names, CompileFault>
-    ensures ok { IfOk result (AreDeclaredBy D.table (view_module module.now)) }
-    ensures err { IfErr result (IsOfSource (IsNameFault (λ f.
-        first_name_refusal D.table (view_module module.now) ≡ Some f))) }
-{
-    let source = parts_of(alloc, module)?;
-    declared_of::<D>(alloc, device, &source)
-}
-
 /// The fuse file of a module for a device: of the placed module.
 fn compile_module<D: Device>(
     alloc: Global,
     device: &Loaded<D>,
+    model: Model,
+    declared: Names,
     source: Module,
 ) -> Result<Compiled, CompileFault>
-    requires { IsPlainName (view_module source).name.text }
-    ensures ok { IfOk result (λ c. IsPlacedFor (λ t m. IsCompiledOn t (names_of t (view_module source)) D.table.name m c) D.table (view_module source)) }
+    requires plain { IsPlainName (view_module source).name.text }
+    requires names { AreDeclaredBy D.table (view_module source) declared }
+    ensures ok { IfOk result (λ c. IsPlacedFor (λ t m. IsCompiledOn t (names_of t (view_module source)) model m c) D.table (view_module source)) }
     ensures err { IfErr result (IsRefusedBy D.table (view_module source)) }
 {
-    let declared = names_in::<D>(alloc, device, &source)?;
     let module = placed_of::<D>(alloc, device, source, &declared)?;
     let parts = parts_of(alloc, &module)?;
     let names = names_of::<D>(alloc, device, &parts)?;
     let placed = PlacedModule {
         device,
+        model,
         module: parts,
         declared,
         names,
@@ -84,29 +72,31 @@ fn compile_module<D: Device>(
     compile_placed::<D>(alloc, &placed)
 }
 
-/// The fuse file of a module for the device of this name.
+/// The fuse file of a module, which declares these names, for this model of its device.
 fn compile_for<D: Device>(
     alloc: Global,
-    name: DeviceName,
+    model: Model,
+    names: Names,
     source: Module,
 ) -> Result<Compiled, CompileFault>
-    requires table { table_of name ≡ D.table }
+    requires table { table_at model ≡ D.table }
     requires plain { IsPlainName (view_module source).name.text }
-    ensures ok { IfOk result (λ c. IsPlacedFor (λ t m. IsCompiledOn t (names_of t (view_module source)) name m c) D.table (view_module source)) }
+    requires names { AreDeclaredBy D.table (view_module source) names }
+    ensures ok { IfOk result (λ c. IsPlacedFor (λ t m. IsCompiledOn t (names_of t (view_module source)) model m c) D.table (view_module source)) }
     ensures err { IfErr result (IsRefusedBy D.table (view_module source)) }
 {
-    compile_module::<D>(alloc, &loaded::<D>(name), source)
+    compile_module::<D>(alloc, &loaded_at::<D>(model), model, names, source)
 }
 
-/// The fuse file of a source for the device that it names, with its listing and its summary; or the first refusal, with the
-/// report on it.
+/// The fuse file of a source for the device that it names, in the mode that it asks for, with its listing and its summary; or
+/// the first refusal, with the report on it.
 ///
 /// The text has at most 1,048,576 bytes.
 pub fn compile(alloc: Global, bytes: &[u8]) -> Result<Compiled, CompileFault>
     requires { length bytes.now ≤ 1048576 }
     // The main theorem: the file is right for the source, with fuses that do what it says.
     ensures right { IfOk result (λ c.
-        IsRightFile SpellsModule table_of bytes.now c.device c.file.items) }
+        IsRightFile SpellsModule table_at bytes.now c.device c.file.items) }
     // What else holds of it; each refusal has its cause.
     ensures answers { CompileAnswers bytes.now result }
     // A source that is accepted and fits as it is written is never refused.
@@ -115,5 +105,7 @@ pub fn compile(alloc: Global, bytes: &[u8]) -> Result<Compiled, CompileFault>
     read_names_are_plain();
     let module = module_of(alloc, bytes)?;
     let device = device_named(alloc, &module)?;
-    compile_for::<Brand>(alloc, device, module)
+    let modelled = modelled_of(alloc, device, &module)?;
+    let Modelled { model, names } = modelled;
+    compile_for::<Brand>(alloc, model, names, module)
 }

@@ -31,14 +31,14 @@ pub(crate) fn compiled_of<D: Device>(
     requires vectors { all_chars D.table vectors.now ≡ source_vectors D.table (view_module placed.now.module) }
     requires few { length vectors.now ≤ 9999 }
     requires chars { All (IsTestVector D.table) vectors.now }
-    ensures device { IfOk result (λ c. c.device ≡ D.table.name) }
+    ensures device { IfOk result (λ c. c.device ≡ placed.now.model) }
     ensures told { IfOk result (λ c. IsToldOf D.table (entries_of placed.now.declared) (view_module placed.now.module) fitted.now.fuses c) }
 {
     fits_can_be_told();
     let device = placed.device;
     let fuses = &fitted.fuses;
     Ok(Compiled {
-        device: device.name(),
+        device: placed.model,
         file: write::<D>(
             alloc,
             device,

@@ -4,7 +4,7 @@ pub use Rattle.abel_meaning.specs.Kinds.{names_of}
 pub use Rattle.abel_meaning.specs.Netlists.{PlainNetlist, Wanted, node_at, plain_control, plain_function, plain_netlist, plain_wanted, shared_function}
 pub use Rattle.abel_meaning.specs.Netlists.{wanted_at}
 pub use Rattle.abel_meaning.specs.SoundIds.{IsSoundNetlist}
-pub use Rattle.abel_tree.specs.Entries.{AConstant, ADeviceName, ANode, APin, Entry, Kind, entries_of}
+pub use Rattle.abel_tree.specs.Entries.{AConstant, ADeviceName, ANode, APin, Entry, Kind, entries_of, is_stored}
 pub use Rattle.abel_tree.specs.FirstRefusal.{Ranks, first_refusal}
 pub use Rattle.abel_tree.specs.Tree.{ADiagram, ATable, Declarations, DontCareSection, Equations, ModuleTree, RowTree, SectionTree, SomeVectors}
 pub use Rattle.abel_tree.specs.View.{view_module}

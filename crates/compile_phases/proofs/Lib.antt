@@ -1,4 +1,7 @@
 pub mod Common
+pub mod Handed
+pub mod ModesAlike
+pub mod NameFaults
 pub mod NarrowVectors
 pub mod NotRefused
 pub mod PhaseFaults

@@ -1,8 +1,9 @@
 -- What each phase of compiling answers, and the laws that join them (this project's rule).
 use Rattle.std.specs.Prelude.{◌≡◌, ℕ, None, Some, List, [], Result, Ok, Err}
-use Rattle.compile_phases.specs.Prelude.{Table, Netlist, Entry, entries_of, ModuleTree, design_of, device_named, names_of, plain_netlist, NameFault, device_place, name_refusals, SectionFault, sections_refused, DesignFault, design_text, fit_text, IsFirstWide, FitFault, FitAnswers, IsFitOf, PlaceFault, SpellsModule, IsRead, IsUnread}
+use Rattle.compile_phases.specs.Prelude.{Table, Netlist, Entry, entries_of, ModuleTree, design_of, device_named, model_of, names_of, plain_netlist, NameFault, device_place, name_refusals, SectionFault, sections_refused, DesignFault, design_text, fit_text, IsFirstWide, FitFault, FitAnswers, IsFitOf, PlaceFault, SpellsModule, IsRead, IsUnread}
 use Rattle.std.specs.Global.{Vec}
 use Rattle.pld_base.specs.declared.out_of_memory.OutOfMemory.{OutOfMemory as NoMemory}
+use Rattle.pld_base.specs.declared.device_name.DeviceName.{DeviceName}
 use Rattle.pld_device.specs.Laws.{IsDevice}
 use Rattle.jedec_file.specs.CanonicalFile.{IsPlainName}
 use Rattle.jedec_file.specs.ControlLines.{IsIntactPastLines}
@@ -16,6 +17,8 @@ use Rattle.fitter.specs.declared.answer.Fitted.{Fitted}
 use Rattle.fitter.specs.declared.fault.FitFault.TheVariants as fit
 use Rattle.module_reader.specs.declared.fault.ReadFault.TheVariants as reading
 use Rattle.reports.specs.Summary.{assigned_cells, design_cells}
+use Rattle.devices.specs.Models.{table_at}
+use Rattle.compile_phases.specs.declared.modelling.Modelled.{Modelled}
 use Rattle.compile_phases.specs.declared.fault.CompileFault.{CompileFault}
 use Rattle.compile_phases.specs.declared.fault.CompileFault.TheVariants.{Source, Place, Fit, OutOfMemory}
 use Rattle.compile_phases.specs.declared.fault.SourceFault.{SourceFault}
@@ -100,6 +103,11 @@ pub record IsReadAlone (text : List ℕ) (m : ModuleTree) : Type 0 where
 pub record AreDeclaredBy (t : Table) (m : ModuleTree) (n : Names) : Type 0 where
   pub entries : entries_of n ≡ names_of t m
   pub accepted : name_refusals t m ≡ []
+
+-- these are for the device in the mode that the module asks for, which is told with them
+pub record IsModelled (name : DeviceName) (m : ModuleTree) (f : Modelled) : Type 0 where
+  pub model : f.model ≡ model_of m name
+  pub names : AreDeclaredBy (table_at f.model) m f.names
 
 -- and each pin has a number
 pub record AreNamesFor (t : Table) (m : ModuleTree) (n : Names) : Type 0 where

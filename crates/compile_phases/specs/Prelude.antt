@@ -1,7 +1,8 @@
 -- The words of the crates below that the clauses of this crate are said in, passed on from one place. Declares nothing.
 pub use Rattle.abel_meaning.specs.Designs.{design_of}
-pub use Rattle.abel_meaning.specs.DeviceStrings.{device_named}
+pub use Rattle.abel_meaning.specs.Models.{device_named}
 pub use Rattle.abel_meaning.specs.Kinds.{names_of}
+pub use Rattle.abel_meaning.specs.Models.{model_named, model_of}
 pub use Rattle.abel_meaning.specs.Netlists.{plain_netlist}
 pub use Rattle.abel_meaning.specs.SoundIds.{IsSoundNetlist}
 pub use Rattle.abel_tree.specs.Entries.{Entry, entries_of}

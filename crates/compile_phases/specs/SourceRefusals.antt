@@ -1,8 +1,8 @@
 -- When a source is refused, for what, and with which line of the report, phase by phase; each kind is answered only if
 -- none before it does (this project's rule).
 use Rattle.std.specs.Prelude.{◌≡◌, ◌⊎◌, ℕ, None, Some, List, [], All}
-use Rattle.compile_phases.specs.Prelude.{Table, Netlist, first_refusal, ModuleTree, design_of, device_named, names_of, plain_netlist, IsSoundNetlist, NameFault, device_place, name_refusals, first_name_refusal, section_order, IsRead, IsUnread, DesignFault, design_text, fit_text, AreContributed, all_sections_refused, IsFirstWide, NoneWide}
-use Rattle.pld_base.specs.declared.device_name.DeviceName.{DeviceName}
+use Rattle.compile_phases.specs.Prelude.{Table, Netlist, first_refusal, ModuleTree, design_of, model_named, names_of, plain_netlist, IsSoundNetlist, NameFault, device_place, name_refusals, first_name_refusal, section_order, IsRead, IsUnread, DesignFault, design_text, fit_text, AreContributed, all_sections_refused, IsFirstWide, NoneWide}
+use Rattle.pld_base.specs.declared.model.Model.{Model}
 use Rattle.bit_expr.specs.Arena.{arena}
 use Rattle.decls.specs.declared.fault.NameFault.TheVariants as naming
 use Rattle.set_expr.specs.declared.contributions.Contributions.{Contributions}
@@ -13,7 +13,7 @@ use Rattle.design.specs.Answers.{HasNoRefusal, IsDesignRefused}
 use Rattle.fitter.specs.declared.fault.FitFault.TheVariants as fit
 use Rattle.compile_phases.specs.declared.fault.SourceFault.{SourceFault}
 use Rattle.compile_phases.specs.declared.fault.SourceFault.TheVariants.{Expand, Scan, Parse, Names, Sections, Design, Width}
-use Rattle.devices.specs.Devices.{table_of}
+use Rattle.devices.specs.Models.{table_at}
 use Rattle.compile_phases.specs.Lines.{read_text, name_text, section_text}
 use Rattle.compile_phases.specs.Placings.{IsPlacedFor}
 
@@ -73,19 +73,19 @@ IsRefusedSo _ line t m = ⊥
 
 -- ---- texts
 
--- the text spells a module that names a device, and this holds of the two
+-- the text spells a module that names a device, and this holds of the module and the model that it asks for
 pub record IsReadFor (text : List ℕ) (holds : Table → ModuleTree → Type 0) : Type 0 where
   pub source : ModuleTree
   pub read : IsRead text source
-  pub device : DeviceName
-  pub named : device_named source ≡ Some device
-  pub so : holds (table_of device) source
+  pub device : Model
+  pub named : model_named source ≡ Some device
+  pub so : holds (table_at device) source
 
 -- it spells one that names none, and this is the refusal
 pub record HasNoDevice (text : List ℕ) (f : NameFault) : Type 0 where
   pub source : ModuleTree
   pub read : IsRead text source
-  pub unnamed : device_named source ≡ None
+  pub unnamed : model_named source ≡ None
   pub fault : f ≡ naming.UnknownDevice (device_place source)
 
 -- the source is refused so: the text spells no module, or one that names no device, or one that is refused for its device

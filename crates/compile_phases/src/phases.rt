@@ -4,7 +4,7 @@ ghost use Rattle.std.specs.Prelude.{◌≡◌, ◌≤◌, [], Some, IfOk, IfErr,
 ghost use Rattle.compile_phases.specs.Prelude.{entries_of, first_refusal, ModuleTree, design_of, IsSoundNetlist, first_name_refusal, section_order, AreContributed, AreSections, all_sections_refused, IsFitOf, IsPlacedModule};
 ghost use Rattle.jedec_file.specs.TestVectors.{IsTestVector};
 ghost use Rattle.abel_tree.specs.View.{view_module};
-ghost use Rattle.abel_meaning.specs.DeviceStrings as strings;
+ghost use Rattle.abel_meaning.specs.Models as strings;
 ghost use Rattle.netlist_laws.specs.Takeable.{IsTakeable};
 ghost use Rattle.placer.specs.Following.{HasNumberedNames};
 ghost use Rattle.compile_phases.specs.declared.fault.CompileFault.TheVariants.{OutOfMemory};

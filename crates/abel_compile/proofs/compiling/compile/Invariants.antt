@@ -1,7 +1,6 @@
--- The device is the one that the module names.
-use Rattle.devices.specs.Devices.{table_of}
-use Rattle.devices.specs.DeviceLaws.{table_sound}
+-- The device is in the mode that the module asks for.
+use Rattle.devices.specs.Models.{model_sound, table_at}
 use Rattle.abel_compile.proofs.compiling.compile.Given as goal
 
 abbrev pub ghosts-compile_for : goal.ghosts-compile_for
-ghosts-compile_for a = record { table = table_of a.name; sound = table_sound a.name }
+ghosts-compile_for a = record { table = table_at a.model; sound = model_sound a.model }

@@ -1,21 +1,15 @@
 -- What is said of the placed module is said of its source.
 use Rattle.std.proofs.Common.{sym, subst, IfErr, IfOk}
-use Rattle.abel_compile.proofs.Common.{err_from_is_err_and, IsPlainName, Word, view_module, HasNumberedNames, IsPlacedModule, IsRefusedBy, by_declared, by_placing, placed_name, IsCompiledOn}
+use Rattle.abel_compile.proofs.Common.{err_from_is_err_and, IsPlainName, Word, view_module, HasNumberedNames, IsPlacedModule, IsRefusedBy, by_placing, placed_name, IsCompiledOn}
 use Rattle.abel_tree.specs.declared.sections.Module.{Module}
-use Rattle.abel_compile.proofs.Refusals.{handed}
+use Rattle.compile_phases.proofs.Handed.{handed}
 use Rattle.abel_compile.proofs.PlacedModules.{compiled_placed, refused_placed}
 use Rattle.abel_compile.proofs.compiling.compile_module.Goals as goal
 
-pub returns-in_err-declared-clause-err : goal.returns-in_err-declared-clause-err
-returns-in_err-declared-clause-err g c =
-    handed (λ r. IfErr r (IsRefusedBy g.D.Device.table (view_module c.args.source))) c.from_residual.result _
-    (err_from_is_err_and c.from_residual.result c.from_residual.ensures.1)
-    (by_declared g.D.Device.table (view_module c.args.source) _ c.in_err-declared.ensures.err)
-
 pub returns-in_err-module-clause-err : goal.returns-in_err-module-clause-err
 returns-in_err-module-clause-err g c =
-    handed (λ r. IfErr r (IsRefusedBy g.D.Device.table (view_module c.args.source))) c.from_residual-in_err-module.result _
-    (err_from_is_err_and c.from_residual-in_err-module.result c.from_residual-in_err-module.ensures.1)
+    handed (λ r. IfErr r (IsRefusedBy g.D.Device.table (view_module c.args.source))) c.from_residual.result _
+    (err_from_is_err_and c.from_residual.result c.from_residual.ensures.1)
     (by_placing g.D.Device.table (view_module c.args.source) _ c.in_err-module.ensures.err)
 
 -- only memory can be out after that
@@ -34,14 +28,14 @@ returns-in_err-names-clause-err g c =
 pub compile_placed-requires-clause-name : goal.compile_placed-requires-clause-name
 compile_placed-requires-clause-name g c =
     subst (λ (m : Module). IsPlainName (view_module m).name.text) (sym c.in_ok-parts.ensures.ok)
-    (subst (λ (w : Word). IsPlainName w.text) (sym (placed_name g.D.Device.table (view_module c.args.source) (view_module c.in_ok-module.module) c.in_ok-module.ensures.ok)) c.requires)
+    (subst (λ (w : Word). IsPlainName w.text) (sym (placed_name g.D.Device.table (view_module c.args.source) (view_module c.in_ok-module.module) c.in_ok-module.ensures.ok)) c.requires.plain)
 
 pub returns-clause-ok : goal.returns-clause-ok
 returns-clause-ok g c =
     let t = g.D.Device.table in
     let is = subst (λ m. IsPlacedModule t (view_module c.args.source) (view_module m)) (sym c.in_ok-parts.ensures.ok) c.in_ok-module.ensures.ok in
-    compiled_placed t t.name (view_module c.args.source) (view_module c.in_ok-parts.parts) c.compile_placed.result is
-    (subst (λ es. IfOk c.compile_placed.result (λ r. IsCompiledOn t es t.name (view_module c.in_ok-parts.parts) r)) c.in_ok-declared.ensures.ok.entries c.compile_placed.ensures.ok)
+    compiled_placed t c.args.model (view_module c.args.source) (view_module c.in_ok-parts.parts) c.compile_placed.result is
+    (subst (λ es. IfOk c.compile_placed.result (λ r. IsCompiledOn t es c.args.model (view_module c.in_ok-parts.parts) r)) c.requires.names.entries c.compile_placed.ensures.ok)
 
 pub returns-clause-err : goal.returns-clause-err
 returns-clause-err g c =

@@ -15,7 +15,7 @@ returns-clause-told g c =
     let m = view_module c.args.placed.now.module in
     let fitted = c.args.fitted.now in
     told_of t (entries_of c.args.placed.now.declared) m fitted.fuses c.bytes.result.now (entries_of c.args.placed.now.names) (assigned_cells t (plain_netlist c.args.net.now)) (all_chars t c.args.vectors.now)
-    (record { device = c.name.result; file = c.in_ok-write.field-0; listing = c.in_ok-listing.field-0; summary = c.in_ok-summary.field-0 })
+    (record { device = c.args.placed.now.model; file = c.in_ok-write.field-0; listing = c.in_ok-listing.field-0; summary = c.in_ok-summary.field-0 })
     c.requires.vectors (c.bytes.ensures ∙ ap (λ x. (view_module x).name.text) c.module.ensures) c.requires.names.entries
     (c.fits_can_be_told.ensures t m c.args.net.now fitted g.D.Device.sound c.requires.netlist c.requires.fits).cells
     c.in_ok-write.ensures.canonical c.in_ok-write.ensures.short c.in_ok-write.ensures.reads_back c.in_ok-listing.ensures c.in_ok-summary.ensures

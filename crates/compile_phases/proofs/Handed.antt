@@ -1,6 +1,6 @@
 -- Refusals that are handed on.
 use Rattle.std.proofs.Common.{◌≡◌, Result, Err, sym, ap, ◌∙◌, subst}
-use Rattle.abel_compile.proofs.Common.{CompileFault}
+use Rattle.compile_phases.proofs.Common.{CompileFault}
 
 -- what is handed on
 pub handed : {X : Type 0} (P : Result X CompileFault → Type 0) (r : Result X CompileFault) (x : CompileFault)
