@@ -1,0 +1,2 @@
+pub mod FixedModels
+pub mod ModelFiles
