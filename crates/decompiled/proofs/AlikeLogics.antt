@@ -38,9 +38,9 @@ module _ (t : Table) (fuses : List Bool) (leaf_of : PinLiteral → Leaf) (net : 
   ]
 
   same_level_at : (at : Levels) (c : ℕ) → c < length t.cells → drives at (wanted_at net c) (cell_at t c).enable ≡ true → (v : Bool)
-      → may_drive at c (wanted_at net c) v ≡ same_level v (pin_level t fuses at c)
+      → may_drive at (cell_at t c).kinds c (wanted_at net c) v ≡ same_level v (pin_level t fuses at c)
   same_level_at at c lt on v = elim (cases_Bool (has_lines t fuses c)) [
-    | inl e ↦ let a = is.assigned c lt e in ap (λ (o : Option Wanted). may_drive at c o v) a.1 ∙ own_level t fuses leaf_of laws sizes reads at c lt a.0 a.2 v
+    | inl e ↦ let a = is.assigned c lt e in ap (λ (o : Option Wanted). may_drive at (cell_at t c).kinds c o v) a.1 ∙ own_level t fuses leaf_of laws sizes reads at c lt a.0 a.2 v
     | inr e ↦
         let off : drives at (wanted_at net c) (cell_at t c).enable ≡ false =
         ap (λ (o : Option Wanted). drives at o (cell_at t c).enable) (is.unassigned c lt e) ∙ spare_is_off t fuses leaf_of laws sizes reads at c lt e in
@@ -110,7 +110,7 @@ module _ (t : Table) (fuses : List Bool) (leaf_of : PinLiteral → Leaf) (net : 
   alone : HasNoDontCare source
   alone =
       record {
-        level = λ at point c lt on. one_passes (λ v. may_drive at c (wanted_at net c) v) (pin_level t fuses at c) (same_level_at at c lt on);
+        level = λ at point c lt on. one_passes (λ v. may_drive at (cell_at t c).kinds c (wanted_at net c) v) (pin_level t fuses at c) (same_level_at at c lt on);
         node = λ at point n lt on. absurd (true≢false (sym on ∙ no_nodes n));
         next = λ at point c lt on. one_passes (λ v. may_store at (wanted_at net c) v) (next_q t fuses at c) (same_next at c lt (stored_in c lt on));
       }

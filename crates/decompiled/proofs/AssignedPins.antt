@@ -12,7 +12,7 @@ use Rattle.decompiled.proofs.SourceNames.{found, known_is}
 
 -- ---- lists
 
--- what passes two tests, the second of those that pass the first
+-- what passes two tests: what passes one of them is tested by the other
 pub any_kept : {A : Type 0} (p q : A → Bool) (xs : List A) → list_any (λ x. p x && q x) xs ≡ list_any q (filter p xs)
 any_kept p q [] = refl
 any_kept p q (x ∷ xs) = elim (cases_Bool (p x)) [

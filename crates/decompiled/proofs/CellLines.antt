@@ -1,6 +1,6 @@
 -- The lines of a cell's signal are found at the cell alone.
 use Rattle.std.proofs.Common.{◌≡◌, ℕ, zero, suc, ◌+◌, ◌<◌, ◌≤◌, inl, inr, Bool, true, false, Option, None, Some, List, [], ◌∷◌, ◌++◌, length, filter, flat_map, refl, ap, ◌∙◌, arith, append-nil, eqb-true, eq-eqb, ◌==◌, ◌&&◌, if◌then◌else◌}
-use Rattle.decompiled.proofs.Common.{range_with_len, cases_Bool, cases_lt, Enable, Row, PinLow, is_never_true, stores, Table, cell_at, Extension, is_data, is_the_control, SumLine, is_data_line, is_control_line, cell_lines, lines_of, control_line, data_line, enable_lines, first_register, has_lines, shared_lines, IsOwnSignal, CellsHaveTheirLines}
+use Rattle.decompiled.proofs.Common.{range_with_len, cases_Bool, cases_lt, Enable, Row, PinLow, Driven, Released, is_never_true, stores, Table, cell_at, Extension, is_data, is_the_control, SumLine, is_data_line, is_control_line, cell_lines, lines_of, control_line, data_line, enable_lines, first_register, has_lines, shared_lines, IsOwnSignal, CellsHaveTheirLines}
 use Rattle.abel_tree.specs.declared.words.Extension.TheVariants as extension
 
 -- ---- lists
@@ -59,6 +59,8 @@ module _ (t : Table) (fuses : List Bool) (signal_of : ℕ → ℕ) where
       by_enable : (e : Enable) → filter (asks s test) (enable_lines t fuses d e) ≡ []
       by_enable (Row row) = rw other refl
       by_enable (PinLow pin) = refl
+      by_enable Driven = refl
+      by_enable Released = refl
 
       by_lines : (b : Bool) → filter (asks s test) (if b then data_line t fuses d ∷ enable_lines t fuses d (cell_at t d).enable else []) ≡ []
       by_lines true = rw other (by_enable (cell_at t d).enable)
@@ -124,10 +126,14 @@ module _ (t : Table) (fuses : List Bool) (signal_of : ℕ → ℕ) (c : ℕ) whe
   enable_is_no_data : (e : Enable) → filter (is_data_line signal_of own_signal) (enable_lines t fuses c e) ≡ []
   enable_is_no_data (Row row) = rw same refl
   enable_is_no_data (PinLow pin) = refl
+  enable_is_no_data Driven = refl
+  enable_is_no_data Released = refl
 
   enable_is_enable : (e : Enable) → filter (is_control_line signal_of own_signal extension.Oe) (enable_lines t fuses c e) ≡ enable_lines t fuses c e
   enable_is_enable (Row row) = rw same refl
   enable_is_enable (PinLow pin) = refl
+  enable_is_enable Driven = refl
+  enable_is_enable Released = refl
 
   data_of_cell : (b : Bool) → filter (is_data_line signal_of own_signal) (if b then data_line t fuses c ∷ enable_lines t fuses c (cell_at t c).enable else [])
       ≡ (if b then data_line t fuses c ∷ [] else [])

@@ -78,7 +78,7 @@ pub use Rattle.pld_device.specs.Table.{Table, cell_at, no_cell, registered_at}
 pub use Rattle.pld_device.specs.declared.carry.Carry.{Carry}
 pub use Rattle.pld_device.specs.declared.cell.Cell.{Cell}
 pub use Rattle.pld_device.specs.declared.enable.Enable.{Enable}
-pub use Rattle.pld_device.specs.declared.enable.Enable.TheVariants.{PinLow, Row}
+pub use Rattle.pld_device.specs.declared.enable.Enable.TheVariants.{PinLow, Driven, Released, Row}
 pub use Rattle.pld_device.specs.declared.flip.Flip.{Flip}
 pub use Rattle.pld_machine.specs.Comparison.{AllowsOne, DoesTheSame, HasNoDontCare, IsValuedOf, NodeValues, ValuesOnce}
 pub use Rattle.pld_machine.specs.Refines.{RefinesValued, SameValues, Refines}

@@ -1,6 +1,6 @@
 -- The netlist of a decompiled source asks of each cell what its lines say.
 use Rattle.std.proofs.Common.{◌≡◌, ℕ, ◌+◌, ◌<◌, ◌⊎◌, inl, inr, Bool, true, false, Option, Some, None, List, [], ◌∷◌, length, filter, map, slice_get, get_or, unwrap_or, refl, sym, ap, subst, ◌∙◌, arith, ◌==◌, ◌&&◌, ◌||◌}
-use Rattle.decompiled.proofs.Common.{list_any, option_map, cases_Bool, eqb-true, true≢false, slice_get-get_or, slice_get_within, Enable, Row, PinLow, IsDevice, stores, Table, cell_at, Formula, Const, Extension, Entry, is_stored, ModuleTree, is_raw, Contribution, control_if_stored, control_of, shared_from, Design, design_of, name_at, no_name, formulas, function_of, is_data_to, is_raw_signal, names_of, PlainNetlist, Wanted, own_of, own_or_shared, shared_function, wanted_at, given_formulas, is_negated, is_node_number, node_signal, by_row, netlist_of, wanted_for, wanted_found, SumLine, IsSourceTree, is_data_line, line_gives, sum_formula, control_line, data_line, enable_lines, first_register, has_lines, lines_of, source_of, IsCellAsked, IsFusesNetlist, enable_formula, shared_formula, HasOwnLines, leaf_of, signal_of}
+use Rattle.decompiled.proofs.Common.{list_any, option_map, cases_Bool, eqb-true, true≢false, slice_get-get_or, slice_get_within, Enable, Row, PinLow, Driven, Released, IsDevice, stores, Table, cell_at, Formula, Const, Extension, Entry, is_stored, ModuleTree, is_raw, Contribution, control_if_stored, control_of, shared_from, Design, design_of, name_at, no_name, formulas, function_of, is_data_to, is_raw_signal, names_of, PlainNetlist, Wanted, own_of, own_or_shared, shared_function, wanted_at, given_formulas, is_negated, is_node_number, node_signal, by_row, netlist_of, wanted_for, wanted_found, SumLine, IsSourceTree, is_data_line, line_gives, sum_formula, control_line, data_line, enable_lines, first_register, has_lines, lines_of, source_of, IsCellAsked, IsFusesNetlist, enable_formula, shared_formula, HasOwnLines, leaf_of, signal_of}
 use Rattle.abel_tree.specs.declared.words.Extension.TheVariants as extension
 use Rattle.netlist_laws.proofs.NodeNumbers.{names_numbered}
 use Rattle.netlist_laws.proofs.NodesFound.{function_here, node_found}
@@ -107,6 +107,8 @@ module _ (t : Table) (fuses : List Bool) (laws : IsDevice t) (m : ModuleTree) (i
       where
         by_enable : (x : Enable) → (cell_at t c).enable ≡ x → by_row x (control_of (formulas d.context) cs (signal_at c) extension.Oe) ≡ enable_formula t fuses (leaf_of t) x
         by_enable (PinLow pin) e = refl
+        by_enable Driven e = refl
+        by_enable Released e = refl
         by_enable (Row row) e =
             ap (λ (gs : List (Contribution Formula)). control_of (formulas d.context) gs (signal_at c) extension.Oe) (given_is t fuses laws m is)
             ∙ (says d.context signal (leaf_of t) (lines_of t fuses) (signal_at c)).control extension.Oe (control_line t fuses c extension.Oe row) refl

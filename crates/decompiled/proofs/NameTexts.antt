@@ -18,7 +18,7 @@ not_in_names other not_later b later =
       | inr not_same ↦ not_same
     ]
 
--- where the quote behind bytes of names ends
+-- the place past the quote that ends a string of a name's bytes
 quote_ends : (at : ℕ) (body text : List ℕ) → list_all is_name_later body ≡ true → quote_end at false (body ++ 39 ∷ text) ≡ at + length body + 1
 quote_ends at [] text later = omega arith
 quote_ends at (b ∷ body) text later =

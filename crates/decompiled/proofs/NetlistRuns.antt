@@ -1,6 +1,6 @@
 -- A device with fuses does what a netlist says that allows the same and has no nodes.
 use Rattle.std.proofs.Common.{◌≡◌, ℕ, ◌<◌, Bool, true, false, not, Option, Some, None, List, [], ◌∷◌, refl, sym, ap, ap₂, subst, ◌∙◌, if◌then◌else◌}
-use Rattle.decompiled.proofs.Common.{list_any, true≢false, bits, is_on, same_level, Levels, AllowsOne, DoesTheSame, HasNoDontCare, IsValuedOf, RefinesValued, ValuesOnce, Refines, IsDetermined, Enable, Row, PinLow, complement_if, data_complements, data_rows, device_logic, enabled_by, is_enabled, next_q, or_value, pin_complements, pin_level, row_if_any, is_inverted, stores, row_value, Table, cell_at, netlist_logic, netlist_values, PlainNetlist}
+use Rattle.decompiled.proofs.Common.{list_any, true≢false, bits, is_on, same_level, Levels, AllowsOne, DoesTheSame, HasNoDontCare, IsValuedOf, RefinesValued, ValuesOnce, Refines, IsDetermined, Enable, Row, PinLow, Driven, Released, complement_if, data_complements, data_rows, device_logic, enabled_by, is_enabled, next_q, or_value, pin_complements, pin_level, row_if_any, is_inverted, stores, row_value, Table, cell_at, netlist_logic, netlist_values, PlainNetlist}
 use Rattle.pld_base.proofs.BitLemmas.{is_on-zero, length-bits, same_levels}
 use Rattle.pld_machine.specs.Through.{AllowsAt}
 use Rattle.pld_machine.proofs.Compared.{does_the_same}
@@ -39,6 +39,8 @@ module _ (t : Table) (fuses : List Bool) (net : PlainNetlist) (at seen : Levels)
       by_enable : (e : Enable) → enabled_by t fuses at e ≡ enabled_by t fuses seen e
       by_enable (Row row) = row_same row
       by_enable (PinLow pin) = ap (λ (xs : List Bool). not (is_on xs pin)) (sym of.pins)
+      by_enable Driven = refl
+      by_enable Released = refl
 
   level_same : (c : ℕ) → pin_level t fuses at c ≡ pin_level t fuses seen c
   level_same c =

@@ -1,6 +1,6 @@
 -- The rows that reset and preset: one line at the first register, or none; and the registers share it.
 use Rattle.std.proofs.Common.{◌≡◌, ℕ, zero, suc, ◌+◌, ◌⊎◌, inl, inr, Bool, true, false, Option, Some, None, List, [], ◌∷◌, ◌++◌, length, filter, flat_map, map, slice_get, unwrap_or, refl, sym, ap, ◌∙◌, arith, append-nil, ◌==◌, ◌&&◌, if◌then◌else◌}
-use Rattle.decompiled.proofs.Common.{range_with_len, eq-eqb, Enable, Row, PinLow, is_never_true, stores, Table, cell_at, Leaf, Formula, Const, Extension, Entry, Contribution, control_if_stored, control_of, is_the_control, shared_from, Context, formulas, PinLiteral, SumLine, is_control_line, line_gives, cell_lines, control_line, data_line, enable_lines, first_register, has_lines, lines_of, shared_lines, shared_formula}
+use Rattle.decompiled.proofs.Common.{range_with_len, eq-eqb, Enable, Row, PinLow, Driven, Released, is_never_true, stores, Table, cell_at, Leaf, Formula, Const, Extension, Entry, Contribution, control_if_stored, control_of, is_the_control, shared_from, Context, formulas, PinLiteral, SumLine, is_control_line, line_gives, cell_lines, control_line, data_line, enable_lines, first_register, has_lines, lines_of, shared_lines, shared_formula}
 use Rattle.abel_tree.specs.declared.words.Extension.TheVariants as extension
 use Rattle.decompiled.proofs.OneLine.{says}
 use Rattle.decompiled.proofs.PinPlaces.{same_some}
@@ -52,6 +52,8 @@ module _ (t : Table) (fuses : List Bool) (signal : ℕ → ℕ) (leaf_of : PinLi
       by_enable : (x : Enable) → filter (is_control_line signal s (extension_for w)) (enable_lines t fuses c x) ≡ []
       by_enable (Row r) = rw (enable_fails w) (rw (fails (signal (cell_at t c).pin == s)) refl)
       by_enable (PinLow pin) = refl
+      by_enable Driven = refl
+      by_enable Released = refl
 
       by_lines : (b : Bool) → filter (is_control_line signal s (extension_for w)) (if b then data_line t fuses c ∷ enable_lines t fuses c (cell_at t c).enable else []) ≡ []
       by_lines true = rw (data_fails w (stores t fuses c)) (rw (fails (signal (cell_at t c).pin == s)) (by_enable (cell_at t c).enable))

@@ -18,7 +18,7 @@ or_left true b e = refl
 or_left false b e = absurd (true≢false (sym e))
 
 -- what some number of a range gives
-any_given : {A : Type 0} (test : A → Bool) (give : ℕ → List A) (a n c : ℕ) → a ≤ c → c < a + n → list_any test (give c) ≡ true → list_any test (flat_map give (range_with_len a n)) ≡ true
+pub any_given : {A : Type 0} (test : A → Bool) (give : ℕ → List A) (a n c : ℕ) → a ≤ c → c < a + n → list_any test (give c) ≡ true → list_any test (flat_map give (range_with_len a n)) ≡ true
 any_given test give a zero c low high some = absurd (omega arith)
 any_given test give a (suc n) c low high some =
     list_any-append test (give a) (flat_map give (range_with_len (a + 1) n))

@@ -1,6 +1,6 @@
 -- Each line of a device's source is on a cell's pin, and its literals are those of pairs.
 use Rattle.std.proofs.Common.{◌≡◌, ℕ, ◌<◌, Bool, true, false, if◌then◌else◌, Option, Some, None, List, [], ◌∷◌, ◌++◌, length, flat_map, map, refl, arith}
-use Rattle.decompiled.proofs.Common.{AllByRecursion, range_with_len, Carry, Enable, Row, PinLow, IsPair, IsDevice, is_never_true, stores, row_fuses, Table, cell_at, Extension, PinLiteral, SumLine, ColumnLiteral, if_intact, literal, literals_of, row_literals, named, named_by, product_of, live_rows, control_products, has_lines, data_line, control_line, enable_lines, cell_lines, shared_lines, first_register, lines_of}
+use Rattle.decompiled.proofs.Common.{AllByRecursion, range_with_len, Carry, Enable, Row, PinLow, Driven, Released, IsPair, IsDevice, is_never_true, stores, row_fuses, Table, cell_at, Extension, PinLiteral, SumLine, ColumnLiteral, if_intact, literal, literals_of, row_literals, named, named_by, product_of, live_rows, control_products, has_lines, data_line, control_line, enable_lines, cell_lines, shared_lines, first_register, lines_of}
 use Rattle.abel_tree.specs.declared.words.Extension.TheVariants as extension
 use Rattle.decompiled.proofs.Each.{each_at, each_append, each_map, each_flat_map, each_always, each_in_range, found_below}
 
@@ -70,6 +70,8 @@ module _ (t : Table) (fuses : List Bool) where
     enables_on : (c : ℕ) (e : Enable) → c < length t.cells → AllByRecursion IsCellLine (enable_lines t fuses c e)
     enables_on c (Row row) within = (control_on c extension.Oe row within, tt)
     enables_on c (PinLow pin) within = tt
+    enables_on c Driven within = tt
+    enables_on c Released within = tt
 
     cell_on : (c : ℕ) → c < length t.cells → AllByRecursion IsCellLine (cell_lines t fuses c)
     cell_on c within = by_test (has_lines t fuses c)

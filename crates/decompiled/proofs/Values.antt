@@ -1,6 +1,6 @@
 -- Values of the netlist's functions and controls, as the fuses have them.
 use Rattle.std.proofs.Common.{◌≡◌, ℕ, ◌<◌, Bool, true, false, not, Option, None, Some, List, [], ◌∷◌, length, refl, sym, ap, ◌∙◌, ◌&&◌, ◌||◌, if◌then◌else◌, unwrap_or}
-use Rattle.decompiled.proofs.Common.{true≢false, is_on, same_level, Levels, Enable, Row, PinLow, IsDevice, complement_if, data_complements, enabled_by, or_value, pin_complements, row_if_any, is_never_true, is_inverted, says, stores, stores_by, row_value, Table, cell_at, no_cell, registered_at, Leaf, Formula, Const, formula_value, Function, allows, drives, may_drive, may_store, registers_as, Wanted, as_named, function_at, PinLiteral, sum_formula, control_products, data_line, has_lines, product_of, HasRowSizes, ReadsPairs, IsCellAsked, enable_formula, shared_formula}
+use Rattle.decompiled.proofs.Common.{true≢false, is_on, same_level, Levels, Enable, Row, PinLow, Driven, Released, IsDevice, complement_if, data_complements, enabled_by, or_value, pin_complements, row_if_any, is_never_true, is_inverted, says, stores, stores_by, row_value, Table, cell_at, no_cell, registered_at, Leaf, Formula, Const, formula_value, Function, allows, drives, may_drive, may_store, registers_as, Wanted, as_named, function_at, PinLiteral, sum_formula, control_products, data_line, has_lines, product_of, HasRowSizes, ReadsPairs, IsCellAsked, enable_formula, shared_formula}
 use Rattle.pld_device.specs.declared.kinds.Kinds.{Kinds}
 use Rattle.pld_device.specs.declared.kinds.Kinds.TheVariants.{Combinational, Registered, Either}
 use Rattle.pld_device.specs.Given.{enables_never}
@@ -61,6 +61,8 @@ module _ (t : Table) (fuses : List Bool) (leaf_of : PinLiteral → Leaf) (laws :
     never : (e : Enable) → (cell_at t c).enable ≡ e → enables_never t fuses e ≡ true → enabled_by t fuses at e ≡ drives at None e
     never (Row row) is e = (products t fuses row laws (sizes row ((laws.cells c no_cell c_within).enable_below row is))).dead e at
     never (PinLow pin) is e = absurd (true≢false (sym e))
+    never Driven is e = absurd (true≢false (sym e))
+    never Released is e = refl
 
     pub spare_enabled : enabled_by t fuses at (cell_at t c).enable ≡ drives at None (cell_at t c).enable
     spare_enabled = never (cell_at t c).enable refl parts.1
@@ -71,6 +73,8 @@ module _ (t : Table) (fuses : List Bool) (leaf_of : PinLiteral → Leaf) (laws :
         off : (e : Enable) → enables_never t fuses e ≡ true → drives at None e ≡ false
         off (Row row) e = refl
         off (PinLow pin) e = absurd (true≢false (sym e))
+        off Driven e = absurd (true≢false (sym e))
+        off Released e = refl
 
   -- ---- cells with lines
 
@@ -81,6 +85,8 @@ module _ (t : Table) (fuses : List Bool) (leaf_of : PinLiteral → Leaf) (laws :
         by : (e : Enable) → (cell_at t c).enable ≡ e → w.enable ≡ enable_formula t fuses leaf_of e → enabled_by t fuses at e ≡ drives at (Some w) e
         by (Row row) own e = sym (ap (λ (o : Option Formula). formula_value at (unwrap_or o (Const true))) e ∙ control_value row ((laws.cells c no_cell c_within).enable_below row own))
         by (PinLow pin) own e = refl
+        by Driven own e = refl
+        by Released own e = refl
 
     abbrev one : Bool
     one = or_value t fuses at c
@@ -104,11 +110,11 @@ module _ (t : Table) (fuses : List Bool) (leaf_of : PinLiteral → Leaf) (laws :
         ∙ ap (λ (b : Bool). same_level v (complement_if b one)) negated
 
     pub own_level : (v : Bool)
-        → may_drive at c (Some w) v ≡ same_level v (complement_if (pin_complements t.flip (stores t fuses c) (is_inverted t fuses c)) (if stores t fuses c then is_on at.q c else one))
+        → may_drive at (cell_at t c).kinds c (Some w) v ≡ same_level v (complement_if (pin_complements t.flip (stores t fuses c) (is_inverted t fuses c)) (if stores t fuses c then is_on at.q c else one))
     own_level v = by (stores t fuses c) refl
       where
         by : (stored : Bool) → stores t fuses c ≡ stored
-            → may_drive at c (Some w) v ≡ same_level v (complement_if (pin_complements t.flip stored (is_inverted t fuses c)) (if stored then is_on at.q c else one))
+            → may_drive at (cell_at t c).kinds c (Some w) v ≡ same_level v (complement_if (pin_complements t.flip stored (is_inverted t fuses c)) (if stored then is_on at.q c else one))
         by true e =
             ap (λ (b : Bool). if b then same_level v (complement_if (not w.buffer) (is_on at.q c)) else allows (function_at at w.function) (as_named w v)) (is.registered ∙ e)
             ∙ ap (λ (b : Bool). same_level v (complement_if (not b) (is_on at.q c))) (is.buffer e)

@@ -1,6 +1,6 @@
 -- What the netlist of a decompiled source is, and that it allows what the fuses do (this project's rule).
 use Rattle.std.specs.Prelude.{◌≡◌, ℕ, ◌<◌, Bool, true, false, not, Option, None, Some, List, [], length, map}
-use Rattle.decompiled.specs.Prelude.{HasNoDontCare, Enable, Row, PinLow, IsDevice, device_logic, pin_complements, is_inverted, stores, Table, cell_at, Leaf, Formula, Const}
+use Rattle.decompiled.specs.Prelude.{HasNoDontCare, Enable, Row, PinLow, Driven, Released, IsDevice, device_logic, pin_complements, is_inverted, stores, Table, cell_at, Leaf, Formula, Const}
 use Rattle.pld_machine.specs.Refines.{Refines}
 use Rattle.abel_meaning.specs.NetlistLogic.{netlist_logic}
 use Rattle.abel_meaning.specs.Netlists.{PlainNetlist, Wanted, own_or_shared, wanted_at}
@@ -9,10 +9,12 @@ use Rattle.decompiled.specs.SumFormulas.{sum_formula}
 use Rattle.decompiled.specs.Sources.{control_products, data_line, has_lines, live_rows, product_of}
 use Rattle.decompiled.specs.RowSums.{HasRowSizes, ReadsPairs}
 
--- the formula of an enable row; none if a pin enables
+-- the formula of an enable row; none without such a row
 abbrev pub enable_formula : Table → List Bool → (PinLiteral → Leaf) → Enable → Option Formula
 enable_formula t fuses leaf_of (Row row) = Some (sum_formula leaf_of (control_products t fuses row))
 enable_formula t fuses leaf_of (PinLow pin) = None
+enable_formula t fuses leaf_of Driven = None
+enable_formula t fuses leaf_of Released = None
 
 -- the formula of the row of all registers that there may be
 abbrev pub shared_formula : Table → List Bool → (PinLiteral → Leaf) → Option ℕ → Formula

@@ -23,5 +23,5 @@ pub use Rattle.pld_device.specs.Rows.{carried, row_fuses, row_value}
 pub use Rattle.pld_device.specs.Table.{Table, cell_at}
 pub use Rattle.pld_device.specs.declared.carry.Carry.{Carry}
 pub use Rattle.pld_device.specs.declared.enable.Enable.{Enable}
-pub use Rattle.pld_device.specs.declared.enable.Enable.TheVariants.{PinLow, Row}
+pub use Rattle.pld_device.specs.declared.enable.Enable.TheVariants.{PinLow, Driven, Released, Row}
 pub use Rattle.pld_machine.specs.Comparison.{HasNoDontCare}

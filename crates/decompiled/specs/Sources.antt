@@ -1,7 +1,7 @@
 -- The source of a device's fuses (the devices' datasheets, macrocell diagrams; what is in which line is this project's
 -- rule).
 use Rattle.std.specs.Prelude.{◌≡◌, ◌≢◌, ℕ, ◌==◌, Bool, true, false, not, ◌&&◌, ◌||◌, if◌then◌else◌, Option, None, Some, List, [], ◌∷◌, ◌++◌, length, filter, find, flat_map, map}
-use Rattle.decompiled.specs.Prelude.{list_any, range_with_len, Carry, Enable, Row, PinLow, complement_if, data_complements, data_rows, pin_complements, is_never_true, is_inverted, stores, Table, cell_at, Extension}
+use Rattle.decompiled.specs.Prelude.{list_any, range_with_len, Carry, Enable, Row, PinLow, Driven, Released, complement_if, data_complements, data_rows, pin_complements, is_never_true, is_inverted, stores, Table, cell_at, Extension}
 use Rattle.pld_device.specs.declared.carry.Carry.TheVariants as carry
 use Rattle.pld_device.specs.Given.{never_drives}
 use Rattle.abel_tree.specs.declared.words.Extension.TheVariants as extension
@@ -63,6 +63,8 @@ control_line t fuses c e row =
 abbrev pub enable_lines : Table → List Bool → (cell : ℕ) → Enable → List SumLine
 enable_lines t fuses c (Row row) = control_line t fuses c extension.Oe row ∷ []
 enable_lines t fuses c (PinLow pin) = []
+enable_lines t fuses c Driven = []
+enable_lines t fuses c Released = []
 
 abbrev pub cell_lines : Table → List Bool → (cell : ℕ) → List SumLine
 cell_lines t fuses c = if has_lines t fuses c then data_line t fuses c ∷ enable_lines t fuses c (cell_at t c).enable else []

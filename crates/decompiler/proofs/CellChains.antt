@@ -1,7 +1,7 @@
 -- A decompiled source has no loop, and no reset reads a register, as its fuses have none: each signal reads no more than its
 -- cell does.
 use Rattle.std.proofs.Common.{◌≡◌, ℕ, ◌<◌, inl, inr, Bool, true, false, not, if◌then◌else◌, Option, Some, None, List, [], ◌∷◌, length, filter, map, refl, sym, ap, subst, ◌∙◌, arith, eqb-true, ◌==◌, ◌||◌}
-use Rattle.decompiler.proofs.Common.{AllByRecursion, list_any, and_from, and_parts, and_right, cases_Bool, or_cases, or_left, or_right, true≢false, HasNoLoop, Enable, Row, PinLow, IsDevice, data_rows, stores, Table, cell_at, no_cell, reset_in, Leaf, Formula, Const, names, cell_reads, data_reads, enable_reads, rest_reads, row_reads_cell, HasNoResetPath, plain_reads, reset_reads, row_reads_if_any, ModuleTree, control_of, is_the_control, Design, design_of, name_at, formulas, Function, function_of, HasNoSignalLoop, HasNoSignalPath, function_names, given_formulas, is_one_of, is_stored_signal, names_if_any, reset_equation_reads, settles, signal_names, signal_reads, leaf_of_signal, SumLine, IsSourceTree, is_control_line, line_gives, sum_formula, control_line, control_products, data_line, enable_lines, first_register, lines_of, source_of, shared_formula, HasRowSizes, leaf_of, signal_of, none_passes, given_is}
+use Rattle.decompiler.proofs.Common.{AllByRecursion, list_any, and_from, and_parts, and_right, cases_Bool, or_cases, or_left, or_right, true≢false, HasNoLoop, Enable, Row, PinLow, Driven, Released, IsDevice, data_rows, stores, Table, cell_at, no_cell, reset_in, Leaf, Formula, Const, names, cell_reads, data_reads, enable_reads, rest_reads, row_reads_cell, HasNoResetPath, plain_reads, reset_reads, row_reads_if_any, ModuleTree, control_of, is_the_control, Design, design_of, name_at, formulas, Function, function_of, HasNoSignalLoop, HasNoSignalPath, function_names, given_formulas, is_one_of, is_stored_signal, names_if_any, reset_equation_reads, settles, signal_names, signal_reads, leaf_of_signal, SumLine, IsSourceTree, is_control_line, line_gives, sum_formula, control_line, control_products, data_line, enable_lines, first_register, lines_of, source_of, shared_formula, HasRowSizes, leaf_of, signal_of, none_passes, given_is}
 use Rattle.pld_device.specs.Given.{never_drives}
 use Rattle.abel_tree.specs.declared.words.Extension.TheVariants as extension
 use Rattle.abel_meaning.specs.Contributions.{Contribution}
@@ -86,6 +86,13 @@ module _ (t : Table) (fuses : List Bool) (laws : IsDevice t) (long : length fuse
     control_reads : names_if_any control (leaf_at e) ≡ true → enable_reads t fuses (cell_at t c).enable e ≡ true
     control_reads named = by_enable (cell_at t c).enable refl
       where
+        -- without a line nothing is named
+        unsaid : (x : Enable) → (cell_at t c).enable ≡ x → enable_lines t fuses c x ≡ [] → ⊥
+        unsaid x has none =
+            let told = says d.context signal (leaf_of t) (lines_of t fuses) (signal_at c) in
+            let absent = told.no_control extension.Oe (enable_is ∙ ap (enable_lines t fuses c) has ∙ none) in
+            true≢false (sym (sym (ap (λ (o : Option Formula). names_if_any o (leaf_at e)) (control_given ∙ absent)) ∙ named))
+
         by_enable : (x : Enable) → (cell_at t c).enable ≡ x → enable_reads t fuses x e ≡ true
         by_enable (Row row) has =
             control_reads_it t fuses laws sizes e to.within row ((laws.cells c no_cell from.on.within).enable_below row has)
@@ -95,18 +102,9 @@ module _ (t : Table) (fuses : List Bool) (laws : IsDevice t) (long : length fuse
             row_control =
                 (says d.context signal (leaf_of t) (lines_of t fuses) (signal_at c)).control extension.Oe (control_line t fuses c extension.Oe row) refl
                 (enable_is ∙ ap (enable_lines t fuses c) has)
-        by_enable (PinLow pin) has =
-            absurd (
-            true≢false (
-            sym (
-            sym (
-            ap (λ (o : Option Formula). names_if_any o (leaf_at e))
-            (control_given ∙ (says d.context signal (leaf_of t) (lines_of t fuses) (signal_at c)).no_control extension.Oe (enable_is ∙ ap (enable_lines t fuses c) has))
-            )
-            ∙ named
-            )
-            )
-            )
+        by_enable (PinLow pin) has = absurd (unsaid (PinLow pin) has refl)
+        by_enable Driven has = absurd (unsaid Driven has refl)
+        by_enable Released has = absurd (unsaid Released has refl)
 
     -- its cell reads the cell of what it reads
     cell_rest_reads : signal_names d.context cs s (leaf_at e) ≡ true → rest_reads t fuses c e ≡ true

@@ -1,6 +1,6 @@
 -- Each assigned cell has room for its written lists, and its enable is one product.
 use Rattle.std.proofs.Common.{◌≡◌, ℕ, ◌<◌, ◌≤◌, Bool, true, false, not, List, [], ◌∷◌, length, filter, map, Option, Some, None, refl, sym, ap, subst, ◌∙◌, arith, inl, inr, if◌then◌else◌, unwrap_or}
-use Rattle.decompiler.proofs.Common.{option_map, cases_Bool, length-map, length-range_with_len, same_Some, Enable, Row, PinLow, IsDevice, data_rows, is_never_true, is_inverted, stores, Table, cell_at, no_cell, CellWanted, Netlist, ExprId, Leaf, arena, formula_at, Formula, Const, Or, Function, Wanted, plain_netlist, plain_wanted, wanted_at, IsSoundNetlist, Cube, Products, sum_of, bit_list, written, cell_wanted, enable_bit, enable_is, sound_id_at, wanted_is, rows_are_positive, IsFunctionTooWide, IsShort, PinLiteral, sum_formula, control_products, has_lines, live_rows, product_of, IsCellAsked, IsFusesNetlist, enable_formula, ReadNoNode}
+use Rattle.decompiler.proofs.Common.{option_map, cases_Bool, length-map, length-range_with_len, same_Some, Enable, Row, PinLow, Driven, Released, IsDevice, data_rows, is_never_true, is_inverted, stores, Table, cell_at, no_cell, CellWanted, Netlist, ExprId, Leaf, arena, formula_at, Formula, Const, Or, Function, Wanted, plain_netlist, plain_wanted, wanted_at, IsSoundNetlist, Cube, Products, sum_of, bit_list, written, cell_wanted, enable_bit, enable_is, sound_id_at, wanted_is, rows_are_positive, IsFunctionTooWide, IsShort, PinLiteral, sum_formula, control_products, has_lines, live_rows, product_of, IsCellAsked, IsFusesNetlist, enable_formula, ReadNoNode}
 use Rattle.fit_plans.specs.Tries.{allowed_of, needed_of, one_of}
 use Rattle.fitter.proofs.Widths.{cell_low}
 use Rattle.fitter.specs.Products.{IsProduct}
@@ -132,6 +132,8 @@ module _ (t : Table) (fuses : List Bool) (leaf_of : PinLiteral → Leaf) (net : 
             → IsOneOrNone leaf_of (formula_at (arena net.exprs) (enable_bit w))
         by_enable (Row row) same = subst (IsOneOrNone leaf_of) (sym same) (control_few t fuses leaf_of row)
         by_enable (PinLow pin) same = record { products = [] ∷ []; few = omega arith; is = same }
+        by_enable Driven same = record { products = [] ∷ []; few = omega arith; is = same }
+        by_enable Released same = record { products = [] ∷ []; few = omega arith; is = same }
 
 -- a function whose cell has room isn't too wide
 pub room_narrow : (t : Table) (net : Netlist) (w : CellWanted) → HasRoom t net w → IsFunctionTooWide t net w → ⊥

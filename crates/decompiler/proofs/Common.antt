@@ -14,7 +14,7 @@ pub use Rattle.abel_meaning.specs.Controls.{control_by, control_if_stored, contr
 pub use Rattle.abel_meaning.specs.CountedNodes.{guard_nodes, value_nodes}
 pub use Rattle.abel_meaning.specs.Declarations.{GivenName, all_said, declared, entry, is_unnumbered, no_words}
 pub use Rattle.abel_meaning.specs.Designs.{Context, Design, design_of, name_at, no_name}
-pub use Rattle.abel_meaning.specs.DeviceStrings.{device_named, unquoted}
+pub use Rattle.abel_meaning.specs.Models.{device_named, unquoted}
 pub use Rattle.abel_meaning.specs.FormulaBits.{bits_of, formulas, make_held, make_source, met_by, met_word, operator_word}
 pub use Rattle.abel_meaning.specs.Functions.{Function, function_of}
 pub use Rattle.abel_meaning.specs.Kinds.{is_buffer_by_default, names_of, with_kind, with_kinds}
@@ -47,7 +47,7 @@ pub use Rattle.bit_expr.specs.declared.node.ExprId.{ExprId}
 pub use Rattle.bit_expr.specs.declared.node.Leaf.{Leaf}
 pub use Rattle.compile_phases.specs.SourceRefusals.{HasDesign, IsNetlistOf}
 pub use Rattle.covers.specs.declared.cube.Cube.{Cube}
-pub use Rattle.decls.specs.NameRefusals.{all_buffered, always_inverts, buffered, buffers_refused, module_buffers_refused, name_refusals, names_once}
+pub use Rattle.decls.specs.NameRefusals.{all_buffered, always_inverts, buffered, buffers_refused, has_registers, module_buffers_refused, name_refusals, names_once}
 pub use Rattle.decls.specs.NameRefusals.{read_refusals, sections_refused}
 pub use Rattle.decls.specs.NamesBefore.{added, names_behind}
 pub use Rattle.abel_meaning.specs.SignalPins.{is_taken, is_signal_pin, has_wrong_kind, has_wrong_kind_by, has_wrong_kind_on, is_registered_node, is_wrong_cell, is_wrong_kind, carries_level, carries_q, has_read_path, reads_by}
@@ -96,8 +96,7 @@ pub use Rattle.design_checks.specs.declared.rules.Rule.{Rule}
 pub use Rattle.device_logic.proofs.Ranges.{preset_if_any, reset_if_any, reset_in}
 pub use Rattle.device_logic.specs.CellReads.{cell_reads, data_reads, enable_reads, pairs_read, rest_reads, row_reads_cell}
 pub use Rattle.device_logic.specs.ResetPaths.{HasNoResetPath, plain_reads, reset_reads, row_reads_if_any}
-pub use Rattle.devices.specs.DeviceLaws.{table_sound}
-pub use Rattle.devices.specs.Devices.{table_of}
+pub use Rattle.devices.specs.Models.{model_sound, table_at}
 pub use Rattle.equations.specs.StatementUnits.{assign_refused, assigned_aims, assigned_manners, statement_manners, statement_places, statements_places}
 pub use Rattle.equations.specs.StatementUnits.{units_of_statement, units_of_statements}
 pub use Rattle.fit_plans.specs.Forms.{may_be_inverted_as, names_or, or_is_complement, rows_are_positive}
@@ -116,6 +115,7 @@ pub use Rattle.pld_base.specs.DeviceNames.{device_text, named_device}
 pub use Rattle.pld_base.specs.Logic.{Logic}
 pub use Rattle.pld_base.specs.Points.{Levels}
 pub use Rattle.pld_base.specs.declared.device_name.DeviceName.{DeviceName}
+pub use Rattle.pld_base.specs.declared.model.Model.{Model}
 pub use Rattle.pld_base.specs.declared.place.Place.{Place}
 pub use Rattle.pld_device.proofs.OwnPins.{own_pins}
 pub use Rattle.pld_device.specs.Laws.{IsDevice, IsPair, IsSignalPin}
@@ -128,7 +128,7 @@ pub use Rattle.pld_device.specs.Table.{Table, cell_at, no_cell, registered_at}
 pub use Rattle.pld_device.specs.declared.carry.Carry.{Carry}
 pub use Rattle.pld_device.specs.declared.cell.Cell.{Cell}
 pub use Rattle.pld_device.specs.declared.enable.Enable.{Enable}
-pub use Rattle.pld_device.specs.declared.enable.Enable.TheVariants.{PinLow, Row}
+pub use Rattle.pld_device.specs.declared.enable.Enable.TheVariants.{PinLow, Driven, Released, Row}
 pub use Rattle.pld_device.specs.declared.flip.Flip.{Flip}
 pub use Rattle.pld_device.specs.declared.flip.Flip.TheVariants.{AfterRegister, Always, BeforeRegister}
 pub use Rattle.pld_device.specs.declared.kinds.Kinds.{Kinds}
@@ -157,7 +157,7 @@ pub use Rattle.sop_lowering.specs.Written.{bit_list, constant_list, leaf_list, l
 pub use Rattle.source_sections.specs.SectionAnswers.{AreContributed, source_units}
 pub use Rattle.source_sections.specs.SectionUnits.{sections_places, units_of_sections}
 pub use Rattle.decompiler.specs.Bounds.{IsNoNode, IsShort, StaysBelow, WrittenListsAreShort, bound}
-pub use Rattle.decompiler.specs.Compiling.{AreLoadable, DecompiledTextsAreAccepted, DecompiledTextsAreShort, DecompiledTextsCompile, IsAnswered}
+pub use Rattle.decompiler.specs.Compiling.{AreLoadable, AsksForItself, DecompiledTextsAreAccepted, DecompiledTextsAreShort, DecompiledTextsCompile, IsAnswered}
 pub use Rattle.decompiler.specs.Designs.{DesignsAreTakeable, DesignsAreUnrefused}
 pub use Rattle.decompiler.specs.Held.{ArenasAreThere, IsHeld, all_nodes_of, nodes_of}
 pub use Rattle.decompiler.specs.Reading.{IsDecompiled, IsReadAsSource}

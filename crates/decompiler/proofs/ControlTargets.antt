@@ -1,6 +1,6 @@
 -- A control of a cell that is there has a first target among the contributions.
 use Rattle.std.proofs.Common.{◌≡◌, ℕ, suc, ◌&&◌, List, [], ◌∷◌, filter, map, Option, Some, None, refl, sym, subst, inl, inr}
-use Rattle.decompiler.proofs.Common.{AllByRecursion, option_map, cases_Bool, Place, Enable, Row, PinLow, cell_at, Formula, Extension, Entry, is_stored, control_by, control_if_stored, control_of, is_control, is_the_control, Design, formulas, Wanted, given_formulas, Contribution, Contributions, given, view_contribution, first_target, target_place, and_cell, by_row, cell_of, cells_from, wanted_for}
+use Rattle.decompiler.proofs.Common.{AllByRecursion, option_map, cases_Bool, Place, Enable, Row, PinLow, Driven, Released, cell_at, Formula, Extension, Entry, is_stored, control_by, control_if_stored, control_of, is_control, is_the_control, Design, formulas, Wanted, given_formulas, Contribution, Contributions, given, view_contribution, first_target, target_place, and_cell, by_row, cell_of, cells_from, wanted_for}
 use Rattle.abel_tree.specs.declared.words.Extension.TheVariants as extension
 use Rattle.abel_meaning.specs.Contributions as meant
 use Rattle.gathering.specs.Parts.{is_to}
@@ -38,6 +38,8 @@ module _ (d : Design) where
     row_there : (x : Enable) (o : Option Formula) (f : Formula) → by_row x o ≡ Some f → o ≡ Some f
     row_there (Row row) o f is = is
     row_there (PinLow pin) o f is = absurd (none_some is)
+    row_there Driven o f is = absurd (none_some is)
+    row_there Released o f is = absurd (none_some is)
 
     stored_there : (e : Extension) (s : ℕ) (x : Entry) (f : Formula) → control_if_stored (formulas d.context) cs e s x ≡ Some f → control_of (formulas d.context) cs s e ≡ Some f
     stored_there e s x f is = elim (cases_Bool (is_stored x)) [

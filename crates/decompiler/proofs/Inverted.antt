@@ -1,6 +1,6 @@
 -- If a device always inverts, no register of a decompiled source is declared `buffer`.
-use Rattle.std.proofs.Common.{◌≡◌, ℕ, suc, Bool, true, false, not, Option, None, Some, List, [], ◌∷◌, ◌++◌, slice_get, refl, sym, ap, ◌∙◌, ◌==◌}
-use Rattle.decompiler.proofs.Common.{and_parts, Flip, Always, AfterRegister, BeforeRegister, pin_complements, is_inverted, Table, Place, Entry, Declaration, GivenName, all_said, all_buffered, always_inverts, buffered, names_behind, PinLine, attributes_in, IsPinLine, ArePins, follows_by, pin_line, register_on}
+use Rattle.std.proofs.Common.{◌≡◌, ℕ, suc, Bool, true, false, not, Option, None, Some, List, [], ◌∷◌, ◌++◌, slice_get, refl, sym, ap, ◌∙◌}
+use Rattle.decompiler.proofs.Common.{and_parts, Flip, Always, AfterRegister, BeforeRegister, pin_complements, is_inverted, Table, Place, Entry, Declaration, GivenName, all_said, all_buffered, always_inverts, buffered, has_registers, names_behind, PinLine, attributes_in, IsPinLine, ArePins, follows_by, pin_line, register_on}
 
 complements_always : (flip : Flip) (inverted : Bool) → pin_complements flip true false ≡ true → pin_complements flip true inverted ≡ true
 complements_always Always inverted is = refl
@@ -12,7 +12,7 @@ pub pins_inverted : (t : Table) (fuses : List Bool) → always_inverts t ≡ tru
 pins_inverted t fuses always pin = by_register (register_on t fuses pin)
   where
     complements : pin_complements t.flip true false ≡ true
-    complements = (and_parts (not (t.clock == 0)) (pin_complements t.flip true false) always).1
+    complements = (and_parts (has_registers t) (pin_complements t.flip true false) always).1
 
     by_register : (o : Option ℕ) → follows_by t fuses o ≡ Some true → ⊥
     by_register None e = cc

@@ -4,10 +4,13 @@ pub mod BuiltCells
 pub mod BuiltNetlists
 pub mod CellChains
 pub mod CellRooms
+pub mod ChipCells
+pub mod ChipTexts
 pub mod Common
 pub mod ContributionsThere
 pub mod ControlTargets
 pub mod EachTree
+pub mod EnableLines
 pub mod Fitting
 pub mod FormsRead
 pub mod FoundBits
@@ -28,9 +31,11 @@ pub mod PaidBits
 pub mod PaidLines
 pub mod PairColumns
 pub mod PairLiterals
+pub mod PinEntries
 pub mod PinTargets
 pub mod PlainNames
 pub mod Ranges
+pub mod ReadSignals
 pub mod ReadTexts
 pub mod ReadUses
 pub mod RightSources
@@ -43,6 +48,7 @@ pub mod SignalPins
 pub mod SmallBits
 pub mod SparedPins
 pub mod Taken
+pub mod TextsAsk
 pub mod Unexchanged
 pub mod UnrefusedDesigns
 pub mod UnrefusedNames

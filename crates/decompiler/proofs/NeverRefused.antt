@@ -1,32 +1,32 @@
 -- Nothing is refused of the text of a device's fuses.
-use Rattle.std.proofs.Common.{◌≡◌, ◌≢◌, Some, Result, Ok, Err, refl, ap, ◌∙◌}
-use Rattle.decompiler.proofs.Common.{DeviceName, Table, table_sound, table_of, decompiled_text, SourcesAreRight, IsDecompiled, DecompiledTextsAreAccepted, DecompiledTextsAreShort, DecompiledTextsCompile, IsAnswered}
+use Rattle.std.proofs.Common.{◌≡◌, ◌≢◌, Result, Ok, Err, refl}
+use Rattle.decompiler.proofs.Common.{Table, model_sound, table_at, decompiled_text, SourcesAreRight, IsDecompiled, DecompiledTextsAreAccepted, DecompiledTextsAreShort, DecompiledTextsCompile, IsAnswered}
 use Rattle.compile_phases.specs.declared.fault.CompileFault.{CompileFault}
 use Rattle.compile_phases.specs.declared.fault.CompileFault.TheVariants.{Source, Place, Fit, OutOfMemory}
 use Rattle.abel_compile.specs.declared.compiled.Compiled.{Compiled}
-use Rattle.devices.specs.DeviceLaws.{table_has_name}
+use Rattle.abel_compile.proofs.NeverRefused.{spelled}
 use Rattle.decompiler.proofs.ReadTexts.{is_decompiled}
 use Rattle.decompiler.proofs.TextSizes.{text_short}
 
 pub texts_are_short : DecompiledTextsAreShort
-texts_are_short device fuses = text_short (table_of device) fuses (table_sound device)
+texts_are_short device fuses = text_short (table_at device) fuses (model_sound device)
 
 pub texts_are_accepted : SourcesAreRight → DecompiledTextsAreAccepted
-texts_are_accepted right device fuses can spares =
-    let t : Table = table_of device in
+texts_are_accepted right device fuses can spares asks =
+    let t : Table = table_at device in
     let text : IsDecompiled t fuses (decompiled_text t fuses) =
-    is_decompiled right t fuses (table_sound device) can.size can.no_loop can.no_path (decompiled_text t fuses) refl in
+    is_decompiled right t fuses (model_sound device) can.size can.no_loop can.no_path (decompiled_text t fuses) refl in
     record {
       source = text.source;
       read = text.read;
       device = device;
-      named = text.right.named ∙ ap (λ (x : DeviceName). Some x) (table_has_name device);
+      named = asks text.source (spelled (decompiled_text t fuses) text.source text.read);
       so = (text.right.placed, text.right.accepted spares, text.right.fits spares);
     }
 
 pub texts_compile : DecompiledTextsAreAccepted → DecompiledTextsCompile
-texts_compile accepted device fuses r can spares never =
-    let text = accepted device fuses can spares in
+texts_compile accepted device fuses r can spares asks never =
+    let text = accepted device fuses can spares asks in
     by_answer r (never (record {
       source = text.source;
       read = text.read;

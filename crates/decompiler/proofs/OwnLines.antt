@@ -1,6 +1,6 @@
 -- What each line of a decompiled source assigns, and how large the source is.
 use Rattle.std.proofs.Common.{◌≡◌, ℕ, zero, suc, ◌+◌, ◌*◌, ◌<◌, ◌≤◌, inl, inr, Bool, true, false, not, if◌then◌else◌, Option, Some, None, List, [], ◌∷◌, ◌++◌, length, filter, flat_map, map, refl, sym, ap, ◌∙◌, arith, length-append}
-use Rattle.decompiler.proofs.Common.{AllByRecursion, range_with_len, cases_Bool, true≢false, Carry, Enable, Row, PinLow, IsDevice, data_rows, is_never_true, stores, row_fuses, Table, cell_at, no_cell, Extension, is_data, may_be_assigned, PinLiteral, SumLine, ColumnLiteral, if_intact, literal, literals_of, row_literals, cell_lines, control_line, control_products, data_line, enable_lines, first_register, has_lines, lines_of, live_rows, named, product_of, shared_lines, each_always, each_append, each_flat_map, each_in_range, each_map, found_passes}
+use Rattle.decompiler.proofs.Common.{AllByRecursion, range_with_len, cases_Bool, true≢false, Carry, Enable, Row, PinLow, Driven, Released, IsDevice, data_rows, is_never_true, stores, row_fuses, Table, cell_at, no_cell, Extension, is_data, may_be_assigned, PinLiteral, SumLine, ColumnLiteral, if_intact, literal, literals_of, row_literals, cell_lines, control_line, control_products, data_line, enable_lines, first_register, has_lines, lines_of, live_rows, named, product_of, shared_lines, each_always, each_append, each_flat_map, each_in_range, each_map, found_passes}
 use Rattle.abel_tree.specs.declared.words.Extension.TheVariants as extension
 
 -- ---- lengths
@@ -147,6 +147,8 @@ module _ (t : Table) (fuses : List Bool) where
       enables_own : (e : Enable) → (cell_at t c).enable ≡ e → AllByRecursion IsOwnLine (enable_lines t fuses c e)
       enables_own (Row row) is = (control_own extension.Oe row EnableForm (row, is, refl) refl refl, tt)
       enables_own (PinLow pin) is = tt
+      enables_own Driven is = tt
+      enables_own Released is = tt
 
     cell_own : (c : ℕ) → c < length t.cells → AllByRecursion IsOwnLine (cell_lines t fuses c)
     cell_own c within = by_test (has_lines t fuses c) refl
@@ -210,6 +212,8 @@ module _ (t : Table) (fuses : List Bool) where
         enable_few : (e : Enable) → length (enable_lines t fuses c e) ≤ 1
         enable_few (Row row) = omega arith
         enable_few (PinLow pin) = omega arith
+        enable_few Driven = omega arith
+        enable_few Released = omega arith
 
         by_test : (some : Bool) → length (if some then data_line t fuses c ∷ enable_lines t fuses c (cell_at t c).enable else []) ≤ 2
         by_test true = let one = enable_few (cell_at t c).enable in omega (arith, one)

@@ -51,7 +51,7 @@ entries_unrefused (e ∷ es) plain =
 
 -- ---- what is known of plain names
 
-abbrev knowns : ℕ → List Entry → List Known
+abbrev pub knowns : ℕ → List Entry → List Known
 knowns s [] = []
 knowns s (e ∷ es) = record { name = e.name; term = term_meant [] s e.kind } ∷ knowns (suc s) es
 
@@ -61,7 +61,7 @@ term_alone known s (ANode number) plain = absurd plain
 term_alone known s (AConstant value) plain = absurd plain
 term_alone known s ADeviceName plain = refl
 
-known_plain : (known : List Known) (s : ℕ) (es : List Entry) → ArePlain es → known_after known s es ≡ known ++ knowns s es
+pub known_plain : (known : List Known) (s : ℕ) (es : List Entry) → ArePlain es → known_after known s es ≡ known ++ knowns s es
 known_plain known s [] plain = sym (append-nil known)
 known_plain known s (e ∷ es) plain =
     ap (λ (u : Term). known_after (known ++ record { name = e.name; term = u } ∷ []) (suc s) es) (term_alone known s e.kind plain.0)

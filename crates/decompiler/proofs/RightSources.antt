@@ -12,14 +12,14 @@ string_names device =
     device_from_test (named_device (unquoted (codes "'" ++ device_text device ++ codes "'"))) device
     (each_device (λ d. is_device (named_device (unquoted (codes "'" ++ device_text d ++ codes "'"))) d) refl device)
 
-named : (t : Table) (fuses : List Bool) (m : ModuleTree) → IsSourceTree (source_of t fuses) m → device_named m ≡ Some t.name
-named t fuses m is = ap device_named is.is ∙ string_names t.name
+pub named_source : (t : Table) (fuses : List Bool) (m : ModuleTree) → IsSourceTree (source_of t fuses) m → device_named m ≡ Some t.name
+named_source t fuses m is = ap device_named is.is ∙ string_names t.name
 
 -- ---- all of it
 
 pub right_sources : DesignsAreTakeable → SourcesAreRight
 right_sources takeable t fuses m laws long is no_loop no_path = record {
-  named = named t fuses m is;
+  named = named_source t fuses m is;
   placed = sources_placed t fuses m laws is;
   accepted = sources_accepted takeable t fuses m laws long is no_loop no_path;
   fits = sources_fit_as_written takeable t fuses m laws long is no_loop no_path;

@@ -1,6 +1,6 @@
 -- Fuses that are decompiled and compiled again run as before.
 use Rattle.std.proofs.Common.{◌≡◌, ℕ, ◌≤◌, Bool, true, false, ◌&&◌, Option, None, Some, List, length, refl, sym, ap, subst, ◌∙◌, inl, inr, arith}
-use Rattle.decompiler.proofs.Common.{cases_Bool, cases_lt, le-ltb, get_or_past, DeviceName, DoesTheSame, HasNoNodes, IsDevice, device_logic, is_inverted, says, Table, ModuleTree, signal_on, design_of, device_named, netlist_of, IsRead, SpellsModule, table_sound, table_of, IsSourceTree, decompiled_text, has_lines, source_of, is_of_fuses, cell_name, say_what_they_do, SourcesAreRight, IsDecompiled, AreLoadable}
+use Rattle.decompiler.proofs.Common.{cases_Bool, cases_lt, le-ltb, get_or_past, Model, DoesTheSame, HasNoNodes, IsDevice, device_logic, is_inverted, says, Table, ModuleTree, signal_on, design_of, netlist_of, IsRead, SpellsModule, model_sound, table_at, IsSourceTree, decompiled_text, has_lines, source_of, is_of_fuses, cell_name, say_what_they_do, SourcesAreRight, IsDecompiled, AreLoadable, AsksForItself}
 use Rattle.abel_meaning.specs.Choices.{inverting, is_free_signal, source_values_under}
 use Rattle.abel_meaning.specs.NetlistLogic.{netlist_logic}
 use Rattle.abel_meaning.specs.SourceLogic.{source_logic, source_values}
@@ -12,7 +12,6 @@ use Rattle.placer.specs.Placements.{IsPinned}
 use Rattle.compile_phases.proofs.PlacedRefusals.{one_placed}
 use Rattle.decompiled.proofs.SignalsOn.{lines_declare, on_it, on_none, registers_have_cells}
 use Rattle.decompiler.proofs.ReadTexts.{is_decompiled, read_as_source}
-use Rattle.devices.specs.DeviceLaws.{table_has_name}
 use Rattle.decompiler.specs.Recompiled.{RecompiledFusesRunAlike, RunAsBefore}
 use Rattle.decompiler.proofs.OneSource.{one_source}
 use Rattle.decompiler.proofs.Unexchanged.{same_logic, same_values}
@@ -53,18 +52,18 @@ module _ (t : Table) (fuses : List Bool) (laws : IsDevice t) (m : ModuleTree) (i
 
 -- ---- the file's module is that of the text
 
-same_some : (a b : DeviceName) → Some a ≡ Some b → a ≡ b
+same_some : (a b : Model) → Some a ≡ Some b → a ≡ b
 same_some a b e = cc
 
-module _ (device : DeviceName) (fuses : List Bool) (can : AreLoadable (table_of device) fuses) where
+module _ (device : Model) (fuses : List Bool) (can : AreLoadable (table_at device) fuses) (asks : AsksForItself device fuses) where
   abbrev t : Table
-  t = table_of device
+  t = table_at device
 
   abbrev text : List ℕ
   text = decompiled_text t fuses
 
-  module _ (means : IsDecompiled t fuses text) (m : ModuleTree) (is : IsSourceTree (source_of t fuses) m) (read : IsRead text m) (name : DeviceName) (file : List ℕ)
-      (right : IsRightFile SpellsModule table_of text name file) where
+  module _ (means : IsDecompiled t fuses text) (m : ModuleTree) (is : IsSourceTree (source_of t fuses) m) (read : IsRead text m) (name : Model) (file : List ℕ)
+      (right : IsRightFile SpellsModule table_at text name file) where
     module_is : right.source ≡ m
     module_is = sym (right.only m (spelled text m read))
 
@@ -72,23 +71,23 @@ module _ (device : DeviceName) (fuses : List Bool) (can : AreLoadable (table_of 
     source_is = sym (right.only means.source (spelled text means.source means.read))
 
     name_is : name ≡ device
-    name_is = same_some name t.name (sym right.named ∙ ap device_named source_is ∙ means.right.named) ∙ table_has_name device
+    name_is = same_some name device (sym right.named ∙ asks right.source right.read)
 
     -- nothing of it is placed
     placed_is : right.placed ≡ m
     placed_is =
         let own : IsPinned t right.source right.source = subst (λ (s : ModuleTree). IsPinned t s s) (sym source_is) means.right.placed.pinned in
-        let also : IsPinned t right.source right.placed = subst (λ (n : DeviceName). IsPinned (table_of n) right.source right.placed) name_is right.is_placed in
+        let also : IsPinned t right.source right.placed = subst (λ (n : Model). IsPinned (table_at n) right.source right.placed) name_is right.is_placed in
         one_placed t right.source right.placed right.source also own ∙ module_is
 
     does_again : DoesWhatItSays t m right.fuses
     does_again =
         subst (λ s. DoesWhatItSays t s right.fuses) placed_is
-        (subst (λ n. DoesWhatItSays (table_of n) right.placed right.fuses) name_is right.does)
+        (subst (λ n. DoesWhatItSays (table_at n) right.placed right.fuses) name_is right.does)
 
     as_before : RunAsBefore device name fuses right.fuses
     as_before =
-        let laws = table_sound device in
+        let laws = model_sound device in
         let says = say_what_they_do t fuses m laws can.size is can.no_loop can.no_path in
         let old = unchosen t fuses laws m is fuses says.does in
         let again = unchosen t fuses laws m is right.fuses does_again in
@@ -102,8 +101,8 @@ module _ (device : DeviceName) (fuses : List Bool) (can : AreLoadable (table_of 
         }
 
 pub run_alike : SourcesAreRight → RecompiledFusesRunAlike
-run_alike right device name fuses file can of =
-    let t : Table = table_of device in
-    let read = read_as_source t fuses (table_sound device) (decompiled_text t fuses) refl in
-    let means = is_decompiled right t fuses (table_sound device) can.size can.no_loop can.no_path (decompiled_text t fuses) refl in
-    as_before device fuses can means read.0 read.1 read.2 name file of
+run_alike right device name fuses file can asks of =
+    let t : Table = table_at device in
+    let read = read_as_source t fuses (model_sound device) (decompiled_text t fuses) refl in
+    let means = is_decompiled right t fuses (model_sound device) can.size can.no_loop can.no_path (decompiled_text t fuses) refl in
+    as_before device fuses can asks means read.0 read.1 read.2 name file of

@@ -1,7 +1,7 @@
 -- What the source of a device's fuses is (this project's rule).
 use Rattle.std.specs.Prelude.{◌≡◌, Bool, List, Some, length}
 use Rattle.decompiler.specs.Prelude.{HasNoLoop, IsDevice, Table, cell_reads, HasNoResetPath, SparesPowerDown, ModuleTree, IsPlacedModule, IsSourceTree, FitsAsWritten, IsAcceptedFor, source_of}
-use Rattle.abel_meaning.specs.DeviceStrings.{device_named}
+use Rattle.abel_meaning.specs.Models.{device_named}
 use Rattle.decompiled.specs.Runs.{SaysWhatItDoes}
 
 -- it names the device and has nothing to place; unless a row reads a pin that may power the chip down, nothing is refused of it

@@ -96,7 +96,8 @@ impl<'a, D: Device> DeviceFuses<'a, D> {
     {
         match cell_of::<D>(self.device(), cell).enable {
             Enable::Row(row) => !self.is_live(row),
-            Enable::PinLow(_) => false,
+            Enable::PinLow(_) | Enable::Driven => false,
+            Enable::Released => true,
         }
     }
 
