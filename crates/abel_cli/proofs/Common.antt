@@ -8,7 +8,8 @@ pub use Rattle.abel_commands.specs.Sources.{source_at, sources_seen, texts}
 pub use Rattle.abel_commands.specs.View.{command_seen, ending_seen, output_seen, view}
 pub use Rattle.abel_commands.specs.Words.{Check, Command, Compare, Compile, Decompile, Demo, IsCompile, IsNoCommand, ListSource, Simulate, Task, command_of}
 pub use Rattle.abel_commands.specs.Words.{on_file, source_count}
-pub use Rattle.devices.specs.Devices.{table_of}
+pub use Rattle.devices.specs.Models.{table_at}
+pub use Rattle.file_models.specs.FileModels.{file_table}
 pub use Rattle.outside.specs.Causes.{Rose}
 pub use Rattle.outside.specs.Outside.{Map, SameBut, SameFiles, bytes_at}
 pub use Rattle.abel_cli.specs.Call.{Asked, Heard, asked, heard}

@@ -1,6 +1,6 @@
 -- Facts of single statuses and commands, drawn from what a run promises.
 use Rattle.std.proofs.Common.{◌≡◌, ℕ, ◌≤◌, ◌⊎◌, List, Option, Some, None, refl, sym, ◌∙◌, ap, subst, inl, inr, arith}
-use Rattle.abel_cli.proofs.Common.{none-some, bytes_at, SameFiles, Asked, Heard, HasStayed, table_of, Ending, MeansOn, Promises, Means, IsRefused, source_at, Command, Task, Compile, ListSource, Simulate, Check, Demo, Decompile, Compare, IsCompile, IsNoCommand, command_of, on_file}
+use Rattle.abel_cli.proofs.Common.{none-some, bytes_at, SameFiles, Asked, Heard, HasStayed, file_table, Ending, MeansOn, Promises, Means, IsRefused, source_at, Command, Task, Compile, ListSource, Simulate, Check, Demo, Decompile, Compare, IsCompile, IsNoCommand, command_of, on_file}
 use Rattle.pld_base.specs.declared.device_name.DeviceName.{DeviceName}
 use Rattle.abel_commands.specs.Simulating.{Disagrees}
 
@@ -37,11 +37,11 @@ module _ (a : Asked) (h : Heard) (p : Promises a h) where
 
   -- 5 has its cause
   pub disagrees : a.told → (d : DeviceName) (i : List ℕ) → command_of a.words ≡ Some (on_file (Simulate d) i) → h.status ≡ 5
-      → (report : List ℕ) × Disagrees (table_of d) (bytes_at a.old i) report
+      → (report : List ℕ) × Disagrees (file_table d (bytes_at a.old i)) (bytes_at a.old i) report
   disagrees tells d i w is =
       let k = p.ended (omega (arith, is)) in
       let m = subst (On k.ending) w k.meant in
-      (k.ending.text, subst (λ (s : List (List ℕ)). Disagrees (table_of d) (source_at s 0) k.ending.text) (m.1 tells) (m.2.disagrees (sym k.status ∙ is)))
+      (k.ending.text, subst (λ (s : List (List ℕ)). Disagrees (file_table d (source_at s 0)) (source_at s 0) k.ending.text) (m.1 tells) (m.2.disagrees (sym k.status ∙ is)))
 
   -- a task that finds a disagreement: of vectors, or of two files
   abbrev FindsOne : Task → Type 0

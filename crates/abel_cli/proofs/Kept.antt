@@ -1,6 +1,6 @@
 -- A run keeps its promises.
 use Rattle.std.proofs.Common.{◌≡◌, ℕ, ◌≤◌, ◌⊎◌, List, [], ◌∷◌, ◌++◌, get_or, map, Option, Some, None, refl, sym, ◌∙◌, ap, subst, inl, inr, arith, unwrap_or}
-use Rattle.abel_cli.proofs.Common.{none-some, Map, bytes_at, Asked, Heard, HasRisen, HasStayed, table_of, Ending, Output, memory_line, file_fault, Puts, TakesFront, TakesFrontAndMemory, MeansOn, IsMeant, EndsAsCalled, EndsInFileFault, LeavesFiles, Promises, HasCompiled, IsRightOrOld, IsRight, Ends, Means, CallsFor, IsCalledFor, Comes, Runs, written, listed, source_at, Command, Task, Compile, ListSource, Simulate, Check, Demo, Decompile, Compare, IsCompile, command_of}
+use Rattle.abel_cli.proofs.Common.{none-some, Map, bytes_at, Asked, Heard, HasRisen, HasStayed, file_table, Ending, Output, memory_line, file_fault, Puts, TakesFront, TakesFrontAndMemory, MeansOn, IsMeant, EndsAsCalled, EndsInFileFault, LeavesFiles, Promises, HasCompiled, IsRightOrOld, IsRight, Ends, Means, CallsFor, IsCalledFor, Comes, Runs, written, listed, source_at, Command, Task, Compile, ListSource, Simulate, Check, Demo, Decompile, Compare, IsCompile, command_of}
 use Rattle.abel_compile.specs.declared.compiled.Compiled.{Compiled}
 use Rattle.abel_compile.specs.Correct.{IsCompiled}
 use Rattle.abel_commands.proofs.CheckMeaning.{check_means}
@@ -16,11 +16,11 @@ use Rattle.abel_commands.proofs.SourceMeaning.{source_means}
 means : (task : Task) (sources : List (List ℕ)) (e : Ending) → Ends task sources e → Means task sources e
 means (Compile o) sources e ends = source_means (source_at sources 0) (written o) (λ c. refl) e ends
 means ListSource sources e ends = source_means (source_at sources 0) listed (λ c. refl) e ends
-means (Simulate d) sources e ends = simulate_means (table_of d) (source_at sources 0) e ends
-means (Check d) sources e ends = check_means (table_of d) (source_at sources 0) e ends
+means (Simulate d) sources e ends = simulate_means (file_table d (source_at sources 0)) (source_at sources 0) e ends
+means (Check d) sources e ends = check_means (file_table d (source_at sources 0)) (source_at sources 0) e ends
 means (Demo n) sources e ends = demo_means n e ends
-means (Decompile d) sources e ends = decompile_means (table_of d) (source_at sources 0) e ends
-means (Compare d) sources e ends = compare_means (table_of d) (source_at sources 0) (source_at sources 1) e ends
+means (Decompile d) sources e ends = decompile_means (file_table d (source_at sources 0)) (source_at sources 0) e ends
+means (Compare d) sources e ends = compare_means (file_table d (source_at sources 0)) (source_at sources 0) (source_at sources 1) e ends
 
 low : (task : Task) (sources : List (List ℕ)) (e : Ending) → Means task sources e → e.status ≤ 5
 low (Compile o) sources e m = let is = m.statuses in omega (arith, is)

@@ -6,6 +6,7 @@ pub use Rattle.abel_commands.specs.Sources.{source_at, sources_seen, texts}
 pub use Rattle.abel_commands.specs.View.{command_seen, ending_seen, task_seen, view}
 pub use Rattle.abel_commands.specs.Words.{Check, Command, Compare, Compile, Decompile, Demo, IsCompile, IsInput, IsNoCommand, ListSource, Simulate, Task}
 pub use Rattle.abel_commands.specs.Words.{command_of, source_count}
-pub use Rattle.devices.specs.Devices.{table_of}
+pub use Rattle.devices.specs.Models.{table_at}
+pub use Rattle.file_models.specs.FileModels.{file_table}
 pub use Rattle.outside.specs.Causes.{Begins, Rose}
 pub use Rattle.outside.specs.Outside.{Map, SameBut, SameFiles, bytes_at}

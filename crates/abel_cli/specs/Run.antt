@@ -1,6 +1,6 @@
 -- A run of the program as a whole (this project's rule).
 use Rattle.std.specs.Prelude.{◌≡◌, ℕ, ◌⊎◌, List, Option, Some, None}
-use Rattle.abel_cli.specs.Prelude.{Map, SameFiles, SameBut, HasRisen, HasStayed, table_of, Ending, memory_line, usage_ending, file_fault, source_at, Command, Task, Compile, ListSource, Simulate, Check, Demo, Decompile, Compare, command_of, IsInput, IsNoCommand}
+use Rattle.abel_cli.specs.Prelude.{Map, SameFiles, SameBut, HasRisen, HasStayed, file_table, Ending, memory_line, usage_ending, file_fault, source_at, Command, Task, Compile, ListSource, Simulate, Check, Demo, Decompile, Compare, command_of, IsInput, IsNoCommand}
 use Rattle.abel_cli.specs.Call.{Asked, Heard}
 use Rattle.abel_commands.specs.CheckCommand.{CheckEnds, CheckMeans}
 use Rattle.abel_commands.specs.CompareCommand.{CompareEnds, CompareMeans}
@@ -17,21 +17,21 @@ use Rattle.abel_cli.specs.Sources.{sources_of}
 abbrev pub Ends : Task → (sources : List (List ℕ)) → Ending → Type 0
 Ends (Compile output) sources e = SourceEnds (source_at sources 0) (written output) e
 Ends ListSource sources e = SourceEnds (source_at sources 0) listed e
-Ends (Simulate device) sources e = SimulateEnds (table_of device) (source_at sources 0) e
-Ends (Check device) sources e = CheckEnds (table_of device) (source_at sources 0) e
+Ends (Simulate device) sources e = SimulateEnds (file_table device (source_at sources 0)) (source_at sources 0) e
+Ends (Check device) sources e = CheckEnds (file_table device (source_at sources 0)) (source_at sources 0) e
 Ends (Demo seed) sources e = DemoEnds seed e
-Ends (Decompile device) sources e = DecompileEnds (table_of device) (source_at sources 0) e
-Ends (Compare device) sources e = CompareEnds (table_of device) (source_at sources 0) (source_at sources 1) e
+Ends (Decompile device) sources e = DecompileEnds (file_table device (source_at sources 0)) (source_at sources 0) e
+Ends (Compare device) sources e = CompareEnds (file_table device (source_at sources 0)) (source_at sources 0) (source_at sources 1) e
 
 -- what that means
 abbrev pub Means : Task → (sources : List (List ℕ)) → Ending → Type 0
 Means (Compile output) sources e = SourceMeans (source_at sources 0) (written output) e
 Means ListSource sources e = SourceMeans (source_at sources 0) listed e
-Means (Simulate device) sources e = SimulateMeans (table_of device) (source_at sources 0) e
-Means (Check device) sources e = CheckMeans (table_of device) (source_at sources 0) e
+Means (Simulate device) sources e = SimulateMeans (file_table device (source_at sources 0)) (source_at sources 0) e
+Means (Check device) sources e = CheckMeans (file_table device (source_at sources 0)) (source_at sources 0) e
 Means (Demo seed) sources e = DemoMeans seed e
-Means (Decompile device) sources e = DecompileMeans (table_of device) (source_at sources 0) e
-Means (Compare device) sources e = CompareMeans (table_of device) (source_at sources 0) (source_at sources 1) e
+Means (Decompile device) sources e = DecompileMeans (file_table device (source_at sources 0)) (source_at sources 0) e
+Means (Compare device) sources e = CompareMeans (file_table device (source_at sources 0)) (source_at sources 0) (source_at sources 1) e
 
 -- ---- whatever the task
 

@@ -15,7 +15,7 @@ pub use Rattle.device_logic.specs.declared.fault.SimFault.TheVariants.{DeviceLoo
 pub use Rattle.device_sim.specs.Simulated.{IsSimFault, IsSimulated, IsTheOnlyList, first_unsupported}
 pub use Rattle.device_sim.specs.declared.report.Mismatch.{Mismatch}
 pub use Rattle.device_sim.specs.declared.report.Report.{Report}
-pub use Rattle.devices.specs.Devices.{table_of}
+pub use Rattle.devices.specs.Models.{table_at}
 pub use Rattle.fuse_compare.specs.Alike.{AreAlike, DifferAs, IsDifference, RunsAlike}
 pub use Rattle.fuse_compare.specs.declared.difference.Difference.{Difference}
 pub use Rattle.jedec_file.specs.FieldLists.{fields_of, pieces}
@@ -38,6 +38,7 @@ pub use Rattle.pld_base.specs.Bits.{is_on}
 unfoldable pub use Rattle.pld_base.specs.Bits.{bits}
 pub use Rattle.pld_base.specs.DeviceNames.{device_text, named_device}
 pub use Rattle.pld_base.specs.declared.device_name.DeviceName.{DeviceName}
+pub use Rattle.pld_base.specs.declared.model.Model.{Model}
 pub use Rattle.pld_device.specs.Macrocells.{device_logic}
 pub use Rattle.pld_device.specs.Table.{Table, cell_at}
 pub use Rattle.reports.specs.Summary.{design_cells, summary_of}

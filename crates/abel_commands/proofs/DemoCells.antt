@@ -1,6 +1,6 @@
 -- The number of cells in a summary.
 use Rattle.std.proofs.Common.{◌≡◌, ℕ, ◌+◌, ◌^◌, ◌<◌, Bool, true, List, [], ◌∷◌, ◌++◌, length, take, drop, refl, ap, ◌∙◌, append_assoc, arith, codes, is_some}
-use Rattle.abel_commands.proofs.Common.{is_ascii_digit, decimal, list_all, prefix_len, range_with_len, length-append, length-range_with_len, DeviceName, device_text, Table, four_hex, fuse_sum_of, design_cells, products_used, summary_of, table_of}
+use Rattle.abel_commands.proofs.Common.{is_ascii_digit, decimal, list_all, prefix_len, range_with_len, length-append, length-range_with_len, Model, device_text, Table, four_hex, fuse_sum_of, design_cells, products_used, summary_of, table_at}
 use Rattle.std.proofs.lemmas.Fmt.{digits_decimal}
 use Rattle.std.proofs.lemmas.List.Sums.{count_by-le-length}
 use Rattle.std.proofs.Math.Seq.{drop-append_seam, take-append_seam}
@@ -8,7 +8,7 @@ use Rattle.pld_device.specs.OpenedFuses.{opened_of}
 use Rattle.abel_tree.specs.Tree.{ModuleTree}
 use Rattle.abel_meaning.specs.Controls.{signal_on}
 use Rattle.abel_meaning.specs.Designs.{design_of}
-use Rattle.devices.specs.DeviceLaws.{table_sound}
+use Rattle.devices.specs.Models.{model_sound}
 use Rattle.abel_commands.proofs.Seeds.{digits_are}
 
 -- ---- digits after a front, and then a blank
@@ -62,10 +62,10 @@ module _ (t : Table) (cells : ℕ) (fuses : List Bool) (low : cells < 2 ^ 64) wh
 
 -- ---- a module assigns few cells
 
-few_of : (device : DeviceName) → length (table_of device).cells < 2 ^ 64
-few_of device = let few = (table_sound device).sizes.few_cells in omega (arith, few)
+few_of : (device : Model) → length (table_at device).cells < 2 ^ 64
+few_of device = let few = (model_sound device).sizes.few_cells in omega (arith, few)
 
-pub few_cells : (device : DeviceName) (m : ModuleTree) → design_cells (design_of (table_of device) m).context < 2 ^ 64
+pub few_cells : (device : Model) (m : ModuleTree) → design_cells (design_of (table_at device) m).context < 2 ^ 64
 few_cells device m =
-    let counted = count_by-le-length (λ c. is_some (signal_on (design_of (table_of device) m).context c)) (range_with_len 0 (length (table_of device).cells)) in
-    omega (arith, counted, length-range_with_len 0 (length (table_of device).cells), few_of device)
+    let counted = count_by-le-length (λ c. is_some (signal_on (design_of (table_at device) m).context c)) (range_with_len 0 (length (table_at device).cells)) in
+    omega (arith, counted, length-range_with_len 0 (length (table_at device).cells), few_of device)

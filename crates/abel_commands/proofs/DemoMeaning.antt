@@ -1,6 +1,6 @@
 -- What the endings of `demo` mean.
 use Rattle.std.proofs.Common.{◌≡◌, ◌≢◌, ℕ, ◌≤◌, List, [], length, refl, sym, subst, inl, inr, arith}
-use Rattle.abel_commands.proofs.Common.{Mismatch, Compiled, IsCompiled, table_of, DemoEnds, DemoMeans, IsFileRun, cells_of, Ending, ends, limit, IsRefused, IsUnfit}
+use Rattle.abel_commands.proofs.Common.{Mismatch, Compiled, IsCompiled, table_at, DemoEnds, DemoMeans, IsFileRun, cells_of, Ending, ends, limit, IsRefused, IsUnfit}
 use Rattle.demo_source.specs.SourceText.{IsDemoSource}
 use Rattle.abel_commands.proofs.SourceMeaning.{compiled_not_refused, unfit_not_refused, fits_not_refused, fits_not_unfit}
 
@@ -9,7 +9,7 @@ module _ (seed : ℕ) (text : List ℕ) (source : IsDemoSource seed text) where
 
   module _ (within : length text ≤ limit) (c : Compiled) (right : IsCompiled text c) (report : List ℕ) where
     abbrev Ran : List Mismatch → Type 0
-    Ran list = IsFileRun seed (cells_of text c right) (table_of c.device) c.file.items list report
+    Ran list = IsFileRun seed (cells_of text c right) (table_at c.device) c.file.items list report
 
     agreed : Ran [] → DemoMeans seed (ends 0 report)
     agreed ran = record {

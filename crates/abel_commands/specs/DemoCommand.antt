@@ -1,6 +1,6 @@
 -- `demo N`: how it ends, and what that means (this project's rule).
 use Rattle.std.specs.Prelude.{◌≡◌, ◌≢◌, ℕ, ◌≤◌, ◌⊎◌, List, [], ◌++◌, length, codes, Ok, None}
-use Rattle.abel_commands.specs.Prelude.{decimal, Table, four_hex, FuseFile, file_of, fuse_sum_of, design_cells, Mismatch, CanBeSimulated, IsTheOnlyList, Compiled, IsCompiled, table_of}
+use Rattle.abel_commands.specs.Prelude.{decimal, Table, four_hex, FuseFile, file_of, fuse_sum_of, design_cells, Mismatch, CanBeSimulated, IsTheOnlyList, Compiled, IsCompiled, table_at}
 use Rattle.abel_meaning.specs.Designs.{design_of}
 use Rattle.demo_source.specs.SourceText.{IsDemoSource}
 use Rattle.abel_commands.specs.Ending.{Ending, ends, too_long_line}
@@ -52,20 +52,20 @@ FileEnds seed cells t bytes e =
 
 -- the cells that the placed module of a compiled source assigns
 abbrev pub cells_of : (text : List ℕ) (c : Compiled) → IsCompiled text c → ℕ
-cells_of text c is = design_cells (design_of (table_of c.device) is.right.placed).context
+cells_of text c is = design_cells (design_of (table_at c.device) is.right.placed).context
 
 -- so of a source: it is compiled, and its file is run
 pub record IsDemoRun (seed : ℕ) (text : List ℕ) (list : List Mismatch) (report : List ℕ) : Type 0 where
   pub compiled : Compiled
   pub right : IsCompiled text compiled
-  pub ran : IsFileRun seed (cells_of text compiled right) (table_of compiled.device) compiled.file.items list report
+  pub ran : IsFileRun seed (cells_of text compiled right) (table_at compiled.device) compiled.file.items list report
 
 -- ---- endings
 
 -- how it ends with a source within the limit
 abbrev pub DemoEndsWithin : (seed : ℕ) → (text : List ℕ) → Ending → Type 0
 DemoEndsWithin seed text e =
-    ((c : Compiled) × (is : IsCompiled text c) × FileEnds seed (cells_of text c is) (table_of c.device) c.file.items e)
+    ((c : Compiled) × (is : IsCompiled text c) × FileEnds seed (cells_of text c is) (table_at c.device) c.file.items e)
     ⊎ EndsUncompiled text e
 
 -- how it ends with a source

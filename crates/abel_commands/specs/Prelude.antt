@@ -9,7 +9,8 @@ pub use Rattle.device_logic.specs.ResetPaths.{HasNoResetPath, IsResetPath}
 pub use Rattle.device_logic.specs.declared.fault.SimFault.{SimFault}
 pub use Rattle.device_sim.specs.Simulated.{CanBeSimulated, IsSimFault, IsSimulated, IsTheOnlyList, first_unsupported}
 pub use Rattle.device_sim.specs.declared.report.Mismatch.{Mismatch}
-pub use Rattle.devices.specs.Devices.{table_of}
+pub use Rattle.devices.specs.Models.{table_at}
+pub use Rattle.file_models.specs.FileModels.{file_table}
 pub use Rattle.jedec_file.specs.FileText.{four_hex, level_char}
 pub use Rattle.jedec_file.specs.FuseFile.{FuseFile}
 unfoldable pub use Rattle.jedec_file.specs.FuseFile.{file_of}

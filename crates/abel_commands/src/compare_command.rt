@@ -1,7 +1,7 @@
 //! `compare DEVICE A B`.
 
 ghost use Rattle.std.specs.Prelude.{◌≡◌, ◌≤◌, ℕ, IfOk, List, length};
-ghost use Rattle.abel_commands.specs.Prelude.{table_of, contents};
+ghost use Rattle.abel_commands.specs.Prelude.{contents, file_table, table_at};
 ghost use Rattle.abel_commands.specs.Limit.{limit};
 ghost use Rattle.abel_commands.specs.CompareCommand.{CompareEnds};
 ghost use Rattle.abel_commands.specs.FuseFiles.{IsFileOf};
@@ -11,10 +11,11 @@ use crate::compared_line::{differ_line, same_line};
 use crate::ending::Ending;
 use crate::sim_fault_line::sim_fault_line;
 use crate::taken::{Taken, take_file};
-use devices::loaded;
+use devices::loaded_at;
+use file_models::model_of;
 use fuse_compare::compare;
 use jedec_reader::FuseFile;
-use pld_base::{DeviceName, OutOfMemory};
+use pld_base::{DeviceName, Model, OutOfMemory};
 use pld_device::{Device, Loaded};
 use std::alloc::Global;
 use std::marker::Brand;
@@ -39,19 +40,19 @@ fn ending_of<'a, D: Device>(
     }
 }
 
-/// How `compare` ends with the bytes of two files as fuse files of the device of this name.
+/// How `compare` ends with the bytes of two files as fuse files of the device of this model.
 fn ending_for<'a, D: Device>(
     alloc: Global,
-    name: DeviceName,
+    model: Model,
     a: &[u8],
     b: &[u8],
 ) -> Result<Ending<'a>, OutOfMemory>
-    requires table { table_of name ≡ D.table }
+    requires table { table_at model ≡ D.table }
     requires first { length a.now ≤ limit }
     requires second { length b.now ≤ limit }
     ensures { IfOk result (λ e. CompareEnds D.table a.now b.now (ending_seen e)) }
 {
-    let device = loaded::<D>(name);
+    let device = loaded_at::<D>(model);
     let first = match take_file::<D>(alloc, &device, a)? {
         Taken::File(file) => file,
         Taken::Refused(line) => return Ok(Ending::plain(4, line)),
@@ -63,7 +64,7 @@ fn ending_for<'a, D: Device>(
     ending_of::<D>(alloc, &device, &first, &second)
 }
 
-/// The same for each name.
+/// The same for each name, in the mode that the fuses of the first file say.
 pub fn compare_ending<'a>(
     alloc: Global,
     device: DeviceName,
@@ -72,7 +73,8 @@ pub fn compare_ending<'a>(
 ) -> Result<Ending<'a>, OutOfMemory>
     requires first { length a.now ≤ limit }
     requires second { length b.now ≤ limit }
-    ensures { IfOk result (λ e. CompareEnds (table_of device) a.now b.now (ending_seen e)) }
+    ensures { IfOk result (λ e. CompareEnds (file_table device a.now) a.now b.now (ending_seen e)) }
 {
-    ending_for::<Brand>(alloc, device, a, b)
+    let model = model_of(alloc, device, a)?;
+    ending_for::<Brand>(alloc, model, a, b)
 }

@@ -1,7 +1,7 @@
 //! `demo N`.
 
 ghost use Rattle.std.specs.Prelude.{◌≡◌, ◌<◌, ◌≤◌, ◌^◌, ℕ, Bool, List, IfOk, Ok, length};
-ghost use Rattle.abel_commands.specs.Prelude.{CanBeSimulated, IsSimulated, IsTheOnlyList, file_of, contents, summary_of, table_of};
+ghost use Rattle.abel_commands.specs.Prelude.{CanBeSimulated, IsSimulated, IsTheOnlyList, file_of, contents, summary_of, table_at};
 ghost use Rattle.abel_commands.specs.DemoCommand.{CanBeRun, DemoEnds, DemoEndsWithin, FileEnds};
 ghost use Rattle.abel_commands.specs.Limit.{limit};
 ghost use Rattle.abel_commands.specs.View.{ending_seen};
@@ -13,10 +13,10 @@ use crate::sources::LIMIT;
 use abel_compile::compile;
 use demo_source::demo_text;
 use device_sim::{Report, SimFault, simulate};
-use devices::loaded;
+use devices::loaded_at;
 use jedec_file::{JedecFault, fuse_sum};
 use jedec_reader::{FuseFile, read};
-use pld_base::{DeviceName, OutOfMemory};
+use pld_base::{Model, OutOfMemory};
 use pld_device::{Device, Loaded};
 use std::alloc::Global;
 use std::marker::Brand;
@@ -60,21 +60,21 @@ fn run_of<D: Device>(
     }
 }
 
-/// How a demo ends with the fuse file and the summary of its source, for the device of this name: the file is read back, and
+/// How a demo ends with the fuse file and the summary of its source, for this device in its mode: the file is read back, and
 /// its vectors are run.
 fn ending_for<'a, D: Device>(
     alloc: Global,
     seed: u16,
-    name: DeviceName,
+    device: Model,
     bytes: &[u8],
     summary: &[u8],
 ) -> Result<Ending<'a>, OutOfMemory>
-    requires table { table_of name ≡ D.table }
+    requires table { table_at device ≡ D.table }
     requires can { CanBeRun D.table bytes.now }
     ensures { (cells : ℕ) (fuses : List Bool) → cells < 2 ^ 64 → summary.now ≡ summary_of D.table cells fuses
         → IfOk result (λ e. FileEnds seed cells D.table bytes.now (ending_seen e)) }
 {
-    let device = loaded::<D>(name);
+    let device = loaded_at::<D>(device);
     let file = read_back::<D>(alloc, &device, bytes)?;
     let report = run_of::<D>(alloc, &device, &file)?;
     let cells = cells_told::<D>(&device, summary);
