@@ -16,6 +16,8 @@ fn put_enable(enable: Enable, found: &mut Found) {
             found.number(usize::from(pin));
             found.text(" low");
         }
+        Enable::Driven => found.text("always"),
+        Enable::Released => found.text("never"),
     }
 }
 

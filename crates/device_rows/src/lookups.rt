@@ -1,14 +1,15 @@
 //! What devices say of their cells, pairs and rows.
 
 ghost use Rattle.std.specs.Prelude.{◌≡◌};
-ghost use Rattle.devices.specs.Devices.{table_of};
+ghost use Rattle.devices.specs.Models.{table_at};
 
 use crate::asked::{Ask, ask_rows};
 use crate::cells::{put_cell, put_fixed, put_low_pin, put_pair, put_pair_pin, put_switch};
+use crate::model_words::model_named;
 use crate::numbers::put_named;
 use crate::sample::sample_device;
-use devices::loaded;
-use pld_base::DeviceName;
+use devices::loaded_at;
+use pld_base::Model;
 use pld_device::{Device, Loaded, Sample};
 use std::alloc::Global;
 use std::marker::Brand;
@@ -94,17 +95,17 @@ impl<'a, D: Device> Ask for LookUp<'a, D> {
     }
 }
 
-/// Asks the device of a name.
-fn ask_named<D: Device>(
+/// Asks the device of a model.
+fn ask_model<D: Device>(
     alloc: Global,
-    name: DeviceName,
+    model: Model,
     question: Question,
     section: &Section<'_>,
     report: &mut Report<'_>,
 )
-    requires table { table_of name ≡ D.table }
+    requires table { table_at model ≡ D.table }
 {
-    let device = loaded::<D>(name);
+    let device = loaded_at::<D>(model);
     let mut look_up = LookUp::<D> {
         device: &device,
         question,
@@ -112,7 +113,7 @@ fn ask_named<D: Device>(
     ask_rows(alloc, section.rows.as_slice(), &mut look_up, report);
 }
 
-/// Asks the device that a section's name ends with.
+/// Asks the device with whose words a section's name ends.
 pub fn ask_devices(alloc: Global, section: &Section<'_>, report: &mut Report<'_>) -> bool {
     let Some((words, device)) = section.name.split_once(" of the ") else {
         return false;
@@ -129,9 +130,9 @@ pub fn ask_devices(alloc: Global, section: &Section<'_>, report: &mut Report<'_>
         ask_rows(alloc, section.rows.as_slice(), &mut look_up, report);
         return true;
     }
-    match DeviceName::named(device.as_bytes()) {
-        Some(name) => {
-            ask_named::<Brand>(alloc, name, question, section, report);
+    match model_named(device) {
+        Some(model) => {
+            ask_model::<Brand>(alloc, model, question, section, report);
             true
         }
         None => false,

@@ -14,6 +14,7 @@ mod listings;
 mod loading;
 mod lookups;
 mod memory_files;
+mod model_words;
 mod numbers;
 mod pins;
 mod reading;

@@ -64,7 +64,7 @@ pub fn put_held(found: &mut Found, made: &Compiled, lines: &str, between: char) 
 
 /// Whether the vectors of a file agree on the device with its fuses.
 pub fn agrees(alloc: Global, made: &Compiled) -> bool {
-    let Ok(line) = format!(in alloc; "simulate {} f", made.device.text()) else {
+    let Ok(line) = format!(in alloc; "simulate {} f", made.device.name.text()) else {
         return false;
     };
     match run_line(alloc, line.as_str(), ("f", &made.file), (0, 0)) {

@@ -32,12 +32,13 @@ fn put_row(text: &mut Found, columns: usize, row: &str) {
 }
 
 // What of a command tells a device of other fuses than a PAL16's, with these and its columns. The first that fits counts.
-const SIZES: [(&str, &str, usize); 9] = [
+const SIZES: [(&str, &str, usize); 10] = [
     ("22V10C", "5893", 44),
     ("22V10", "5892", 44),
     ("22v10", "5892", 44),
     ("18V10", "3540", 36),
     ("16V8", "2194", 32),
+    ("20V8", "2706", 40),
     ("16P8", "2056", 32),
     ("18P8", "2600", 36),
     ("20L10", "1600", 40),

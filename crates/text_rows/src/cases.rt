@@ -2,7 +2,7 @@
 
 use crate::attribute_sets::attribute_set;
 use crate::named_ranges::range;
-use crate::{copies, declared, expanded, long_texts, nests, parsed, scanned, told, warned};
+use crate::{copies, declared, expanded, long_texts, models, nests, parsed, scanned, told, warned};
 use std::alloc::{AllocError, Global};
 use test_rows::{Found, Report, Row, Section, halves, unescaped};
 
@@ -72,6 +72,7 @@ fn case_of(alloc: Global, kind: &str, text: &str) -> Option<Case> {
         "Sources without a device" => declared::without_device(alloc, text),
         "Declared names" => declared::names(alloc, text),
         "Refused names" => declared::refused(alloc, text),
+        "Models" => models::models(alloc, text),
         _ => parsed::outlined(alloc, kind, text),
     }
 }

@@ -133,7 +133,7 @@ pub fn without_device(alloc: Global, text: &str) -> Option<Case> {
 }
 
 /// A source of the form `DEVICE DECLARATIONS` as a whole.
-fn whole(alloc: Global, text: &str) -> Option<Found> {
+pub fn whole(alloc: Global, text: &str) -> Option<Found> {
     let (device, declarations) = text.split_once(' ')?;
     let mut source = framed(alloc, "module m u device '", device.as_bytes(), "'; ");
     source.put(unescaped(alloc, declarations)?.as_slice());

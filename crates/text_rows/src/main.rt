@@ -12,6 +12,7 @@ mod expression_outlines;
 mod faults;
 mod long_sources;
 mod long_texts;
+mod models;
 mod named_ranges;
 mod nests;
 mod outlines;
