@@ -1,0 +1,2 @@
+pub mod PhaseOutsides
+pub mod Told
