@@ -3,5 +3,4 @@ pub mod Disagreements
 pub mod Equations
 pub mod Escaped
 pub mod Pieces
-pub mod PinNames
 pub mod Unescaped

@@ -7,7 +7,6 @@ use crate::array_rows::put_array_row;
 use crate::control_fuses::put_control_fuses;
 use crate::drawn_design::Design;
 use crate::page::{Page, Piece};
-use crate::pins::name_bytes;
 use crate::rows::cell_of_row;
 use fuse_listing::cell_of;
 use pld_base::OutOfMemory;
@@ -63,7 +62,7 @@ fn put_group<D: Device>(
                 Piece::Markup("pin "),
                 Piece::Number(usize::from(pin)),
                 Piece::Markup(" "),
-                Piece::Text(name_bytes(design, pin)),
+                Piece::Text(design.model.label(pin)),
             ])?;
             put_control_fuses::<D>(device, page, design, cell)?;
         }

@@ -11,7 +11,7 @@ use pld_base::OutOfMemory;
 use pld_device::{Device, Loaded};
 
 /// What a column carries, as a literal.
-fn literal<'a, D: Device>(
+pub fn literal<'a, D: Device>(
     device: &'a Loaded<D>,
     design: Design<'a>,
     column: u16,

@@ -1,28 +1,27 @@
 //! The table of the cells.
 
-ghost use Rattle.std.specs.Prelude.{◌≡◌, ◌<◌, ◌++◌, OnOk, length};
+ghost use Rattle.std.specs.Prelude.{◌≡◌, ◌++◌, IfOk, OnOk};
 ghost use Rattle.abel_tree.specs.Entries.{entries_of};
 ghost use Rattle.fuse_listing.specs.Listing.{row_text};
 ghost use Rattle.design_drawings.specs.Escaped.{escaped};
 
 use crate::drawn_design::Design;
-use crate::drawn_equations::lowers;
+use crate::labels::put_behind;
 use crate::page::{Page, Piece};
-use crate::pins::{is_assigned, is_register, name_bytes};
-use crate::rows::rows_in_use;
-use fuse_listing::{Burned, cell_of, name_on, put_row, stores};
+use crate::pin_words::put_levels;
+use fuse_listing::{Burned, put_row};
+use page_model::{CellFacts, Drives};
 use pld_base::OutOfMemory;
-use pld_device::{Device, Enable, Loaded};
+use pld_device::{Device, Loaded};
 
-/// Writes a row of the array as a product, or 0.
-pub fn put_product<'a, D: Device>(
+/// A row of the array as a product, or 0.
+fn product_of<'a, D: Device>(
     device: &'a Loaded<D>,
-    page: &mut Page,
     design: Design<'a>,
     row: u16,
-) -> Result<(), OutOfMemory>
-    ensures { OnOk result (page.new ≡ page.old
-        ++ escaped (row_text D.table design.entry.file.now.fuses (entries_of design.entry.names.now) row)) }
+) -> Result<Vec<u8>, OutOfMemory>
+    ensures { IfOk result (λ product. product.items
+        ≡ row_text D.table design.entry.file.now.fuses (entries_of design.entry.names.now) row) }
 {
     let burned = Burned {
         device,
@@ -31,11 +30,44 @@ pub fn put_product<'a, D: Device>(
     };
     let mut product = Vec::new(design.alloc);
     put_row::<D>(design.alloc, &mut product, &burned, row)?;
+    Ok(product)
+}
+
+/// Writes a row of the array as a product, or 0.
+pub fn put_product<D: Device>(
+    device: &Loaded<D>,
+    page: &mut Page,
+    design: Design,
+    row: u16,
+) -> Result<(), OutOfMemory>
+    ensures { OnOk result (page.new ≡ page.old
+        ++ escaped (row_text D.table design.entry.file.now.fuses (entries_of design.entry.names.now) row)) }
+{
+    let product = product_of::<D>(device, design, row)?;
     page.put(&[Piece::Text(&product)])
 }
 
+/// Writes a row as a condition: a product, or in a word that it is always or never so.
+fn put_condition<D: Device>(
+    device: &Loaded<D>,
+    page: &mut Page,
+    design: Design,
+    row: u16,
+) -> Result<(), OutOfMemory> {
+    let product = product_of::<D>(device, design, row)?;
+    match product.as_slice() {
+        [b'0'] => page.put(&[Piece::Markup("never")]),
+        [b'1'] => page.put(&[Piece::Markup("always")]),
+        literals => page.put(&[
+            Piece::Markup("<code>"),
+            Piece::Text(literals),
+            Piece::Markup("</code>"),
+        ]),
+    }
+}
+
 /// Writes how much of a cell's room is used, as a bar and in numbers.
-fn put_use(page: &mut Page, used: usize, room: u8) -> Result<(), OutOfMemory> {
+fn put_room(page: &mut Page, used: usize, room: u8) -> Result<(), OutOfMemory> {
     let room = usize::from(room);
     page.put(&[
         Piece::Markup(
@@ -58,57 +90,45 @@ fn put_use(page: &mut Page, used: usize, room: u8) -> Result<(), OutOfMemory> {
     ])
 }
 
-/// Writes what enables a cell.
+/// Writes when a cell drives its pin.
 fn put_enable<D: Device>(
     device: &Loaded<D>,
     page: &mut Page,
     design: Design,
-    cell: u8,
-) -> Result<(), OutOfMemory>
-    requires { cell < length D.table.cells }
-{
-    page.put(&[Piece::Markup("<td><code>")])?;
-    match cell_of::<D>(device, cell).enable {
-        Enable::Row(row) => put_product::<D>(device, page, design, row)?,
-        Enable::PinLow(pin) => {
-            let name = name_bytes(design, pin);
-            if name.is_empty() {
-                page.put(&[Piece::Markup("!pin"), Piece::Number(usize::from(pin))])?;
-            } else {
-                page.put(&[
-                    Piece::Markup("pin "),
-                    Piece::Number(usize::from(pin)),
-                    Piece::Markup(" low ("),
-                    Piece::Text(name),
-                    Piece::Markup(")"),
-                ])?;
-            }
+    drives: Drives,
+) -> Result<(), OutOfMemory> {
+    page.put(&[Piece::Markup("<td>")])?;
+    match drives {
+        Drives::Never => page.put(&[Piece::Markup("never")])?,
+        Drives::Always => page.put(&[Piece::Markup("always")])?,
+        Drives::ByRow(row) => put_condition::<D>(device, page, design, row)?,
+        Drives::WhileLow(pin) => {
+            page.put(&[Piece::Markup("while pin "), Piece::Number(usize::from(pin))])?;
+            put_behind(page, design.model.label(pin))?;
+            page.put(&[Piece::Markup(" is low")])?;
         }
     }
-    page.put(&[Piece::Markup("</code></td>")])
+    page.put(&[Piece::Markup("</td>")])
 }
 
-/// Writes the row that all registers share, for a cell that is one.
+/// Writes the row that all registers share, for a cell that may be one.
 fn put_shared<D: Device>(
     device: &Loaded<D>,
     page: &mut Page,
     design: Design,
-    cell: u8,
+    is_register: bool,
     row: Option<u16>,
-) -> Result<(), OutOfMemory>
-    requires { cell < length D.table.cells }
-{
+) -> Result<(), OutOfMemory> {
+    page.put(&[Piece::Markup("<td>")])?;
     match row {
-        Some(row) if is_register::<D>(device, design, cell) => {
-            page.put(&[Piece::Markup("<td><code>")])?;
-            put_product::<D>(device, page, design, row)?;
-            page.put(&[Piece::Markup("</code></td>")])
-        }
-        _ => page.put(&[Piece::Markup("<td>–</td>")]),
+        Some(row) => put_condition::<D>(device, page, design, row)?,
+        None if is_register => page.put(&[Piece::Markup("has none")])?,
+        None => page.put(&[Piece::Markup("–")])?,
     }
+    page.put(&[Piece::Markup("</td>")])
 }
 
-/// Writes the name of a pin, if it has one.
+/// Writes the label of a pin, if it has one.
 fn put_name(page: &mut Page, name: &[u8]) -> Result<(), OutOfMemory> {
     if name.is_empty() {
         return page.put(&[Piece::Markup("<td></td>")]);
@@ -125,61 +145,52 @@ fn put_used<D: Device>(
     device: &Loaded<D>,
     page: &mut Page,
     design: Design,
-    cell: u8,
-) -> Result<(), OutOfMemory>
-    requires { cell < length D.table.cells }
-{
-    let found = cell_of::<D>(device, cell);
-    let levels = design.levels();
+    cell: CellFacts,
+) -> Result<(), OutOfMemory> {
     page.put(&[
-        Piece::Markup("<tr><th scope=\"row\">"),
-        Piece::Number(usize::from(found.pin)),
+        Piece::Markup("<tr id=\"p"),
+        Piece::Number(usize::from(cell.pin)),
+        Piece::Markup("\"><th scope=\"row\">"),
+        Piece::Number(usize::from(cell.pin)),
         Piece::Markup("</th>"),
     ])?;
-    put_name(page, name_bytes(design, found.pin))?;
+    put_name(page, design.model.label(cell.pin))?;
     page.put(&[
-        Piece::Markup("<td>"),
-        Piece::Markup(if stores::<D>(device, levels, cell) {
-            "registered"
+        Piece::Markup(if cell.is_register {
+            "<td>registered</td>"
         } else {
-            "combinational"
+            "<td>combinational</td>"
         }),
-        Piece::Markup("</td><td>"),
-        Piece::Markup(if lowers::<D>(device, design, cell) {
-            "inverted"
+        Piece::Markup(if cell.is_inverted {
+            "<td>inverted</td>"
         } else {
-            "direct"
+            "<td>direct</td>"
         }),
-        Piece::Markup("</td>"),
     ])?;
-    put_use(page, rows_in_use::<D>(device, design, cell), found.room)?;
-    put_enable::<D>(device, page, design, cell)?;
-    put_shared::<D>(device, page, design, cell, device.reset())?;
-    put_shared::<D>(device, page, design, cell, device.preset())?;
+    put_room(page, cell.used, cell.room)?;
+    put_enable::<D>(device, page, design, cell.drives)?;
+    put_shared::<D>(device, page, design, cell.is_register, cell.reset)?;
+    put_shared::<D>(device, page, design, cell.is_register, cell.preset)?;
     page.put(&[Piece::Markup("</tr>\n")])
 }
 
 /// Writes the line of a cell that nothing assigns.
-fn put_spare<D: Device>(
-    device: &Loaded<D>,
-    page: &mut Page,
-    design: Design,
-    cell: u8,
-) -> Result<(), OutOfMemory>
-    requires { cell < length D.table.cells }
-{
-    let found = cell_of::<D>(device, cell);
+fn put_spare(page: &mut Page, design: Design, cell: CellFacts) -> Result<(), OutOfMemory> {
     page.put(&[
         Piece::Markup("<tr class=\"dim\"><th scope=\"row\">"),
-        Piece::Number(usize::from(found.pin)),
+        Piece::Number(usize::from(cell.pin)),
         Piece::Markup("</th>"),
     ])?;
-    put_name(page, name_bytes(design, found.pin))?;
+    put_name(page, design.model.label(cell.pin))?;
     page.put(&[
         Piece::Markup("<td colspan=\"6\">not used, room for "),
-        Piece::Number(usize::from(found.room)),
-        Piece::Markup("</td></tr>\n"),
-    ])
+        Piece::Number(usize::from(cell.room)),
+    ])?;
+    if cell.drives != Drives::Never {
+        page.put(&[Piece::Markup("; drives its pin")])?;
+        put_levels(page, design.model, cell)?;
+    }
+    page.put(&[Piece::Markup("</td></tr>\n")])
 }
 
 /// Writes the table of the cells.
@@ -189,13 +200,13 @@ pub fn put_cells<D: Device>(
     design: Design,
 ) -> Result<(), OutOfMemory> {
     page.put(&[Piece::Markup(
-        "<div class=\"wide\" tabindex=\"0\"><table><caption>The cells, and how full they are</caption><thead><tr><th scope=\"col\">Pin</th><th scope=\"col\">Name</th><th scope=\"col\">Kind</th><th scope=\"col\">Polarity</th><th scope=\"col\">Products</th><th scope=\"col\">Enable</th><th scope=\"col\">Reset</th><th scope=\"col\">Preset</th></tr></thead><tbody>\n",
+        "<div class=\"wide\" tabindex=\"0\"><table><caption>The cells, and how full they are. Inverted: the pin has the complement of the cell's output.</caption><thead><tr><th scope=\"col\">Pin</th><th scope=\"col\">Name</th><th scope=\"col\">Kind</th><th scope=\"col\">Polarity</th><th scope=\"col\">Products</th><th scope=\"col\">Enable</th><th scope=\"col\">Reset</th><th scope=\"col\">Preset</th></tr></thead><tbody>\n",
     )])?;
-    for cell in 0..device.cells() {
-        if is_assigned(name_on(design.names, cell_of::<D>(device, cell).pin)) {
-            put_used::<D>(device, page, design, cell)?;
+    for cell in design.model.cells.as_slice() {
+        if cell.is_assigned {
+            put_used::<D>(device, page, design, *cell)?;
         } else {
-            put_spare::<D>(device, page, design, cell)?;
+            put_spare(page, design, *cell)?;
         }
     }
     page.put(&[Piece::Markup("</tbody></table></div>\n")])

@@ -5,7 +5,7 @@ ghost use Rattle.std.specs.Prelude.{◌<◌, length};
 use crate::drawn_design::Design;
 use crate::page::{Page, Piece};
 use pld_base::OutOfMemory;
-use pld_device::{Device, FuseBit, Loaded};
+use pld_device::{Device, Flip, FuseBit, Loaded};
 
 /// Writes a control fuse that is there: its number, its level, and what this says.
 fn put_fuse(
@@ -30,6 +30,26 @@ fn put_fuse(
     ])
 }
 
+/// What the polarity fuse of a cell says. Before a register it says what the register takes: the pin has the complement of Q.
+fn polarity_words<D: Device>(
+    device: &Loaded<D>,
+    design: Design,
+    cell: u8,
+) -> (&'static str, &'static str) {
+    let is_register = match design.model.cell(cell) {
+        Some(facts) => facts.is_register,
+        None => false,
+    };
+    if is_register && device.flip() == Flip::BeforeRegister {
+        (
+            "D is the sum of its rows",
+            "D is the complement of the sum of its rows",
+        )
+    } else {
+        ("inverted", "direct")
+    }
+}
+
 /// Writes the control fuses of a cell.
 pub fn put_control_fuses<D: Device>(
     device: &Loaded<D>,
@@ -39,7 +59,8 @@ pub fn put_control_fuses<D: Device>(
 ) -> Result<(), OutOfMemory>
     requires { cell < length D.table.cells }
 {
-    put_fuse(page, design, device.inverted_at(cell), "inverted", "direct")?;
+    let (yes, no) = polarity_words::<D>(device, design, cell);
+    put_fuse(page, design, device.inverted_at(cell), yes, no)?;
     put_fuse(
         page,
         design,

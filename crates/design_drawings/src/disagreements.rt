@@ -1,12 +1,10 @@
 //! The disagreements of a run, as a list.
 
 ghost use Rattle.std.specs.Prelude.{◌≡◌, ◌++◌, OnOk, flat_map, take};
-ghost use Rattle.abel_tree.specs.Entries.{entries_of};
 ghost use Rattle.design_drawings.specs.Disagreements.{level_words, listed, mismatch_item, mismatch_items};
 
 use crate::drawn_design::Design;
 use crate::page::{Page, Piece};
-use crate::pins::name_bytes;
 use device_sim::Mismatch;
 use pld_base::OutOfMemory;
 
@@ -26,7 +24,7 @@ fn level_word(char: u8) -> &'static str
 
 /// Writes a disagreement as a line of a list.
 fn put_mismatch(page: &mut Page, design: Design, seen: Mismatch) -> Result<(), OutOfMemory>
-    ensures { OnOk result (page.new ≡ page.old ++ mismatch_item (entries_of design.entry.names.now) seen) }
+    ensures { OnOk result (page.new ≡ page.old ++ mismatch_item design.entry.model.now.pins seen) }
 {
     page.put(&[
         Piece::Markup("<li>vector "),
@@ -34,7 +32,7 @@ fn put_mismatch(page: &mut Page, design: Design, seen: Mismatch) -> Result<(), O
         Piece::Markup(", pin "),
         Piece::Number(usize::from(seen.pin)),
         Piece::Markup(" <code>"),
-        Piece::Text(name_bytes(design, seen.pin)),
+        Piece::Text(design.model.label(seen.pin)),
         Piece::Markup("</code>: expected "),
         Piece::Markup(level_word(seen.expects)),
         Piece::Markup(", found "),
@@ -56,7 +54,7 @@ fn listed(list: &[Mismatch]) -> &[Mismatch]
 /// Writes disagreements, one after the other.
 fn put_items(page: &mut Page, design: Design, list: &[Mismatch]) -> Result<(), OutOfMemory>
     ensures { OnOk result (page.new
-        ≡ page.old ++ flat_map (mismatch_item (entries_of design.entry.names.now)) list.now) }
+        ≡ page.old ++ flat_map (mismatch_item design.entry.model.now.pins) list.now) }
 {
     for seen in list {
         put_mismatch(page, design, *seen)?;
@@ -66,7 +64,7 @@ fn put_items(page: &mut Page, design: Design, list: &[Mismatch]) -> Result<(), O
 
 /// Writes the first disagreements of a run, as lines of a list in the order of the run.
 pub fn put_mismatches(page: &mut Page, design: Design, list: &[Mismatch]) -> Result<(), OutOfMemory>
-    ensures { OnOk result (page.new ≡ page.old ++ mismatch_items (entries_of design.entry.names.now) list.now) }
+    ensures { OnOk result (page.new ≡ page.old ++ mismatch_items design.entry.model.now.pins list.now) }
 {
     put_items(page, design, listed(list))
 }
@@ -80,7 +78,9 @@ pub fn put_disagreements(
     if list.is_empty() {
         return Ok(());
     }
-    page.put(&[Piece::Markup("<h3>Disagreements</h3>\n<ul class=\"bad\">\n")])?;
+    page.put(&[Piece::Markup(
+        "<h3 id=\"disagreements\">Disagreements</h3>\n<ul class=\"bad\">\n",
+    )])?;
     put_mismatches(page, design, list)?;
     page.put(&[Piece::Markup("</ul>\n")])?;
     if list.len() > LISTED {

@@ -4,14 +4,16 @@ ghost use Rattle.std.specs.Prelude.{◌≡◌};
 
 use abel_tree::Names;
 use jedec_reader::FuseFile;
+use page_model::PageModel;
 use std::alloc::Global;
 
-/// A device's fuses and the names of its pins, as a source declares them.
+/// A device's fuses, the names of its pins as a source declares them, and what a page says of both.
 #[derive(Clone, Copy)]
 pub struct Design<'a> {
     pub alloc: Global,
     pub names: &'a Names,
     pub file: &'a FuseFile,
+    pub model: &'a PageModel,
 }
 
 impl<'a> Design<'a> {

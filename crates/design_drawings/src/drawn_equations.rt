@@ -10,7 +10,6 @@ ghost use Rattle.design_drawings.specs.Equations.{sign_text, sum_items, target_i
 use crate::cells::put_product;
 use crate::drawn_design::Design;
 use crate::page::{Page, Piece};
-use crate::pins::is_assigned;
 use abel_tree::Declared;
 use fuse_listing::{
     cell_of, complements_output, is_in_use, name_on, names_complement, says, stores,
@@ -197,16 +196,6 @@ fn put_if_assigned<D: Device>(
         }
     }
     Ok(())
-}
-
-/// Whether some cell's pin's name is assigned. Takes no memory.
-pub fn has_equations<D: Device>(device: &Loaded<D>, design: Design) -> bool {
-    for cell in 0..device.cells() {
-        if is_assigned(name_on(design.names, cell_of::<D>(device, cell).pin)) {
-            return true;
-        }
-    }
-    false
 }
 
 /// Writes the equations of the assigned cells, in the order of the cells: their products are those of the listing.

@@ -6,7 +6,7 @@ use crate::page::{Page, Piece};
 use pld_base::OutOfMemory;
 
 /// How many bytes of a name a drawing shows.
-const LABEL: u8 = 16;
+const LABEL: u8 = 31;
 
 /// How many bytes a drawing shows of a name. Takes no memory.
 pub fn label_length(name: &[u8]) -> u8 {
@@ -19,7 +19,7 @@ pub fn label_length(name: &[u8]) -> u8 {
 
 /// Whether a name has no room.
 fn is_long(name: &[u8]) -> bool
-    ensures { IsTrue result ↔ (16 < length name.now) }
+    ensures { IsTrue result ↔ (31 < length name.now) }
 {
     name.len() > usize::from(LABEL)
 }
@@ -43,4 +43,12 @@ pub fn put_title_if_long(page: &mut Page, name: &[u8]) -> Result<(), OutOfMemory
         Piece::Text(name),
         Piece::Markup("</title>"),
     ])
+}
+
+/// Writes a label after a blank, if there is one.
+pub fn put_behind(page: &mut Page, label: &[u8]) -> Result<(), OutOfMemory> {
+    if label.is_empty() {
+        return Ok(());
+    }
+    page.put(&[Piece::Markup(" "), Piece::Text(label)])
 }

@@ -1,153 +1,112 @@
 //! A lane of the timing diagram: what one pin does from vector to vector.
 
-ghost use Rattle.std.specs.Prelude.{◌≤◌};
-
 use crate::page::{Page, Piece};
-use crate::strips::{Run, STEP, Strip};
+use crate::spans::{Pen, Span, put_span, put_until};
+use crate::strips::{BEFORE, Run, STEP, Strip, TURNED};
 use device_sim::Mismatch;
-use pld_base::{OutOfMemory, level_at};
+use pld_base::OutOfMemory;
 
 /// How far down in a lane a high level, a low one and a released pin are.
-const HIGH: u8 = 5;
+pub const HIGH: u8 = 5;
 
-const LOW: u8 = 17;
+pub const LOW: u8 = 17;
 
-const MIDDLE: u8 = 11;
+pub const MIDDLE: u8 = 11;
 
-/// What a pin does in a vector.
-#[derive(Clone, Copy, PartialEq, Eq)]
-enum Shape {
-    Level(bool),
-    /// A clock pulse to the level, and back.
-    Pulse(bool),
-    /// Neither the test nor the device drives it.
-    Released,
+/// A lane: its pin, and how far down it is.
+#[derive(Clone, Copy)]
+pub struct Lane<'a> {
+    pub run: Run<'a>,
+    pub pin: u8,
+    pub down: u32,
 }
 
-/// What the device shows at a pin that no test drives.
-fn shown_at(run: Run, index: usize, pin: u8) -> Shape
-    requires { pin ≤ 24 }
-{
-    match run.traces.get(index) {
-        Some(shown) if level_at(shown.driven, pin) => Shape::Level(level_at(shown.level, pin)),
-        _ => Shape::Released,
+impl<'a> Lane<'a> {
+    /// The level that the test drives at the pin in a vector while its clocks are turned or not, if it does.
+    fn driven_level(&self, index: usize, is_turned: bool) -> Option<bool> {
+        match self.run.char_at(index, self.pin) {
+            b'0' => Some(false),
+            b'1' => Some(true),
+            b'C' => Some(is_turned),
+            b'K' => Some(!is_turned),
+            _ => None,
+        }
+    }
+
+    /// The level of the pin at a point of a vector, if the test or the device drives it.
+    fn level(&self, index: usize, point: usize, is_turned: bool) -> Option<bool> {
+        match self.driven_level(index, is_turned) {
+            None => self.run.level(point, self.pin),
+            driven => driven,
+        }
     }
 }
 
-/// What a pin does in a vector.
-fn shape_at(run: Run, index: usize, pin: u8) -> Shape
-    requires low { 1 ≤ pin }
-    requires high { pin ≤ 24 }
-{
-    match run.char_at(index, pin) {
-        b'0' => Shape::Level(false),
-        b'1' => Shape::Level(true),
-        b'C' => Shape::Pulse(true),
-        b'K' => Shape::Pulse(false),
-        _ => shown_at(run, index, pin),
-    }
-}
-
-/// How far down a level is.
-fn height_of(level: bool) -> u8 {
-    if level { HIGH } else { LOW }
-}
-
-/// Writes a move of the pen to a height, down from the one before, or up from nothing.
-fn put_step(page: &mut Page, pen: Option<usize>, left: u16, to: usize) -> Result<(), OutOfMemory> {
-    match pen {
-        Some(at) if at == to => Ok(()),
-        Some(_) => page.put(&[Piece::Markup("V"), Piece::Number(to)]),
-        None => page.put(&[
-            Piece::Markup("M"),
-            Piece::Number(usize::from(left)),
-            Piece::Markup(" "),
-            Piece::Number(to),
-        ]),
-    }
-}
-
-/// Writes a pulse to a level, from the other one.
-fn put_pulse(page: &mut Page, left: u16, down: u32, to: bool) -> Result<(), OutOfMemory> {
-    page.put(&[
-        Piece::Markup("H"),
-        Piece::Number(usize::from(left) + 6),
-        Piece::Markup("V"),
-        Piece::Number(down as usize + usize::from(height_of(to))),
-        Piece::Markup("H"),
-        Piece::Number(usize::from(left) + 14),
-        Piece::Markup("V"),
-        Piece::Number(down as usize + usize::from(height_of(!to))),
-        Piece::Markup("H"),
-        Piece::Number(usize::from(left) + STEP),
-    ])
-}
-
-/// Writes what a pin does in a vector, and answers if the pen is then.
-fn put_shape(
+/// Writes the line of a vector with its clocks at rest, turned, and back.
+fn put_clocked(
     page: &mut Page,
-    pen: Option<usize>,
-    shape: Shape,
+    lane: Lane,
+    index: usize,
     left: u16,
-    down: u32,
-) -> Result<Option<usize>, OutOfMemory> {
-    match shape {
-        Shape::Released => Ok(None),
-        Shape::Level(level) => {
-            let to = down as usize + usize::from(height_of(level));
-            put_step(page, pen, left, to)?;
-            page.put(&[Piece::Markup("H"), Piece::Number(usize::from(left) + STEP)])?;
-            Ok(Some(to))
-        }
-        Shape::Pulse(level) => {
-            let from = down as usize + usize::from(height_of(!level));
-            put_step(page, pen, left, from)?;
-            put_pulse(page, left, down, level)?;
-            Ok(Some(from))
-        }
+    pen: Pen,
+) -> Result<Pen, OutOfMemory> {
+    let (first, _) = lane.run.points(index);
+    let before = lane.level(index, first, false);
+    let turned = lane.level(index, first.saturating_add(1), true);
+    let after = lane.level(index, first.saturating_add(2), false);
+    let turns = left.saturating_add(BEFORE);
+    let pen = put_span(page, pen, Span::new(left, before, lane.down))?;
+    let pen = put_span(page, pen, Span::new(turns, turned, lane.down))?;
+    put_span(
+        page,
+        pen,
+        Span::new(turns.saturating_add(TURNED), after, lane.down),
+    )
+}
+
+/// Writes the line of a vector.
+fn put_vector(
+    page: &mut Page,
+    lane: Lane,
+    index: usize,
+    left: u16,
+    pen: Pen,
+) -> Result<Pen, OutOfMemory> {
+    let (first, next) = lane.run.points(index);
+    if next.saturating_sub(first) == 3 {
+        return put_clocked(page, lane, index, left, pen);
     }
+    put_span(
+        page,
+        pen,
+        Span::new(left, lane.level(index, first, false), lane.down),
+    )
 }
 
 /// Writes the line of the levels that are driven.
-fn put_levels(
-    page: &mut Page,
-    run: Run,
-    pin: u8,
-    strip: Strip,
-    down: u32,
-) -> Result<(), OutOfMemory>
-    requires low { 1 ≤ pin }
-    requires high { pin ≤ 24 }
-{
-    let mut pen = None;
+fn put_levels(page: &mut Page, lane: Lane, strip: Strip) -> Result<(), OutOfMemory> {
+    let mut pen = Pen::up();
     page.put(&[Piece::Markup("<path class=\"level\" d=\"M0 0")])?;
     for place in 0..strip.count {
-        let shape = shape_at(run, strip.index(place), pin);
-        pen = put_shape(page, pen, shape, strip.left_of(place), down)?;
+        pen = put_vector(page, lane, strip.index(place), strip.left_of(place), pen)?;
     }
+    put_until(page, pen, strip.right())?;
     page.put(&[Piece::Markup("\"/>")])
 }
 
-/// Writes the line of the vectors in which the pin is released.
-fn put_released(
-    page: &mut Page,
-    run: Run,
-    pin: u8,
-    strip: Strip,
-    down: u32,
-) -> Result<(), OutOfMemory>
-    requires low { 1 ≤ pin }
-    requires high { pin ≤ 24 }
-{
+/// Writes the line of the vectors at the end of which nothing drives the pin.
+fn put_released(page: &mut Page, lane: Lane, strip: Strip) -> Result<(), OutOfMemory> {
     page.put(&[Piece::Markup("<path class=\"free\" d=\"M0 0")])?;
     for place in 0..strip.count {
-        if shape_at(run, strip.index(place), pin) == Shape::Released {
+        let index = strip.index(place);
+        let (_, next) = lane.run.points(index);
+        if lane.level(index, next.saturating_sub(1), false).is_none() {
             page.put(&[
                 Piece::Markup("M"),
                 Piece::Number(usize::from(strip.left_of(place))),
                 Piece::Markup(" "),
-                Piece::Number(down as usize + usize::from(MIDDLE)),
-                Piece::Markup("h20"),
+                Piece::Number(lane.down as usize + usize::from(MIDDLE)),
+                Piece::Markup("h24"),
             ])?;
         }
     }
@@ -163,20 +122,18 @@ fn mark_height(expects: u8) -> u8 {
     }
 }
 
-/// Writes a mark at each character that was tested and agrees.
-fn put_marks(page: &mut Page, run: Run, pin: u8, strip: Strip, down: u32) -> Result<(), OutOfMemory>
-    requires { 1 ≤ pin }
-{
+/// Writes a mark at the end of each vector in which the pin was tested and agrees.
+fn put_marks(page: &mut Page, lane: Lane, strip: Strip) -> Result<(), OutOfMemory> {
     page.put(&[Piece::Markup("<path class=\"mark\" d=\"M0 0")])?;
     for place in 0..strip.count {
         let index = strip.index(place);
-        let char = run.char_at(index, pin);
-        if matches!(char, b'H' | b'L' | b'Z') && run.mismatch(index, pin).is_none() {
+        let char = lane.run.char_at(index, lane.pin);
+        if matches!(char, b'H' | b'L' | b'Z') && lane.run.mismatch(index, lane.pin).is_none() {
             page.put(&[
                 Piece::Markup("M"),
-                Piece::Number(usize::from(strip.left_of(place)) + STEP / 2),
+                Piece::Number(usize::from(strip.left_of(place)) + 21),
                 Piece::Markup(" "),
-                Piece::Number(down as usize + usize::from(mark_height(char))),
+                Piece::Number(lane.down as usize + usize::from(mark_height(char))),
                 Piece::Markup("h0"),
             ])?;
         }
@@ -195,33 +152,24 @@ fn put_wrong(page: &mut Page, seen: Mismatch, left: u16, down: u32) -> Result<()
         Piece::Number(usize::from(left)),
         Piece::Markup("\" y=\""),
         Piece::Number(down as usize + 1),
-        Piece::Markup("\" width=\"20\" height=\"20\"/><text class=\"m\" x=\""),
-        Piece::Number(usize::from(left) + STEP / 2),
+        Piece::Markup("\" width=\"24\" height=\"20\"/><text class=\"m\" x=\""),
+        Piece::Number(usize::from(left) + usize::from(STEP) / 2),
         Piece::Markup("\" y=\""),
-        Piece::Number(down as usize + 14),
+        Piece::Number(down as usize + 15),
         Piece::Markup("\">"),
         Piece::Text(&[seen.expects, b'/', seen.finds]),
         Piece::Markup("</text></g>"),
     ])
 }
 
-/// Writes the lane of a pin over the vectors of a strip, so far down.
-pub fn put_lane(
-    page: &mut Page,
-    run: Run,
-    pin: u8,
-    strip: Strip,
-    down: u32,
-) -> Result<(), OutOfMemory>
-    requires low { 1 ≤ pin }
-    requires high { pin ≤ 24 }
-{
-    put_levels(page, run, pin, strip, down)?;
-    put_released(page, run, pin, strip, down)?;
-    put_marks(page, run, pin, strip, down)?;
+/// Writes the lane of a pin over the vectors of a strip.
+pub fn put_lane(page: &mut Page, lane: Lane, strip: Strip) -> Result<(), OutOfMemory> {
+    put_levels(page, lane, strip)?;
+    put_released(page, lane, strip)?;
+    put_marks(page, lane, strip)?;
     for place in 0..strip.count {
-        if let Some(seen) = run.mismatch(strip.index(place), pin) {
-            put_wrong(page, seen, strip.left_of(place), down)?;
+        if let Some(seen) = lane.run.mismatch(strip.index(place), lane.pin) {
+            put_wrong(page, seen, strip.left_of(place), lane.down)?;
         }
     }
     page.put(&[Piece::Markup("\n")])

@@ -4,7 +4,7 @@ ghost use Rattle.std.specs.Prelude.{◌≡◌, ◌<◌, IfSome, false, length, t
 ghost use Rattle.design_drawings.specs.CellRows.{IsCellOf, IsRowOf};
 
 use crate::drawn_design::Design;
-use fuse_listing::{cell_of, count_in_use, is_in_use, is_opened};
+use fuse_listing::{cell_of, is_opened};
 use pld_device::{Device, Enable, Loaded};
 
 /// Whether a row is one of a cell's data rows, or enables it.
@@ -41,33 +41,8 @@ pub fn is_enable<D: Device>(device: &Loaded<D>, row: u16) -> bool {
     false
 }
 
-/// Whether no connection of a row is. Takes no memory.
-pub fn is_open<D: Device>(device: &Loaded<D>, design: Design, row: u16) -> bool {
-    let levels = design.levels();
-    (0..device.columns()).all(|column| is_opened::<D>(device, levels, row, column))
-}
-
 /// Whether each connection of a row is. Takes no memory.
 pub fn is_whole<D: Device>(device: &Loaded<D>, design: Design, row: u16) -> bool {
     let levels = design.levels();
     (0..device.columns()).all(|column| !is_opened::<D>(device, levels, row, column))
-}
-
-/// Whether some row in use is connected to a column. Takes no memory.
-pub fn is_column_read<D: Device>(device: &Loaded<D>, design: Design, column: u16) -> bool {
-    let levels = design.levels();
-    for row in 0..device.rows() {
-        if is_in_use::<D>(device, levels, row) && !is_opened::<D>(device, levels, row, column) {
-            return true;
-        }
-    }
-    false
-}
-
-/// How many of a cell's data rows are in use. Takes no memory.
-pub fn rows_in_use<D: Device>(device: &Loaded<D>, design: Design, cell: u8) -> usize
-    requires { cell < length D.table.cells }
-{
-    let found = cell_of::<D>(device, cell);
-    count_in_use::<D>(device, design.levels(), found.first, found.room)
 }

@@ -1,20 +1,16 @@
 //! The test vectors as a timing diagram.
 
-ghost use Rattle.std.specs.Prelude.{◌≤◌};
-
 use crate::drawn_design::Design;
-use crate::labels::{put_label, put_title_if_long};
-use crate::lanes::put_lane;
+use crate::labels::{label_length, put_label, put_title_if_long};
+use crate::lanes::{Lane, put_lane};
 use crate::page::{Page, Piece};
-use crate::pins::{name_bytes, pin_at};
-use crate::strips::{LANE, LEFT, Run, STEP, STRIP, STRIPS, Strip, char_at};
+use crate::strips::{LANE, Run, STEP, STRIP, STRIPS, Strip, char_at};
+use page_model::{PinFacts, PinUse, has_clock};
 use pld_base::OutOfMemory;
-use pld_device::{Device, Loaded, cell_on};
+use pld_device::{Device, Loaded};
 
 /// Whether a drawn vector drives or tests a pin.
-fn is_tried(run: Run, pin: u8) -> bool
-    requires { 1 ≤ pin }
-{
+fn is_tried(run: Run, pin: u8) -> bool {
     for vector in run.drawn() {
         if !matches!(char_at(vector, pin), b'N' | b'X') {
             return true;
@@ -23,134 +19,181 @@ fn is_tried(run: Run, pin: u8) -> bool
     false
 }
 
-/// Whether a pin has a lane: it is driven or tested, or has a name and a cell.
-fn has_lane<D: Device>(device: &Loaded<D>, run: Run, pin: u8) -> bool
-    requires { 1 ≤ pin }
-{
-    if pin == device.ground() || pin == device.pins() {
-        return false;
+/// Whether a pin has a lane: it is driven or tested, or has a label and a cell.
+fn has_lane(run: Run, facts: &PinFacts) -> bool {
+    match facts.used_as {
+        PinUse::Ground | PinUse::Supply => false,
+        _ => {
+            facts.cell.is_some() && !facts.label.bytes().is_empty() || is_tried(run, facts.number)
+        }
     }
-    let is_named = !name_bytes(run.design, pin).is_empty();
-    cell_on::<D>(device, pin).is_some() && is_named || is_tried(run, pin)
 }
 
 /// How high the lanes are together.
-fn lanes_height<D: Device>(device: &Loaded<D>, run: Run) -> u32 {
+fn lanes_height(run: Run) -> u32 {
     let mut height = 0u32;
-    for place in 0..device.pins() {
-        if has_lane::<D>(device, run, pin_at::<D>(place)) {
+    for facts in run.design.model.pins.as_slice() {
+        if has_lane(run, facts) {
             height = height.saturating_add(LANE);
         }
     }
     height
 }
 
+/// How many bytes the longest label of a lane shows, or 8.
+fn longest(run: Run) -> u8 {
+    let mut most = 8u8;
+    for facts in run.design.model.pins.as_slice() {
+        let length = label_length(facts.label.bytes());
+        if most < length && has_lane(run, facts) {
+            most = length;
+        }
+    }
+    most
+}
+
+/// The beginning of the first vector, after the labels of the lanes.
+pub fn left_of(run: Run) -> u16 {
+    40 + 7 * u16::from(longest(run))
+}
+
+/// Writes the number of a vector, which links may lead to.
+fn put_number(page: &mut Page, strip: Strip, place: u8) -> Result<(), OutOfMemory> {
+    let number = strip.index(place) + 1;
+    page.put(&[Piece::Markup("<text class=\"m\"")])?;
+    if strip.is_linked {
+        page.put(&[
+            Piece::Markup(" id=\"v"),
+            Piece::Number(number),
+            Piece::Markup("\""),
+        ])?;
+    }
+    page.put(&[
+        Piece::Markup(" x=\""),
+        Piece::Number(usize::from(strip.left_of(place)) + usize::from(STEP) / 2),
+        Piece::Markup("\" y=\"11\">"),
+        Piece::Number(number),
+        Piece::Markup("</text>"),
+    ])
+}
+
 /// Writes the numbers of the vectors of a strip, and a line down between them.
 fn put_numbers(page: &mut Page, strip: Strip, height: u32) -> Result<(), OutOfMemory> {
     for place in 0..strip.count {
-        let left = strip.left_of(place);
+        put_number(page, strip, place)?;
         page.put(&[
-            Piece::Markup("<text class=\"m\" x=\""),
-            Piece::Number(usize::from(left) + STEP / 2),
-            Piece::Markup("\" y=\"10\">"),
-            Piece::Number(strip.index(place) + 1),
-            Piece::Markup("</text><path class=\"grid\" d=\"M"),
-            Piece::Number(usize::from(left)),
-            Piece::Markup(" 14v"),
-            Piece::Number(height as usize + 4),
+            Piece::Markup("<path class=\"grid\" d=\"M"),
+            Piece::Number(usize::from(strip.left_of(place))),
+            Piece::Markup(" 16v"),
+            Piece::Number(height as usize + 2),
             Piece::Markup("\"/>"),
         ])?;
     }
     page.put(&[Piece::Markup("\n")])
 }
 
-/// Writes the name of a lane.
-fn put_lane_name(page: &mut Page, design: Design, pin: u8, down: u32) -> Result<(), OutOfMemory> {
-    let name = name_bytes(design, pin);
+/// Writes the label of a lane.
+fn put_lane_label(page: &mut Page, facts: &PinFacts, down: u32) -> Result<(), OutOfMemory> {
     page.put(&[
         Piece::Markup("<text class=\"e\" x=\"24\" y=\""),
         Piece::Number(down as usize + 15),
         Piece::Markup("\">"),
-        Piece::Number(usize::from(pin)),
+        Piece::Number(usize::from(facts.number)),
         Piece::Markup("</text><text x=\"32\" y=\""),
         Piece::Number(down as usize + 15),
         Piece::Markup("\">"),
     ])?;
-    put_title_if_long(page, name)?;
-    put_label(page, name)?;
+    put_title_if_long(page, facts.label.bytes())?;
+    put_label(page, facts.label.bytes())?;
     page.put(&[Piece::Markup("</text>")])
 }
 
 /// Writes the opening of a strip's drawing.
 fn put_strip_head(page: &mut Page, strip: Strip, height: u32) -> Result<(), OutOfMemory> {
-    let width = LEFT + usize::from(strip.count) * STEP + 4;
+    let width = usize::from(strip.right()) + 4;
     page.put(&[
         Piece::Markup(
             "<div class=\"wide\" tabindex=\"0\"><svg class=\"waves\" role=\"img\" width=\"",
         ),
         Piece::Number(width),
         Piece::Markup("\" height=\""),
-        Piece::Number(height as usize + 18),
+        Piece::Number(height as usize + 20),
         Piece::Markup("\" viewBox=\"0 0 "),
         Piece::Number(width),
         Piece::Markup(" "),
-        Piece::Number(height as usize + 18),
+        Piece::Number(height as usize + 20),
         Piece::Markup("\"><title>Vectors "),
         Piece::Number(strip.index(0) + 1),
         Piece::Markup(" to "),
         Piece::Number(strip.index(strip.count)),
         Piece::Markup(
-            "</title><desc>A lane for each pin, with its number and name, and a column for each vector.</desc>\n",
+            "</title><desc>A lane for each pin, with its number and label, and a column for each vector.</desc>\n",
         ),
     ])
 }
 
 /// Writes the drawing of the vectors of a strip.
-fn put_strip<D: Device>(
-    device: &Loaded<D>,
-    page: &mut Page,
-    run: Run,
-    strip: Strip,
-) -> Result<(), OutOfMemory> {
-    let height = lanes_height::<D>(device, run);
+pub fn put_strip(page: &mut Page, run: Run, strip: Strip) -> Result<(), OutOfMemory> {
+    let height = lanes_height(run);
     put_strip_head(page, strip, height)?;
     put_numbers(page, strip, height)?;
-    let mut down = 16u32;
-    for place in 0..device.pins() {
-        let pin = pin_at::<D>(place);
-        if has_lane::<D>(device, run, pin) {
-            put_lane_name(page, run.design, pin, down)?;
-            put_lane(page, run, pin, strip, down)?;
+    let mut down = 18u32;
+    for facts in run.design.model.pins.as_slice() {
+        if has_lane(run, facts) {
+            put_lane_label(page, facts, down)?;
+            let pin = facts.number;
+            put_lane(page, Lane { run, pin, down }, strip)?;
             down = down.saturating_add(LANE);
         }
     }
     page.put(&[Piece::Markup("</svg></div>\n")])
 }
 
-/// Writes the diagram of the vectors, in strips, and how many vectors there are that it does not draw.
-pub fn put_waves<D: Device>(
-    device: &Loaded<D>,
-    page: &mut Page,
-    run: Run,
-) -> Result<(), OutOfMemory> {
-    let all = run.design.file.vectors.as_slice().len();
+/// Writes the drawings of the vectors, in strips.
+fn put_strips(page: &mut Page, run: Run) -> Result<(), OutOfMemory> {
+    let all = run.drawn().len();
+    let left = left_of(run);
     for number in 0..STRIPS {
-        let first = usize::from(number) * STRIP;
-        if first < all {
-            let rest = all - first;
-            let count = if rest < STRIP { rest } else { STRIP };
-            put_strip::<D>(
-                device,
+        let first = STRIP * u16::from(number);
+        if usize::from(first) < all {
+            let rest = all - usize::from(first);
+            let count = if rest < usize::from(STRIP) {
+                rest as u8
+            } else {
+                STRIP as u8
+            };
+            put_strip(
                 page,
                 run,
                 Strip {
-                    number,
-                    count: count as u8,
+                    first,
+                    count,
+                    left,
+                    is_linked: true,
                 },
             )?;
         }
     }
-    let drawn = usize::from(STRIPS) * STRIP;
+    Ok(())
+}
+
+/// The numbers of the vectors' first points, and that of the point after the last one.
+pub fn firsts_of<D: Device>(device: &Loaded<D>, design: Design) -> Result<Vec<usize>, OutOfMemory> {
+    let mut firsts = Vec::new(design.alloc);
+    let mut point = 0usize;
+    for vector in design.file.vectors.as_slice() {
+        firsts.push(point)?;
+        point = point.saturating_add(if has_clock::<D>(device, vector) { 3 } else { 1 });
+    }
+    firsts.push(point)?;
+    Ok(firsts)
+}
+
+/// Writes the diagram of the vectors, in strips, and how many vectors there are that it does not draw.
+pub fn put_waves(page: &mut Page, run: Run) -> Result<(), OutOfMemory> {
+    put_strips(page, run)?;
+    let all = run.design.file.vectors.as_slice().len();
+    let drawn = run.drawn().len();
     if all > drawn {
         page.put(&[
             Piece::Markup("<p>And "),
