@@ -1,128 +1,33 @@
 //! The page of a design.
 
-use crate::frame::{put_end, put_front, put_heading};
+use crate::failures::put_failures;
+use crate::frame::{put_end, put_heading};
+use crate::head::{Parts, put_head};
 use crate::made::without_end;
 use crate::outcome::Outcome;
 use crate::source::put_text;
+use crate::verdict::Told;
 use design_drawings::{
-    Design, Page, Piece, Run, has_equations, put_array, put_cells, put_chip, put_disagreements,
+    Design, Page, Piece, Run, firsts_of, put_array, put_cells, put_chip, put_disagreements,
     put_equations, put_waves,
 };
-use jedec_file::{byte_sum, fuse_sum};
-use pld_base::{OutOfMemory, put_hex};
+use page_model::PageModel;
+use pld_base::OutOfMemory;
 use pld_device::{Device, Loaded};
-use shown_text::printable;
 
-/// What a page is made of, beside the design.
-#[derive(Clone, Copy)]
-pub struct Parts<'a> {
-    /// The name of the module, or of the fuse file.
-    pub name: &'a [u8],
-    /// The title, empty if there isn't one.
-    pub title: &'a [u8],
-    /// The line that sums it up.
-    pub summary: &'a [u8],
-    /// The bytes of the fuse file.
-    pub file: &'a [u8],
-    /// The source, empty if there isn't one.
-    pub source: &'a [u8],
-}
-
-/// The bytes from the start byte to the end byte, which the file sum is of.
-fn summed_bytes(file: &[u8]) -> &[u8] {
-    let Some(first) = file.iter().position(|byte| *byte == 2) else {
-        return b"";
-    };
-    let (_front, from) = file.split_at(first);
-    match from.iter().position(|byte| *byte == 3) {
-        Some(end) => from.split_at(end + 1).0,
-        None => b"",
-    }
-}
-
-/// Writes a sum as four hexadecimal digits.
-fn put_sum(page: &mut Page, design: Design, sum: u16) -> Result<(), OutOfMemory> {
-    let mut digits = Vec::new(design.alloc);
-    put_hex(&mut digits, sum)?;
+/// Writes the line that sums the design up.
+fn put_summary(page: &mut Page, parts: Parts) -> Result<(), OutOfMemory> {
+    put_heading(page, "summary", "Summary")?;
     page.put(&[
-        Piece::Markup("<dd><code>"),
-        Piece::Text(&digits),
-        Piece::Markup("</code></dd>\n"),
-    ])
-}
-
-/// Writes whether all vectors agree.
-fn put_verdict(page: &mut Page, outcome: &Outcome) -> Result<(), OutOfMemory> {
-    match outcome {
-        Outcome::NotRun(line) => page.put(&[
-            Piece::Markup("<dd class=\"bad\">not run: "),
-            Piece::Text(without_end(line)),
-            Piece::Markup("</dd>\n"),
-        ]),
-        Outcome::Ran(report, _) if report.vectors == 0 => {
-            page.put(&[Piece::Markup("<dd>none</dd>\n")])
-        }
-        Outcome::Ran(report, _) if report.list.as_slice().is_empty() => page.put(&[
-            Piece::Markup("<dd class=\"good\">"),
-            Piece::Number(report.vectors as usize),
-            Piece::Markup(if report.vectors == 1 {
-                " vector agrees</dd>\n"
-            } else {
-                " vectors, and all agree</dd>\n"
-            }),
-        ]),
-        Outcome::Ran(report, _) => page.put(&[
-            Piece::Markup("<dd class=\"bad\">"),
-            Piece::Number(report.list.as_slice().len()),
-            Piece::Markup(" disagreements in "),
-            Piece::Number(report.vectors as usize),
-            Piece::Markup(" vectors</dd>\n"),
-        ]),
-    }
-}
-
-/// Writes the title that there may be.
-fn put_title(page: &mut Page, design: Design, title: &[u8]) -> Result<(), OutOfMemory> {
-    if title.is_empty() {
-        return Ok(());
-    }
-    let shown = printable(design.alloc, title)?;
-    page.put(&[
-        Piece::Markup("<p>"),
-        Piece::Text(shown.as_bytes()),
-        Piece::Markup("</p>\n"),
-    ])
-}
-
-/// Writes the head: what the design is, and its result.
-fn put_head<D: Device>(
-    device: &Loaded<D>,
-    page: &mut Page,
-    design: Design,
-    parts: Parts,
-    outcome: &Outcome,
-) -> Result<(), OutOfMemory> {
-    put_front(page, parts.name)?;
-    put_title(page, design, parts.title)?;
-    page.put(&[
-        Piece::Markup("<dl class=\"facts\"><dt>Device</dt><dd>"),
-        Piece::Markup(device.name().text()),
-        Piece::Markup("</dd>\n<dt>Summary</dt><dd><code>"),
+        Piece::Markup("<p><code>"),
         Piece::Text(parts.summary),
-        Piece::Markup("</code></dd>\n<dt>Fuse sum</dt>"),
-    ])?;
-    put_sum(page, design, fuse_sum(design.levels()))?;
-    page.put(&[Piece::Markup("<dt>File sum</dt>")])?;
-    put_sum(page, design, byte_sum(summed_bytes(parts.file)))?;
-    page.put(&[Piece::Markup("<dt>Test vectors</dt>")])?;
-    put_verdict(page, outcome)?;
-    page.put(&[Piece::Markup(
-        "</dl>\n<nav><a href=\"#chip\">Chip</a><a href=\"#cells\">Cells</a><a href=\"#fuses\">Fuses</a><a href=\"#vectors\">Vectors</a>",
-    )])?;
-    if !parts.source.is_empty() {
-        page.put(&[Piece::Markup("<a href=\"#source\">Source</a>")])?;
-    }
-    page.put(&[Piece::Markup("</nav>\n")])
+        Piece::Markup("</code></p>\n"),
+    ])
+}
+
+/// Whether some cell is assigned.
+fn has_assigned(model: &PageModel) -> bool {
+    model.cells.as_slice().iter().any(|cell| cell.is_assigned)
 }
 
 /// Writes the part of the cells, with their equations.
@@ -134,7 +39,7 @@ fn put_cell_part<D: Device>(
     put_heading(page, "cells", "Cells")?;
     put_cells::<D>(device, page, design)?;
     page.put(&[Piece::Markup("<h3>Equations</h3>\n")])?;
-    if !has_equations::<D>(device, design) {
+    if !has_assigned(design.model) {
         return page.put(&[Piece::Markup("<p>No cell is used.</p>\n")]);
     }
     page.put(&[Piece::Markup("<div class=\"sums\">\n")])?;
@@ -150,9 +55,9 @@ fn put_drawings<D: Device>(
 ) -> Result<(), OutOfMemory> {
     put_heading(page, "chip", "Chip")?;
     page.put(&[Piece::Markup(
-        "<p class=\"hint\">From above. An arrow shows where a level goes; a triangle marks a register, a circle at a leg a name that is the complement of its pin's level. Pins that are not used are faint.</p>\n",
+        "<p class=\"hint\">From above, each pin with what has its level: <code>!busy</code> is high where <code>busy</code> is 0. An arrow shows where a level goes; a square marks a register, a wedge the clock. Pins that are not used are faint.</p>\n",
     )])?;
-    put_chip::<D>(device, page, design)?;
+    put_chip(page, design.model)?;
     put_cell_part::<D>(device, page, design)?;
     put_heading(page, "fuses", "Fuses")?;
     page.put(&[Piece::Markup(
@@ -175,25 +80,54 @@ fn put_vectors<D: Device>(
             Piece::Text(without_end(line)),
             Piece::Markup("</p>\n"),
         ]),
-        Outcome::Ran(report, _) if report.vectors == 0 => {
+        Outcome::Ran(run) if run.report.vectors == 0 => {
             page.put(&[Piece::Markup("<p>There are no test vectors.</p>\n")])
         }
-        Outcome::Ran(report, traces) => {
+        Outcome::Ran(run) => {
             page.put(&[Piece::Markup(
-                "<p class=\"hint\">A line is a level that the test or the device drives, a dashed line in the middle a pin that neither drives. A dot marks what was tested and agrees; in red stand what was expected and what was found (H high, L low, Z released).</p>\n",
+                "<p class=\"hint\">A lane has the levels of a pin. Inputs change at a vector's beginning, registers at their clock's edge; a dot at its end marks what was tested and agrees. A dashed line in the middle is a pin that nothing drives. In red stand what was expected and what was found (H high, L low, Z released).</p>\n",
             )])?;
-            put_waves::<D>(
-                device,
+            let firsts = firsts_of::<D>(device, design)?;
+            put_waves(
                 page,
                 Run {
                     design,
-                    report,
-                    traces: traces.as_slice(),
+                    run,
+                    firsts: firsts.as_slice(),
                 },
             )?;
-            put_disagreements(page, design, report.list.as_slice())
+            put_disagreements(page, design, run.report.list.as_slice())
         }
     }
+}
+
+/// Writes the cards of the disagreements.
+fn put_cards<D: Device>(
+    device: &Loaded<D>,
+    page: &mut Page,
+    design: Design,
+    parts: Parts,
+    outcome: &Outcome,
+) -> Result<(), OutOfMemory> {
+    let Outcome::Ran(run) = outcome else {
+        return Ok(());
+    };
+    let firsts = firsts_of::<D>(device, design)?;
+    let told = Told {
+        model: design.model,
+        lines: parts.lines,
+    };
+    put_failures::<D>(
+        device,
+        page,
+        Run {
+            design,
+            run,
+            firsts: firsts.as_slice(),
+        },
+        told,
+        parts.source,
+    )
 }
 
 /// The page of a design.
@@ -205,12 +139,14 @@ pub fn drawn_page<D: Device>(
 ) -> Result<Vec<u8>, OutOfMemory> {
     let mut page = Page::new(design.alloc);
     put_head::<D>(device, &mut page, design, parts, outcome)?;
+    put_cards::<D>(device, &mut page, design, parts, outcome)?;
     put_drawings::<D>(device, &mut page, design)?;
     put_vectors::<D>(device, &mut page, design, outcome)?;
     if !parts.source.is_empty() {
         put_heading(&mut page, "source", "Source")?;
         put_text(&mut page, design.alloc, parts.source, None)?;
     }
+    put_summary(&mut page, parts)?;
     put_end(&mut page)?;
     Ok(page.into_bytes())
 }

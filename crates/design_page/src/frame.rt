@@ -8,6 +8,9 @@ use pld_base::OutOfMemory;
 pub const FRONT: &str =
     "<!DOCTYPE html>\n<html lang=\"en\">\n<head>\n<meta charset=\"utf-8\">\n<meta name=\"viewport\" content=\"width=device-width, initial-scale=1\">\n<title>";
 
+/// The program, as a page names it.
+const PROGRAM: &str = "abel-page 0.1.0";
+
 /// Writes all up to the page's first heading, which is its name.
 pub fn put_front(page: &mut Page, name: &[u8]) -> Result<(), OutOfMemory> {
     page.put(&[
@@ -15,7 +18,7 @@ pub fn put_front(page: &mut Page, name: &[u8]) -> Result<(), OutOfMemory> {
         Piece::Text(name),
         Piece::Markup("</title>\n<style>"),
         Piece::Markup(STYLE),
-        Piece::Markup("</style>\n</head>\n<body>\n<h1>"),
+        Piece::Markup("</style>\n</head>\n<body>\n<main>\n<h1>"),
         Piece::Text(name),
         Piece::Markup("</h1>\n"),
     ])
@@ -38,5 +41,9 @@ pub fn put_heading(
 
 /// Writes the end of the page.
 pub fn put_end(page: &mut Page) -> Result<(), OutOfMemory> {
-    page.put(&[Piece::Markup("</body>\n</html>\n")])
+    page.put(&[
+        Piece::Markup("</main>\n<footer>"),
+        Piece::Markup(PROGRAM),
+        Piece::Markup("</footer>\n</body>\n</html>\n"),
+    ])
 }

@@ -1,18 +1,24 @@
 //! The page of a design: its drawings in one file of HTML, and what is said of it.
 #![tactic(auto)]
 
+mod assigned_twice;
 mod costly;
 mod costs;
 mod drawn;
+mod failures;
 mod frame;
+mod head;
 mod lines;
+mod listed_warnings;
 mod made;
 mod of_file;
 mod of_source;
 mod outcome;
 mod pin_names;
+mod pin_warnings;
 mod placed;
 mod places;
+mod plus_signs;
 mod refused;
 mod running;
 mod source;
@@ -20,6 +26,9 @@ mod style;
 mod telling;
 mod told_places;
 mod unfit;
+mod usage;
+mod vector_lines;
+mod verdict;
 mod warned;
 mod writing;
 

@@ -4,17 +4,16 @@ ghost use Rattle.std.specs.Prelude.{◌≡◌, ◌<◌, ◌^◌, length};
 
 use abel_commands::run_lines::run_lines;
 use abel_commands::sim_fault_line::sim_fault_line;
-use design_drawings::DRAWN;
-use device_sim::{Report, simulate, traces};
 use jedec_reader::FuseFile;
-use pld_base::{ListOf, OutOfMemory, Trace};
+use page_model::{RunModel, run_of};
+use pld_base::OutOfMemory;
 use pld_device::{Device, Loaded};
 use std::alloc::Global;
 
-/// What the vectors of a fuse file gave, with what the pins show at the first of them; or the line on why they were not run.
+/// What the vectors of a fuse file gave, or the line on why they were not run.
 #[derive(Drop)]
 pub enum Outcome {
-    Ran(Report, ListOf<Trace>),
+    Ran(RunModel),
     NotRun(Vec<u8>),
 }
 
@@ -27,12 +26,8 @@ pub fn outcome_of<D: Device>(
     requires fuses { length file.now.fuses ≡ D.table.fuses }
     requires few { length file.now.vectors < 2 ^ 32 }
 {
-    let report = match simulate::<D>(alloc, device, file) {
-        Ok(report) => report,
-        Err(fault) => return Ok(Outcome::NotRun(sim_fault_line(alloc, &fault)?)),
-    };
-    match traces::<D>(alloc, device, file, DRAWN) {
-        Ok(shown) => Ok(Outcome::Ran(report, shown)),
+    match run_of::<D>(alloc, device, file) {
+        Ok(run) => Ok(Outcome::Ran(run)),
         Err(fault) => Ok(Outcome::NotRun(sim_fault_line(alloc, &fault)?)),
     }
 }
@@ -42,8 +37,8 @@ impl Outcome {
     pub fn status(&self) -> u8 {
         match self {
             Outcome::NotRun(_) => 4,
-            Outcome::Ran(report, _) if report.list.as_slice().is_empty() => 0,
-            Outcome::Ran(_, _) => 5,
+            Outcome::Ran(run) if run.report.list.as_slice().is_empty() => 0,
+            Outcome::Ran(_) => 5,
         }
     }
 
@@ -55,7 +50,7 @@ impl Outcome {
     ) -> Result<Vec<u8>, OutOfMemory> {
         match self {
             Outcome::NotRun(line) => Ok(Vec::from_slice(alloc, line)?),
-            Outcome::Ran(report, _) => run_lines::<D>(alloc, device, report),
+            Outcome::Ran(run) => run_lines::<D>(alloc, device, &run.report),
         }
     }
 }

@@ -16,7 +16,8 @@ fn is_used<D: Device>(device: &Loaded<D>, levels: &[bool], cell: u8) -> bool
     let found = cell_of::<D>(device, cell);
     let is_enabled = match found.enable {
         Enable::Row(row) => is_in_use::<D>(device, levels, row),
-        Enable::PinLow(_) => false,
+        Enable::PinLow(_) | Enable::Released => false,
+        Enable::Driven => true,
     };
     is_enabled || count_in_use::<D>(device, levels, found.first, found.room) != 0
 }

@@ -18,6 +18,7 @@ use std::alloc::Global;
 /// The words that the program takes.
 const USAGE: &[u8] = b"usage: abel-page IN OUT.html
        abel-page DEVICE IN OUT.html
+abel compiles and lists the same source; abel-fuses works on fuse files.
 ";
 
 /// What the words ask for: the page of a source, or with a device that of a fuse file.

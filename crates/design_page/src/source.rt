@@ -21,11 +21,13 @@ fn first_char(text: &[u8]) -> usize
     text.len().min(size)
 }
 
-/// Writes a line.
-fn put_plain(page: &mut Page, alloc: Global, line: &[u8]) -> Result<(), OutOfMemory> {
+/// Writes a line of this number, which links lead to.
+fn put_plain(page: &mut Page, alloc: Global, line: &[u8], number: u32) -> Result<(), OutOfMemory> {
     let shown = printable(alloc, line)?;
     page.put(&[
-        Piece::Markup("<span>"),
+        Piece::Markup("<span id=\"L"),
+        Piece::Number(number as usize),
+        Piece::Markup("\">"),
         Piece::Text(shown.as_bytes()),
         Piece::Markup("\n</span>"),
     ])
@@ -71,7 +73,7 @@ pub fn put_text(
             Some(place) if place.line == number => {
                 put_marked(page, alloc, line, place.column as usize)?
             }
-            _ => put_plain(page, alloc, line)?,
+            _ => put_plain(page, alloc, line, number)?,
         }
         rest = behind;
     }

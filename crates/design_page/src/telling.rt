@@ -90,10 +90,11 @@ pub fn put_vectors<D: Device>(
     text: &mut Vec<u8>,
     outcome: &Outcome,
 ) -> Result<(), OutOfMemory> {
-    let Outcome::Ran(report, _) = outcome else {
+    let Outcome::Ran(run) = outcome else {
         text.extend_from_slice(&outcome.lines::<D>(alloc, device)?)?;
         return Ok(());
     };
+    let report = &run.report;
     if !report.list.as_slice().is_empty() {
         text.extend_from_slice(&outcome.lines::<D>(alloc, device)?)?;
     } else if report.vectors == 1 {

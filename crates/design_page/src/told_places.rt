@@ -4,8 +4,8 @@ ghost use Rattle.std.specs.Prelude.{◌≤◌, length};
 
 use pld_base::Place;
 
-/// The number that a text begins with, and what follows.
-fn number_at(text: &[u8]) -> (u32, &[u8]) {
+/// The number that a text begins with, and what follows. Takes no memory.
+pub fn number_at(text: &[u8]) -> (u32, &[u8]) {
     let mut number = 0u32;
     let mut rest = text;
     'digits: while let [digit @ b'0'..=b'9', behind @ ..] = rest {

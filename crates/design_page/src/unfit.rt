@@ -3,19 +3,20 @@
 ghost use Rattle.std.specs.Prelude.{◌≡◌, ◌≤◌, length};
 ghost use Rattle.abel_tree.specs.View.{view_module};
 ghost use Rattle.compile_phases.specs.Phases.{AreNamesFor};
-ghost use Rattle.devices.specs.Devices.{table_of};
+ghost use Rattle.devices.specs.Models.{table_at};
 
 use crate::pin_names::name_of_pin;
 use crate::placed::placed_module;
 use abel_tree::{Module, Names};
 use abel_vectors::SourceSections;
 use compile_phases::{
-    CompileFault, device_named, module_of, names_of, netlist_of, parts_of, scope_of, sections_of,
+    CompileFault, device_named, modelled_of, module_of, names_of, netlist_of, parts_of, scope_of,
+    sections_of,
 };
-use devices::loaded;
+use devices::loaded_at;
 use fitter::{FitFault, Overfull, cells_over_room};
 use name_uses::ModuleParts;
-use pld_base::{DeviceName, ListOf, OutOfMemory, put_decimal};
+use pld_base::{ListOf, Model, OutOfMemory, put_decimal};
 use pld_device::{Device, Loaded};
 use std::alloc::Global;
 use std::marker::Brand;
@@ -61,16 +62,16 @@ fn put_cell(
     Ok(())
 }
 
-/// Appends a line on each cell of a module that is over its room, on the device of this name.
+/// Appends a line on each cell of a module that is over its room, on this model of its device.
 fn put_cells<D: Device>(
     alloc: Global,
-    name: DeviceName,
+    model: Model,
     text: &mut Vec<u8>,
     module: Module,
 ) -> Result<(), CompileFault>
-    requires { table_of name ≡ D.table }
+    requires { table_at model ≡ D.table }
 {
-    let device = loaded::<D>(name);
+    let device = loaded_at::<D>(model);
     let placed = placed_module::<D>(alloc, &device, module)?;
     let source = parts_of(alloc, &placed)?;
     let names = names_of::<D>(alloc, &device, &source)?;
@@ -87,7 +88,8 @@ fn put_source_cells(alloc: Global, text: &mut Vec<u8>, bytes: &[u8]) -> Result<(
 {
     let module = module_of(alloc, bytes)?;
     let device = device_named(alloc, &module)?;
-    put_cells::<Brand>(alloc, device, text, module)
+    let modelled = modelled_of(alloc, device, &module)?;
+    put_cells::<Brand>(alloc, modelled.model, text, module)
 }
 
 /// Appends a line on each cell that is over its room, of a source that does not fit; nothing of one that is refused before.

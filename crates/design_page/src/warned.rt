@@ -2,14 +2,15 @@
 
 ghost use Rattle.std.specs.Prelude.{◌≤◌, length};
 
+use crate::assigned_twice::assigned_twice;
 use crate::made::Input;
+use crate::pin_warnings::pin_warnings;
 use crate::places::{Origins, origins_of};
+use crate::plus_signs::signs_of_plus;
 use crate::telling::put_place;
-use abel_tree::{Declared, Meaning, Module};
-use design_drawings::{Design, Flow, flow_of, is_low_register};
-use name_uses::ModuleParts;
-use placer::seen_in;
-use pld_base::{NameText, OutOfMemory, level_at};
+use abel_tree::Module;
+use design_drawings::Design;
+use pld_base::{NameText, OutOfMemory};
 use pld_device::{Device, Loaded};
 use reports::{Cause, Warning, warnings};
 use std::alloc::Global;
@@ -27,69 +28,6 @@ fn words(cause: Cause) -> (&'static [u8], &'static [u8]) {
         ),
         Cause::NoVectors => (b"there are no test vectors", b""),
     }
-}
-
-/// The most pins that `seen_in` is asked for at once, more than a device has.
-const MOST_PINS: usize = 32;
-
-/// A warning on a name at its declaration.
-fn warning_on(alloc: Global, declared: &Declared, cause: Cause) -> Result<Warning, OutOfMemory> {
-    Ok(Warning {
-        cause,
-        place: declared.place,
-        name: NameText::new(alloc, declared.name.bytes())?,
-    })
-}
-
-/// The numbers of the names whose pins no fuse uses.
-fn idle_pins<D: Device>(device: &Loaded<D>, design: Design) -> Result<Vec<usize>, OutOfMemory> {
-    let mut found = Vec::new(design.alloc);
-    for (number, declared) in design.names.list.as_slice().iter().enumerate() {
-        if let Meaning::Pin { pin, negated: _ } = declared.meaning {
-            if flow_of::<D>(device, design, pin) == Flow::Unused {
-                found.push(number)?;
-            }
-        }
-    }
-    Ok(found)
-}
-
-/// Adds the pins that nothing assigns and no section reads.
-fn add_unused<D: Device>(
-    device: &Loaded<D>,
-    found: &mut Vec<Warning>,
-    design: Design,
-    module: &Module,
-) -> Result<(), OutOfMemory> {
-    let names = design.names.list.as_slice();
-    let idle = idle_pins::<D>(device, design)?;
-    let (asked, _) = idle.split_at(idle.len().min(MOST_PINS));
-    let source = ModuleParts::new(design.alloc, module)?;
-    let seen = seen_in(design.alloc, names, &source, asked)?;
-    for (place, number) in asked.iter().enumerate() {
-        if !level_at(seen.read, place as u8) {
-            if let Some(declared) = names.get(*number) {
-                found.push(warning_on(design.alloc, declared, Cause::UnusedPin)?)?;
-            }
-        }
-    }
-    Ok(())
-}
-
-/// Adds the active-low registers that are asserted after power-up.
-fn add_asserted<D: Device>(
-    device: &Loaded<D>,
-    found: &mut Vec<Warning>,
-    design: Design,
-) -> Result<(), OutOfMemory> {
-    for declared in design.names.list.as_slice() {
-        if let Meaning::Pin { pin, negated } = declared.meaning {
-            if negated && is_low_register::<D>(device, design, pin) {
-                found.push(warning_on(design.alloc, declared, Cause::AssertedAtPowerUp)?)?;
-            }
-        }
-    }
-    Ok(())
 }
 
 /// Appends the line on a warning.
@@ -130,6 +68,54 @@ fn put_list(
     Ok(())
 }
 
+/// Adds the warnings on `+` that `warnings` doesn't look for.
+fn add_plus_signs(
+    found: &mut Vec<Warning>,
+    design: Design,
+    module: &Module,
+) -> Result<(), OutOfMemory> {
+    for place in signs_of_plus(design.alloc, module, design.names)? {
+        found.push(Warning {
+            cause: Cause::PlusOfSingles,
+            place,
+            name: NameText::new(design.alloc, b"")?,
+        })?;
+    }
+    Ok(())
+}
+
+/// The warnings on what is written: those of each section that are seen in it alone, then `+` elsewhere, and then names that are
+/// assigned twice.
+fn written_warnings(design: Design, module: &Module) -> Result<Vec<Warning>, OutOfMemory> {
+    let mut found = Vec::new(design.alloc);
+    for warning in warnings(design.alloc, module, design.names)?.into_vec() {
+        if matches!(warning.cause, Cause::PlusOfSingles | Cause::IdleWord) {
+            found.push(warning)?;
+        }
+    }
+    add_plus_signs(&mut found, design, module)?;
+    for warning in assigned_twice(design.alloc, module)? {
+        found.push(warning)?;
+    }
+    Ok(found)
+}
+
+/// Adds that a source has no test vectors, if it has none.
+fn add_no_vectors(
+    found: &mut Vec<Warning>,
+    design: Design,
+    module: &Module,
+) -> Result<(), OutOfMemory> {
+    if design.file.vectors.as_slice().is_empty() {
+        found.push(Warning {
+            cause: Cause::NoVectors,
+            place: module.place,
+            name: NameText::new(design.alloc, b"")?,
+        })?;
+    }
+    Ok(())
+}
+
 /// Appends the warnings on a compiled source.
 pub fn put_warnings<D: Device>(
     device: &Loaded<D>,
@@ -140,10 +126,9 @@ pub fn put_warnings<D: Device>(
 ) -> Result<(), OutOfMemory>
     requires { length input.bytes.now ≤ 1048576 }
 {
-    let of_source = warnings(design.alloc, module, design.names)?;
-    let mut of_pins = Vec::new(design.alloc);
-    add_unused::<D>(device, &mut of_pins, design, module)?;
-    add_asserted::<D>(device, &mut of_pins, design)?;
-    put_list(design.alloc, text, input, of_source.as_slice())?;
+    let mut of_source = written_warnings(design, module)?;
+    let of_pins = pin_warnings::<D>(device, design, module)?;
+    add_no_vectors(&mut of_source, design, module)?;
+    put_list(design.alloc, text, input, &of_source)?;
     put_list(design.alloc, text, input, &of_pins)
 }

@@ -5,7 +5,7 @@ mod rows;
 mod runs;
 mod texts;
 
-use rows::{try_calls, try_pages};
+use rows::{try_calls, try_pages, try_shown};
 use std::alloc::{AllocError, Global};
 use std::io::{self, Write};
 use test_rows::{Report, Section, sections};
@@ -22,6 +22,7 @@ fn try_section(
     };
     match kind {
         "pages" => try_pages(alloc, section, report),
+        "shown" => try_shown(alloc, section, report),
         "calls" => try_calls(alloc, section, report),
         _ => {
             report.unread(0);

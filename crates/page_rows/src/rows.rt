@@ -1,6 +1,6 @@
 //! The kinds of rows.
 
-use crate::runs::run_found;
+use crate::runs::{run_found, unshown};
 use crate::texts::{lines_of, number_of};
 use std::alloc::{AllocError, Global};
 use test_rows::{Report, Row, Section, unescaped};
@@ -34,6 +34,34 @@ pub fn try_pages(
     for block in &section.blocks(alloc)? {
         let text = lines_of(alloc, block)?;
         if !is_page_tried(alloc, text.as_str(), number_of(block), report) {
+            report.unread(number_of(block))
+        }
+    }
+    Ok(())
+}
+
+/// Tries a block of texts that the page has to have. False for one that can't be read.
+fn is_shown_tried(alloc: Global, text: &str, number: usize, report: &mut Report<'_>) -> bool {
+    let Some((words, wanted, input)) = parts(text) else {
+        return false;
+    };
+    let (Some(wanted), Some(input)) = (unescaped(alloc, wanted), unescaped(alloc, input)) else {
+        return false;
+    };
+    report.row(number, b"", &unshown(alloc, words, &input, &wanted));
+    true
+}
+
+/// Each block is the words, and after each `|` a text that the page has to have; and below what is under `in`. The texts that it
+/// doesn't have are what is found.
+pub fn try_shown(
+    alloc: Global,
+    section: &Section<'_>,
+    report: &mut Report<'_>,
+) -> Result<(), AllocError> {
+    for block in &section.blocks(alloc)? {
+        let text = lines_of(alloc, block)?;
+        if !is_shown_tried(alloc, text.as_str(), number_of(block), report) {
             report.unread(number_of(block))
         }
     }

@@ -1,5 +1,7 @@
 //! Runs of the program's top call over files and a report in memory.
 
+ghost use Rattle.std.specs.Prelude.{◌<◌, ◌≤◌, length};
+
 use crate::texts::put_lines;
 use design_page::run;
 use outside::{MemoryFiles, MemorySink};
@@ -74,6 +76,73 @@ fn put_run(
 pub fn run_found(alloc: Global, line: &str, bytes: &[u8], calls: (u32, u32)) -> Found {
     let mut found = Found::new(alloc);
     if put_run(alloc, &mut found, line, bytes, calls).is_err() {
+        found.text("no memory");
+    }
+    found
+}
+
+/// Whether a text is somewhere in a page.
+fn has_text(page: &[u8], text: &[u8]) -> bool {
+    let mut rest = page;
+    'bytes: while !rest.is_empty() {
+        if rest.starts_with(text) {
+            return true;
+        }
+        rest = rest.split_at(1).1;
+    }
+    text.is_empty()
+}
+
+/// The text up to the first `|`, and what follows it.
+fn first_text(texts: &[u8]) -> (&[u8], &[u8])
+    ensures { 0 < length texts.now → length result.1.now < length texts.now }
+{
+    match texts.iter().position(|byte| *byte == b'|') {
+        Some(place) => {
+            let (first, rest) = texts.split_at(place);
+            (first, rest.split_at(1).1)
+        }
+        None => (texts, b""),
+    }
+}
+
+/// Appends the texts that a page doesn't have.
+fn put_unshown(found: &mut Found, page: &[u8], texts: &[u8]) {
+    let mut rest = texts;
+    'texts: while !rest.is_empty() {
+        let (text, behind) = first_text(rest);
+        if !has_text(page, text) {
+            found.put(text);
+            found.text("|");
+        }
+        rest = behind;
+    }
+}
+
+/// Makes the page of the bytes under `in`, and appends the texts that it doesn't have.
+fn put_page(
+    alloc: Global,
+    found: &mut Found,
+    line: &str,
+    bytes: &[u8],
+    texts: &[u8],
+) -> Result<(), OutOfMemory> {
+    let words = words_of(alloc, line)?;
+    let mut files = MemoryFiles::new(alloc);
+    files.add("in", bytes)?;
+    let mut report = MemorySink::new(alloc);
+    run(alloc, &words, &mut files, &mut report);
+    match files.get("out") {
+        Some(page) => put_unshown(found, page, texts),
+        None => found.text("no page"),
+    }
+    Ok(())
+}
+
+/// Which of the texts, with `|` between them, the page of the bytes under `in` doesn't have.
+pub fn unshown(alloc: Global, line: &str, bytes: &[u8], texts: &[u8]) -> Found {
+    let mut found = Found::new(alloc);
+    if put_page(alloc, &mut found, line, bytes, texts).is_err() {
         found.text("no memory");
     }
     found
