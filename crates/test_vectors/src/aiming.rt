@@ -3,6 +3,7 @@
 //! The levels begin at random but for those that the row asks. Then, some thirty times, what is still in the way is changed:
 //! a cell that isn't enabled, a literal that a cell drives, or another row of the cell that is true.
 
+use crate::asked_levels::{Aim, added, missing};
 use crate::chance::Chance;
 use crate::right::Right;
 use crate::suspect::Target;
@@ -14,50 +15,6 @@ use pld_device::Device;
 
 /// How often something is changed.
 const CHANGES: usize = 30;
-
-/// The outside levels so far, and the pins whose levels stay.
-#[derive(Clone, Copy)]
-struct Aim {
-    outside: u32,
-    fixed: u32,
-}
-
-/// The pins at which a point doesn't have the level that a mask asks.
-fn missing(mask: RowMask, at: &Point) -> u32 {
-    mask.pins.yes & !at.pins | mask.pins.no & at.pins
-}
-
-/// The pins that only the stricter mask asks.
-fn added(target: &Target) -> u32 {
-    pins_of(target.strict) & !pins_of(target.loose)
-}
-
-impl Aim {
-    /// The levels that a mask asks, but at pins whose levels stay.
-    fn to_mask(self, mask: RowMask) -> Aim {
-        let cleared = self.outside & !(mask.pins.no & !self.fixed);
-        Aim {
-            outside: cleared | mask.pins.yes & !self.fixed,
-            fixed: self.fixed,
-        }
-    }
-
-    /// Random levels but for the row's: it is true on the one chip alone.
-    fn begun(target: &Target, chance: &mut Chance, pins: u32, clock: u32) -> Aim {
-        let any = Aim {
-            outside: chance.word() & pins & !clock,
-            fixed: clock,
-        };
-        let loose = any.to_mask(target.loose);
-        let more = added(target) & !clock;
-        let opposite = loose.outside & !(target.strict.pins.yes & more)
-            | target.strict.pins.no & more;
-        Aim {
-            outside: opposite,
-            fixed: clock | pins_of(target.loose) | more,
-        }
-    }
-}
 
 /// Changes the output of a cell: a row that is true gets another level at one of its pins, or one that isn't gets its own.
 fn turn_cell(cell: &Wired, aim: Aim, chance: &mut Chance, at: &Point) -> Aim {

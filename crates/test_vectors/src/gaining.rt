@@ -1,4 +1,4 @@
-//! What a trial finds, and the best of some.
+//! What a trial finds, and the best of some trials.
 
 use crate::aiming::aim_at;
 use crate::search::Search;
@@ -9,11 +9,6 @@ use pld_device::Device;
 
 /// How many wrong fuses are tried at once, about.
 const SAMPLE: usize = 400;
-
-/// How many vectors are sought for one wrong fuse at a state, and at all states.
-const TRIES: u16 = 3;
-
-const MOST_TRIES: u16 = 60;
 
 /// A trial and how many wrong fuses its vector finds, as far as they were tried.
 #[derive(Clone, Copy)]
@@ -65,7 +60,7 @@ impl<'a, D: Device> Search<'a, D> {
     }
 
     /// Whether a trial may be made: no reset comes for a moment, and there is a way back if there has to be one.
-    fn is_allowed(&self, at: &Points, trial: &Trial, stays: bool) -> bool {
+    pub fn is_allowed(&self, at: &Points, trial: &Trial, stays: bool) -> bool {
         if !self.right.is_steady(&at.low, trial) {
             return false;
         }
@@ -77,7 +72,7 @@ impl<'a, D: Device> Search<'a, D> {
     }
 
     /// What a trial gains.
-    fn gain_of(&self, at: &Points, trial: &Trial, stays: bool) -> Gain {
+    pub fn gain_of(&self, at: &Points, trial: &Trial, stays: bool) -> Gain {
         let found = if self.is_allowed(at, trial, stays) {
             self.gain(at, &self.right.vector(at, trial))
         } else {
@@ -90,7 +85,7 @@ impl<'a, D: Device> Search<'a, D> {
     }
 
     /// The numbers of the wrong fuses that aren't found and that the Qs allow to be.
-    fn open(&self, at: &Points) -> Result<Vec<usize>, OutOfMemory> {
+    pub fn open(&self, at: &Points) -> Result<Vec<usize>, OutOfMemory> {
         let mut open = Vec::new(self.alloc);
         for (index, suspect) in self.suspects.iter().enumerate() {
             if !suspect.is_found && suspect.target.is_possible(at.low.q) {
@@ -107,7 +102,7 @@ impl<'a, D: Device> Search<'a, D> {
     }
 
     /// The best of so many trials, each aimed at one of these wrong fuses, with and without a clock.
-    fn best_of_some(
+    pub fn best_of_some(
         &mut self,
         at: &Points,
         open: &[usize],
@@ -130,107 +125,5 @@ impl<'a, D: Device> Search<'a, D> {
             }
         }
         best
-    }
-
-    /// Whether the vector of a trial finds the wrong fuse of this number.
-    fn is_hit(&self, at: &Points, trial: &Trial, number: usize) -> bool {
-        let Some(suspect) = self.suspects.get(number) else {
-            return false;
-        };
-        let Some(own) = self.own_points(at, suspect) else {
-            return false;
-        };
-        let vector = self.right.vector(at, trial);
-        let test = self.right.test(&vector);
-        let (low, high) = self.right.passages(at, &test);
-        self.right.agrees(&test, &low.last, &high.last) && suspect.is_shown(&own, &test)
-    }
-
-    /// Counts one more try for a wrong fuse. Answers whether there was one left.
-    fn counts_try(&mut self, number: usize) -> bool {
-        let Some(suspect) = self.suspects.get_mut(number) else {
-            return false;
-        };
-        if suspect.tries >= MOST_TRIES {
-            return false;
-        }
-        suspect.tries += 1;
-        true
-    }
-
-    /// A trial that finds this wrong fuse.
-    fn hit(&mut self, at: &Points, number: usize, stays: bool) -> Option<Gain> {
-        for _ in 0..TRIES {
-            if !self.counts_try(number) {
-                return None;
-            }
-            let first = self.aim(at, number)?;
-            let second = Trial {
-                is_pulse: !first.is_pulse && self.right.wiring.clock != 0,
-                ..first
-            };
-            for trial in [first, second] {
-                if self.is_allowed(at, &trial, stays) && self.is_hit(at, &trial, number) {
-                    return Some(Gain { trial, found: 1 });
-                }
-            }
-        }
-        None
-    }
-
-    /// A trial that finds one of these wrong fuses, each tried alone.
-    fn first_hit(&mut self, at: &Points, open: &[usize], stays: bool) -> Option<Gain> {
-        for number in open {
-            if let Some(gain) = self.hit(at, *number, stays) {
-                return Some(gain);
-            }
-        }
-        None
-    }
-
-    /// The best of some trials from these points, better still by single pins. None if none finds a wrong fuse.
-    pub fn best(
-        &mut self,
-        at: &Points,
-        count: usize,
-        stays: bool,
-    ) -> Result<Option<Trial>, OutOfMemory> {
-        let open = self.open(at)?;
-        let found = match self.best_of_some(at, &open, count, stays) {
-            Some(gain) => Some(gain),
-            None => self.first_hit(at, &open, stays),
-        };
-        let Some(gain) = found else {
-            return Ok(None);
-        };
-        Ok(Some(self.climbed(at, gain, stays)?))
-    }
-
-    /// The pins whose levels may be chosen, in a random order.
-    fn shuffled_pins(&mut self) -> Result<Vec<u32>, OutOfMemory> {
-        let mut left = self.right.wiring.pins & !self.right.wiring.clock;
-        let mut pins = Vec::new(self.alloc);
-        for _ in 0..32 {
-            let pin = self.chance.bit_of(left);
-            if pin != 0 {
-                pins.push(pin)?;
-            }
-            left &= !pin;
-        }
-        Ok(pins)
-    }
-
-    /// A trial that finds as many or more, by other levels of single pins.
-    fn climbed(&mut self, at: &Points, gain: Gain, stays: bool) -> Result<Trial, OutOfMemory> {
-        let mut best = gain;
-        for _ in 0..2 {
-            for pin in self.shuffled_pins()? {
-                let turned = self.gain_of(at, &best.trial.with_turned(pin), stays);
-                if turned.found >= best.found {
-                    best = turned;
-                }
-            }
-        }
-        Ok(best.trial)
     }
 }

@@ -2,11 +2,16 @@
 #![tactic(auto)]
 
 mod aiming;
+mod asked_levels;
+mod beginning;
 mod chance;
 mod chip;
+mod climbing;
 mod exploring;
+mod following;
 mod gaining;
 mod hidden;
+mod hitting;
 mod making;
 mod right;
 mod search;

@@ -45,7 +45,8 @@ fn enable_of<D: Device>(chip: &Chip<'_, D>, enable: Enable) -> RowMask {
     match enable {
         Enable::Row(row) => chip.mask(row),
         Enable::PinLow(pin) if pin < 32 => RowMask::full().with_pin(pin, false),
-        Enable::PinLow(_) => RowMask::full(),
+        Enable::PinLow(_) | Enable::Driven => RowMask::full(),
+        Enable::Released => RowMask::never(),
     }
 }
 
@@ -73,7 +74,7 @@ fn cells_of<D: Device>(alloc: Global, chip: &Chip<'_, D>) -> Result<Vec<Wired>, 
             enable: enable_of(chip, cell.enable),
             enable_row: match cell.enable {
                 Enable::Row(row) => Some(row),
-                Enable::PinLow(_) => None,
+                Enable::PinLow(_) | Enable::Driven | Enable::Released => None,
             },
             first: cell.first,
             rows: rows_of(alloc, chip, cell.first, cell.room)?,

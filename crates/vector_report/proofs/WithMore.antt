@@ -1,4 +1,4 @@
--- A file that says what another one says, with more vectors behind its own.
+-- A file that says what another one says, with more vectors after its own.
 use Rattle.std.proofs.Common.{◌≡◌, ℕ, ◌-◌, ◌≤◌, List, [], ◌++◌, length, ap, sym, ◌∙◌, subst, arith}
 use Rattle.vector_report.proofs.Common.{append-nil, length-map, map-append, FuseFile, all_chars, chars_of, contents, Vector, Table, IsFileOf, SaysWith, IsWithMore, with_more}
 use Rattle.jedec_reader.specs.declared.fuse_file.FuseFile as kept

@@ -2,7 +2,7 @@
 use Rattle.std.specs.Prelude.{◌≡◌, ℕ, ◌-◌, ◌≤◌, ◌==◌, ◌⊎◌, if◌then◌else◌, List, ◌++◌, length, Option, Some}
 use Rattle.vector_report.specs.Prelude.{Ending, FuseFile, GradeEnds, IsFileOf, IsRefusedFile, Output, Table, ends}
 
--- what a file says with more vectors behind its own
+-- what a file says with more vectors after its own
 abbrev pub with_more : FuseFile → (more : List (List ℕ)) → FuseFile
 with_more file more = record {
   fuses = file.fuses;
@@ -11,7 +11,7 @@ with_more file more = record {
   default_level = file.default_level;
 }
 
--- the one bytes are a fuse file of the device, and the others one that says the same, with more vectors behind its own: so many
+-- the one bytes are a fuse file of the device, and the others one that says the same, with more vectors after its own: so many
 -- in all at most, or none more
 pub record IsWithMore (t : Table) (most : ℕ) (input output : List ℕ) : Type 0 where
   pub file : FuseFile

@@ -1,7 +1,8 @@
 //! `vectors DEVICE IN OUT`.
 
 ghost use Rattle.std.specs.Prelude.{◌≡◌, ◌≤◌, ◌-◌, ◌++◌, ℕ, List, true, IfOk, length};
-ghost use Rattle.devices.specs.Devices.{table_of};
+ghost use Rattle.devices.specs.Models.{table_at};
+ghost use Rattle.file_models.specs.FileModels.{file_table};
 ghost use Rattle.fuse_reports.specs.Ending.{limit};
 ghost use Rattle.fuse_reports.specs.FuseFiles.{IsFileOf};
 ghost use Rattle.fuse_reports.specs.View.{ending_seen};
@@ -10,11 +11,12 @@ ghost use Rattle.vector_report.specs.Vectoring.{IsWithMore, VectorsEnd, put_if_r
 
 use crate::saying::says_with;
 use crate::splicing::spliced;
-use devices::loaded;
+use devices::loaded_at;
+use file_models::model_of;
 use fuse_reports::{Ending, Output, Taken, take_file};
 use grade_report::grade_ending;
 use jedec_reader::FuseFile;
-use pld_base::{DeviceName, OutOfMemory, Vector};
+use pld_base::{DeviceName, Model, OutOfMemory, Vector};
 use pld_device::{Device, Loaded};
 use std::alloc::Global;
 use std::marker::Brand;
@@ -32,7 +34,7 @@ struct Target<'a> {
     name: &'a str,
 }
 
-/// The file's vectors, and others behind them.
+/// The file's vectors, and others after them.
 fn with_more(alloc: Global, file: &FuseFile, more: &[Vector]) -> Result<Vec<Vector>, OutOfMemory>
     ensures { IfOk result (λ all. all.items ≡ file.now.vectors ++ more.now) }
 {
@@ -41,7 +43,7 @@ fn with_more(alloc: Global, file: &FuseFile, more: &[Vector]) -> Result<Vec<Vect
     Ok(all)
 }
 
-/// How many vectors may come behind the file's own, if there may be so many in all.
+/// How many vectors may follow the file's own, if there may be so many in all.
 fn room_for(file: &FuseFile, most: u16) -> usize
     ensures { result ≤ most - length file.now.vectors }
 {
@@ -49,7 +51,7 @@ fn room_for(file: &FuseFile, most: u16) -> usize
     most.saturating_sub(file.vectors.as_slice().len())
 }
 
-/// Whether bytes are a fuse file that says what another one says, with these vectors behind its own.
+/// Whether bytes are a fuse file that says what another one says, with these vectors after its own.
 fn is_right<D: Device>(
     alloc: Global,
     device: &Loaded<D>,
@@ -107,30 +109,30 @@ fn put_if_right<'a>(name: &'a str, bytes: Vec<u8>, graded: Ending<'a>) -> Ending
     }
 }
 
-/// How `vectors` ends with bytes as a fuse file of the device of this name.
+/// How `vectors` ends with bytes as a fuse file of the device of this model.
 fn ending_for<'a, D: Device>(
     alloc: Global,
-    device: DeviceName,
+    model: Model,
     bytes: &[u8],
     most: u16,
     output: Target<'a>,
 ) -> Result<Ending<'a>, OutOfMemory>
-    requires table { table_of device ≡ D.table }
+    requires table { table_at model ≡ D.table }
     requires within { length bytes.now ≤ limit }
     ensures { IfOk result
         (λ e. VectorsEnd D.table most bytes.now output.entry.name.now (ending_seen e)) }
 {
-    let loaded = loaded::<D>(device);
-    let file = match take_file::<D>(alloc, &loaded, bytes)? {
+    let device = loaded_at::<D>(model);
+    let file = match take_file::<D>(alloc, &device, bytes)? {
         Taken::File(file) => file,
         Taken::Refused(line) => return Ok(Ending::plain(4, line)),
     };
-    let out = vectored::<D>(alloc, &loaded, bytes, &file, most)?;
-    let graded = grade_ending(alloc, device, &out)?;
+    let out = vectored::<D>(alloc, &device, bytes, &file, most)?;
+    let graded = grade_ending(alloc, model.name, &out)?;
     Ok(put_if_right(output.name, out, graded))
 }
 
-/// The same for each name.
+/// The same for each name, in the mode that the fuses say.
 pub fn vectors_ending<'a>(
     alloc: Global,
     device: DeviceName,
@@ -140,7 +142,8 @@ pub fn vectors_ending<'a>(
 ) -> Result<Ending<'a>, OutOfMemory>
     requires { length bytes.now ≤ limit }
     ensures { IfOk result
-        (λ e. VectorsEnd (table_of device) most bytes.now output.now (ending_seen e)) }
+        (λ e. VectorsEnd (file_table device bytes.now) most bytes.now output.now (ending_seen e)) }
 {
-    ending_for::<Brand>(alloc, device, bytes, most, Target { name: output })
+    let model = model_of(alloc, device, bytes)?;
+    ending_for::<Brand>(alloc, model, bytes, most, Target { name: output })
 }

@@ -3,7 +3,7 @@ use Rattle.std.proofs.Common.{◌≡◌, ℕ, ◌<◌, Bool, true, List, length,
 use Rattle.wrong_fuses.proofs.Common.{reset_in, preset_in, any_same, AreAlike, IsPoint, Levels, IsDevice, device_logic, enabled_by, is_enabled, next_q, or_value, pin_level, row_if_any, Table, cell_at, no_cell, Refines, RestsOnce, MeanSame}
 use Rattle.pld_base.specs.Bits.{same_level}
 use Rattle.pld_device.specs.declared.enable.Enable.{Enable}
-use Rattle.pld_device.specs.declared.enable.Enable.TheVariants.{Row, PinLow}
+use Rattle.pld_device.specs.declared.enable.Enable.TheVariants.{Row, PinLow, Driven, Released}
 use Rattle.pld_machine.specs.Through.{AllowsAt}
 use Rattle.fuse_compare.proofs.SameFunctions.{alike_by_functions}
 
@@ -25,6 +25,8 @@ module _ (t : Table) (laws : IsDevice t) (a b : List Bool) (same : MeanSame t a 
         by_enable : (e : Enable) → (cell_at t c).enable ≡ e → enabled_by t a at e ≡ enabled_by t b at e
         by_enable (Row row) is = same.rows row ((laws.cells c no_cell within).enable_below row is) at point
         by_enable (PinLow pin) is = refl
+        by_enable Driven is = refl
+        by_enable Released is = refl
 
     level_same : (c : ℕ) → c < length t.cells → pin_level t a at c ≡ pin_level t b at c
     level_same c within = rw ((same.kinds c within).0, (same.kinds c within).1, or_same c within) refl
