@@ -4,6 +4,7 @@ pub mod ControlFuses
 pub mod Differences
 pub mod Fitting
 pub mod Mismatches
+pub mod OnlyPair
 pub mod PairTables
 pub mod PortedFiles
 pub mod PortedFuses

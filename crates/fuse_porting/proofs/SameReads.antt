@@ -14,7 +14,7 @@ use Rattle.pld_device.specs.Table.{Table, cell_at, no_cell}
 use Rattle.pld_device.specs.declared.carry.Carry.{Carry}
 use Rattle.pld_device.specs.declared.cell.Cell.{Cell}
 use Rattle.pld_device.specs.declared.enable.Enable.{Enable}
-use Rattle.pld_device.specs.declared.enable.Enable.TheVariants.{PinLow, Row}
+use Rattle.pld_device.specs.declared.enable.Enable.TheVariants.{Driven, PinLow, Released, Row}
 use Rattle.fuse_porting.specs.SameArray.{HasSameArray, IsCarriedOver}
 use Rattle.fuse_porting.proofs.CarriedLogics.{cell_same, stores_same, zeros_whole}
 
@@ -44,6 +44,8 @@ module _ (f t : Table) (a b : List Bool) (fd : IsDevice f) (td : IsDevice t) (sa
       by_enable : (e : Enable) → (cell_at t c).enable ≡ e → enable_reads t b e d ≡ enable_reads f a e d
       by_enable (Row row) is = row_alike row ((td.cells c no_cell within).enable_below row is) d
       by_enable (PinLow pin) is = refl
+      by_enable Driven is = refl
+      by_enable Released is = refl
 
   drives_alike : (c : ℕ) → c < length t.cells → never_drives t b c ≡ never_drives f a c
   drives_alike c within = by_enable (cell_at t c).enable refl ∙ ap (λ (cell : Cell). enables_never f a cell.enable) (cell_same f t a b fd td same over c)
@@ -51,6 +53,8 @@ module _ (f t : Table) (a b : List Bool) (fd : IsDevice f) (td : IsDevice t) (sa
       by_enable : (e : Enable) → (cell_at t c).enable ≡ e → enables_never t b e ≡ enables_never f a e
       by_enable (Row row) is = never_alike row ((td.cells c no_cell within).enable_below row is)
       by_enable (PinLow pin) is = refl
+      by_enable Driven is = refl
+      by_enable Released is = refl
 
   rows_alike : (c d : ℕ) → c < length t.cells
       → list_any (λ row. row_reads_cell t b row d) (range_with_len (cell_at t c).first (cell_at t c).room)

@@ -11,6 +11,7 @@ ghost use Rattle.fuse_porting.specs.Across.{CanBeComparedAcross, IsAcrossFault, 
 ghost use Rattle.fuse_porting.specs.AllowSame.{AllowSame};
 ghost use Rattle.fuse_porting.specs.SameArray.{HasSameArray, IsCarriedOver};
 
+use crate::fault::PortFault;
 use crate::porting::ported;
 use device_logic::SimFault;
 use fuse_compare::{Difference, compare};
@@ -18,8 +19,8 @@ use pld_base::OutOfMemory;
 use pld_device::{Device, Flip, Fuses, Loaded};
 use std::alloc::Global;
 
-/// The fuses with which the other device does what a device that always complements does. Only memory can be missing for
-/// them.
+/// The fuses with which the other device does what a device that always complements does. Each of its cells has a
+/// counterpart, so that no more than memory can be missing.
 fn carried_over<F: Device, T: Device>(
     alloc: Global,
     from: &Loaded<F>,
@@ -34,7 +35,8 @@ fn carried_over<F: Device, T: Device>(
 {
     match ported::<F, T>(alloc, from, to, fuses) {
         Ok(other) => Ok(other),
-        Err(_fault) => Err(OutOfMemory),
+        Err(PortFault::OutOfMemory) => Err(OutOfMemory),
+        Err(PortFault::NoCounterpart(_pin)) => unreachable!(),
     }
 }
 

@@ -1,13 +1,14 @@
 //! Laws of fuses that are carried over, as the contracts of calls that do nothing.
 
 ghost use Rattle.device_logic.specs.CellReads.{cell_reads};
-ghost use Rattle.devices.specs.Devices.{table_of};
+ghost use Rattle.devices.specs.Models.{table_at};
 ghost use Rattle.pld_order.specs.Graphs.{HasNoLoop};
-ghost use Rattle.std.specs.Prelude.{ℕ, ◌<◌, ◌≡◌, ◌*◌, [], Bool, List, Some, length};
+ghost use Rattle.std.specs.Prelude.{ℕ, ◌<◌, ◌≡◌, ◌*◌, [], Bool, List, length};
 ghost use Rattle.fuse_porting.specs.Prelude.{Table, IsDevice, Logic, device_logic, HasRunsOf, HasRestsOf, HasStepsOf};
 ghost use Rattle.pld_base.specs.declared.device_name.DeviceName.{DeviceName};
 ghost use Rattle.pld_device.specs.declared.flip.Flip.TheVariants.{Always};
-ghost use Rattle.fuse_porting.specs.Pairs.{IsPair, counterpart_of};
+ghost use Rattle.fuse_porting.specs.Pairs.{ArePair, IsPair};
+ghost use Rattle.fuse_porting.specs.declared.pairs.Pair.{Pair};
 ghost use Rattle.fuse_porting.specs.Polarities.{IsPortFault};
 ghost use Rattle.fuse_porting.specs.declared.fault.PortFault.{PortFault};
 ghost use Rattle.fuse_porting.specs.declared.fault.PortFault.TheVariants.{OutOfMemory};
@@ -30,10 +31,13 @@ pub fn ported_logics()
     ensures differences { (a b other : Logic) → a.cells ≡ b.cells → AllowSame b other → FindsSame a b other × FindsSameFirst b a other }
 {}
 
-/// A device and its counterpart are a pair; each PAL16 is the counterpart of a mode of the GAL16V8. Does nothing.
+/// Two devices are a pair in the modes in which they have the same array, whichever of them is the first; and these modes are the
+/// only ones. Does nothing.
 pub fn each_pair()
-    ensures pair { (from to : DeviceName) → counterpart_of from ≡ Some to → IsPair (table_of from) (table_of to) }
-    ensures mutual { (from to : DeviceName) → counterpart_of from ≡ Some to → counterpart_of to ≡ Some from }
+    ensures pair { (from to : DeviceName) (pair : Pair) → ArePair from to pair → IsPair (table_at pair.from) (table_at pair.to) }
+    ensures mutual { (from to : DeviceName) (pair : Pair) → ArePair from to pair
+        → ArePair to from (record { from = pair.to; to = pair.from }) }
+    ensures only { (from to : DeviceName) (pair other : Pair) → ArePair from to pair → ArePair from to other → pair ≡ other }
     ensures back { (f t : Table) → HasSameArray f t → HasSameArray t f }
 {}
 

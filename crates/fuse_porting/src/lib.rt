@@ -13,6 +13,6 @@ mod whole_file;
 pub use comparing::compare_across;
 pub use fault::PortFault;
 pub use laws::{each_pair, ported_logics, there_and_back};
-pub use pairs::{counterpart_of, is_counterpart};
+pub use pairs::{Pair, counterpart_of, pair_of, replacing};
 pub use porting::ported;
 pub use whole_file::ported_file;

@@ -46,7 +46,8 @@ fn never_drives<F: Device>(array: &FuseArray<'_, F>, cell: u8) -> bool
 {
     match cell_of::<F>(array.device(), cell).enable {
         Enable::Row(row) => !array.is_live(row),
-        Enable::PinLow(_pin) => false,
+        Enable::PinLow(_) | Enable::Driven => false,
+        Enable::Released => true,
     }
 }
 

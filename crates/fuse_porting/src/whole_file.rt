@@ -8,6 +8,7 @@ ghost use Rattle.fuse_porting.specs.PortedFile.{IsPortedFile};
 
 use crate::fault::PortFault;
 use crate::porting::ported;
+use jedec_file::JedecFault;
 use jedec_reader::FuseFile;
 use pld_device::{Device, Loaded};
 use spliced_files::spliced;
@@ -34,6 +35,10 @@ pub fn ported_file<F: Device, T: Device>(
     let fuses = ported::<F, T>(alloc, from, to, &file.fuses)?;
     match spliced::<F, T>(alloc, from, to, bytes, &fuses) {
         Ok(out) => Ok(out),
-        Err(_fault) => Err(PortFault::OutOfMemory),
+        Err(fault) => match fault {
+            JedecFault::OutOfMemory => Err(PortFault::OutOfMemory),
+            // The bytes were read, so that they have a start, an end and the right sum.
+            _ => unreachable!(),
+        },
     }
 }

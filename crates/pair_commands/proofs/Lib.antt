@@ -1,4 +1,3 @@
-pub mod AtPairs
 pub mod Common
 pub mod ComparedFiles
 pub mod PinDigits

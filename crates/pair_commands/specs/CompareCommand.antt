@@ -1,13 +1,14 @@
 -- `compare FROM A TO B`: how it ends (this project's rule: as `compare` of two files of one device).
-use Rattle.std.specs.Prelude.{◌≡◌, ◌≢◌, ℕ, ◌⊎◌, List, Some}
-use Rattle.pair_commands.specs.Prelude.{Ending, Table, ends, table_of}
+use Rattle.std.specs.Prelude.{◌≡◌, ℕ, ◌⊎◌, List}
+use Rattle.pair_commands.specs.Prelude.{Ending, Table, ends, table_at}
 use Rattle.fuse_reports.specs.FuseFiles.{IsGoodFile, IsRefusedFile}
 use Rattle.pair_commands.specs.Loading.{CanLoad, IsRefusedLoad, logic_with}
 use Rattle.fuse_compare.specs.Alike.{AreAlike, IsDifference, RunsAlike}
 use Rattle.fuse_compare.specs.declared.difference.Difference.{Difference}
 use Rattle.pair_commands.specs.PairText.{differ_line, same_line, unported_line}
 use Rattle.fuse_porting.specs.Across.{IsPlainAcross}
-use Rattle.fuse_porting.specs.Pairs.{counterpart_of}
+use Rattle.fuse_porting.specs.Pairs.{ArePair, HasNoPair}
+use Rattle.fuse_porting.specs.declared.pairs.Pair.{Pair}
 use Rattle.pld_base.specs.declared.device_name.DeviceName.{DeviceName}
 
 -- the bytes are a fuse file of each of the devices that is loaded; the two behave alike, and so do all their runs; the line says so
@@ -46,8 +47,8 @@ PairCompareEnds f t a b e =
     ⊎ (((report : List ℕ) × AreDifferentAcross f t a b report × (e ≡ ends 5 report))
     ⊎ ((report : List ℕ) × IsRefusedAcross f t a b report × (e ≡ ends 4 report)))
 
--- how it ends: so for a device and its counterpart, and with a refusal for any other two
+-- how it ends: so for two devices that are a pair, in the modes in which they are one, and with a refusal for any other two
 abbrev pub CompareEnds : (from to : DeviceName) → (a b : List ℕ) → Ending → Type 0
 CompareEnds from to a b e =
-    ((counterpart_of from ≡ Some to) × PairCompareEnds (table_of from) (table_of to) a b e)
-    ⊎ ((counterpart_of from ≢ Some to) × (e ≡ ends 3 (unported_line from to)))
+    ((pair : Pair) × ArePair from to pair × PairCompareEnds (table_at pair.from) (table_at pair.to) a b e)
+    ⊎ (HasNoPair from to × (e ≡ ends 3 (unported_line from to)))

@@ -1,9 +1,10 @@
 -- `port FROM IN TO OUT`: how it ends, and what that means (this project's rule).
-use Rattle.std.specs.Prelude.{◌≡◌, ◌≢◌, ℕ, ◌⊎◌, List, Some}
-use Rattle.pair_commands.specs.Prelude.{Ending, FuseFile, Table, ends, table_of}
+use Rattle.std.specs.Prelude.{◌≡◌, ℕ, ◌⊎◌, List, Some}
+use Rattle.pair_commands.specs.Prelude.{Ending, FuseFile, Table, ends, table_at}
 use Rattle.fuse_reports.specs.FuseFiles.{IsFileOf, IsRefusedFile}
 use Rattle.pair_commands.specs.PairText.{no_counterpart_line, ported_line, unported_line}
-use Rattle.fuse_porting.specs.Pairs.{counterpart_of}
+use Rattle.fuse_porting.specs.Pairs.{ArePair, HasNoPair}
+use Rattle.fuse_porting.specs.declared.pairs.Pair.{Pair}
 use Rattle.fuse_porting.specs.Polarities.{IsPortFault}
 use Rattle.fuse_porting.specs.PortedFile.{IsPortedFile}
 use Rattle.fuse_porting.specs.declared.fault.PortFault.TheVariants.{NoCounterpart}
@@ -29,8 +30,8 @@ PairEnds f t output bytes e =
     ⊎ (((pin : ℕ) × HasNoPort f t bytes pin × (e ≡ ends 3 (no_counterpart_line pin)))
     ⊎ ((report : List ℕ) × IsRefusedFile f bytes report × (e ≡ ends 4 report)))
 
--- how it ends: so for a device and its counterpart, and with a refusal for any other two
+-- how it ends: so for two devices that are a pair, in the modes in which they are one, and with a refusal for any other two
 abbrev pub PortEnds : (from to : DeviceName) → (output bytes : List ℕ) → Ending → Type 0
 PortEnds from to output bytes e =
-    ((counterpart_of from ≡ Some to) × PairEnds (table_of from) (table_of to) output bytes e)
-    ⊎ ((counterpart_of from ≢ Some to) × (e ≡ ends 3 (unported_line from to)))
+    ((pair : Pair) × ArePair from to pair × PairEnds (table_at pair.from) (table_at pair.to) output bytes e)
+    ⊎ (HasNoPair from to × (e ≡ ends 3 (unported_line from to)))

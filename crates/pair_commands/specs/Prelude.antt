@@ -1,6 +1,6 @@
 -- The words of the crates below that the clauses of this crate are said in, passed on from one place. Declares nothing.
 pub use Rattle.std.specs.Fmt.{decimal}
-pub use Rattle.devices.specs.Devices.{table_of}
+pub use Rattle.devices.specs.Models.{table_at}
 pub use Rattle.fuse_reports.specs.Ending.{Ending, ends, limit}
 pub use Rattle.fuse_reports.specs.View.{ending_seen}
 pub use Rattle.jedec_file.specs.FileText.{level_char}

@@ -1,15 +1,15 @@
 //! `compare FROM A TO B`.
 
-ghost use Rattle.std.specs.Prelude.{◌≡◌, ◌≤◌, ℕ, IfOk, List, Some, length};
-ghost use Rattle.pair_commands.specs.Prelude.{contents, ending_seen, limit, table_of};
+ghost use Rattle.std.specs.Prelude.{◌≡◌, ◌≤◌, ℕ, IfOk, List, length};
+ghost use Rattle.pair_commands.specs.Prelude.{contents, ending_seen, limit, table_at};
 ghost use Rattle.fuse_reports.specs.FuseFiles.{IsFileOf};
 ghost use Rattle.pair_commands.specs.CompareCommand.{CompareEnds, PairCompareEnds};
-ghost use Rattle.fuse_porting.specs.Pairs.{IsPair, counterpart_of};
+ghost use Rattle.fuse_porting.specs.Pairs.{IsPair};
 
 use crate::differ_line::differ_line;
 use crate::pair_lines::{same_line, unported_line};
-use devices::loaded;
-use fuse_porting::{compare_across, is_counterpart};
+use devices::loaded_at;
+use fuse_porting::{Pair, compare_across, pair_of};
 use fuse_reports::{Ending, Taken, sim_fault_line, take_file};
 use jedec_reader::FuseFile;
 use pld_base::{DeviceName, OutOfMemory};
@@ -39,23 +39,22 @@ fn ending_of<'a, F: Device, T: Device>(
     }
 }
 
-/// How `compare` ends with the bytes of two files, as fuse files of a device and of its counterpart.
+/// How `compare` ends with the bytes of two files, as fuse files of the devices of a pair.
 fn ending_for<'a, F: Device, T: Device>(
     alloc: Global,
-    from: DeviceName,
-    to: DeviceName,
+    pair: Pair,
     a: &[u8],
     b: &[u8],
 ) -> Result<Ending<'a>, OutOfMemory>
-    requires table { table_of from ≡ F.table }
-    requires other_table { table_of to ≡ T.table }
-    requires pair { counterpart_of from ≡ Some to }
+    requires table { table_at pair.from ≡ F.table }
+    requires other_table { table_at pair.to ≡ T.table }
+    requires pair { IsPair F.table T.table }
     requires first { length a.now ≤ limit }
     requires second { length b.now ≤ limit }
     ensures { IfOk result (λ e. PairCompareEnds F.table T.table a.now b.now (ending_seen e)) }
 {
-    let device = loaded::<F>(from);
-    let other = loaded::<T>(to);
+    let device = loaded_at::<F>(pair.from);
+    let other = loaded_at::<T>(pair.to);
     let first = match take_file::<F>(alloc, &device, a)? {
         Taken::File(file) => file,
         Taken::Refused(line) => return Ok(Ending::plain(4, line)),
@@ -79,9 +78,8 @@ pub fn compare_ending<'a>(
     requires second { length b.now ≤ limit }
     ensures { IfOk result (λ e. CompareEnds from to a.now b.now (ending_seen e)) }
 {
-    if is_counterpart(from, to) {
-        ending_for::<Brand, Brand>(alloc, from, to, a, b)
-    } else {
-        Ok(Ending::plain(3, unported_line(alloc, from, to)?))
+    match pair_of(from, to) {
+        Some(pair) => ending_for::<Brand, Brand>(alloc, pair, a, b),
+        None => Ok(Ending::plain(3, unported_line(alloc, from, to)?)),
     }
 }

@@ -1,13 +1,13 @@
 //! `port FROM IN TO OUT`.
 
-ghost use Rattle.std.specs.Prelude.{◌≡◌, ◌≤◌, IfOk, Some, length};
-ghost use Rattle.pair_commands.specs.Prelude.{ending_seen, limit, table_of};
+ghost use Rattle.std.specs.Prelude.{◌≡◌, ◌≤◌, IfOk, length};
+ghost use Rattle.pair_commands.specs.Prelude.{ending_seen, limit, table_at};
 ghost use Rattle.pair_commands.specs.PortCommand.{PairEnds, PortEnds};
-ghost use Rattle.fuse_porting.specs.Pairs.{counterpart_of};
+ghost use Rattle.fuse_porting.specs.Pairs.{IsPair};
 
 use crate::pair_lines::{no_counterpart_line, ported_line, unported_line};
-use devices::loaded;
-use fuse_porting::{PortFault, is_counterpart, ported_file};
+use devices::loaded_at;
+use fuse_porting::{Pair, PortFault, pair_of, ported_file};
 use fuse_reports::{Ending, Output, Taken, take_file};
 use pld_base::{DeviceName, OutOfMemory};
 use pld_device::Device;
@@ -20,23 +20,22 @@ struct Target<'a> {
     name: &'a str,
 }
 
-/// How `port` ends with bytes as a fuse file of a device, for its counterpart.
+/// How `port` ends with bytes as a fuse file of the first device of a pair, for the second.
 fn ending_for<'a, F: Device, T: Device>(
     alloc: Global,
-    from: DeviceName,
-    to: DeviceName,
+    pair: Pair,
     output: Target<'a>,
     bytes: &[u8],
 ) -> Result<Ending<'a>, OutOfMemory>
-    requires table { table_of from ≡ F.table }
-    requires other_table { table_of to ≡ T.table }
-    requires pair { counterpart_of from ≡ Some to }
+    requires table { table_at pair.from ≡ F.table }
+    requires other_table { table_at pair.to ≡ T.table }
+    requires pair { IsPair F.table T.table }
     requires within { length bytes.now ≤ limit }
     ensures { IfOk result
         (λ e. PairEnds F.table T.table output.entry.name.now bytes.now (ending_seen e)) }
 {
-    let device = loaded::<F>(from);
-    let other = loaded::<T>(to);
+    let device = loaded_at::<F>(pair.from);
+    let other = loaded_at::<T>(pair.to);
     let file = match take_file::<F>(alloc, &device, bytes)? {
         Taken::File(file) => file,
         Taken::Refused(line) => return Ok(Ending::plain(4, line)),
@@ -69,9 +68,8 @@ pub fn port_ending<'a>(
     requires { length bytes.now ≤ limit }
     ensures { IfOk result (λ e. PortEnds from to output.now bytes.now (ending_seen e)) }
 {
-    if is_counterpart(from, to) {
-        ending_for::<Brand, Brand>(alloc, from, to, Target { name: output }, bytes)
-    } else {
-        Ok(Ending::plain(3, unported_line(alloc, from, to)?))
+    match pair_of(from, to) {
+        Some(pair) => ending_for::<Brand, Brand>(alloc, pair, Target { name: output }, bytes),
+        None => Ok(Ending::plain(3, unported_line(alloc, from, to)?)),
     }
 }

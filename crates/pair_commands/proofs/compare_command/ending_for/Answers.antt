@@ -2,11 +2,7 @@
 use Rattle.std.proofs.Common.{inr}
 use Rattle.jedec_reader.specs.Contents.{contents}
 use Rattle.pair_commands.specs.CompareCommand.{FirstFile, SecondFile}
-use Rattle.pair_commands.proofs.AtPairs.{pair_of}
 use Rattle.pair_commands.proofs.compare_command.ending_for.Goals as goal
-
-pub ending_of-requires-clause-pair : goal.ending_of-requires-clause-pair
-ending_of-requires-clause-pair g c = pair_of c.args.from c.args.to g.F.Device.table g.T.Device.table c.requires.table c.requires.other_table c.requires.pair
 
 pub returns-in-Refused : goal.returns-in-Refused
 returns-in-Refused g c = inr (inr (c.in-Refused.line.items, FirstFile (rw c.in-Refused.is at c.in_ok-file.ensures), c.plain.ensures))
