@@ -1,6 +1,6 @@
 -- What is reported of a dump (this project's rule).
 use Rattle.std.specs.Prelude.{ℕ, not, if◌then◌else◌, Bool, true, false, List, [], ◌++◌, flat_map, codes}
-use Rattle.form_commands.specs.Prelude.{FileRefusal, Finding, FuseFile, Table, are_alike, array_of, checked_line, decimal, is_some_row_possible, refusal_line, two_sums, wrong_mode_line}
+use Rattle.form_commands.specs.Prelude.{Finding, FuseFile, JedecFault, Table, are_alike, array_of, checked_line, decimal, fault_line, is_some_row_possible, two_sums, wrong_mode_line}
 use Rattle.form_commands.specs.declared.dump.Way.{Way}
 use Rattle.form_commands.specs.declared.dump.Way.TheVariants as way
 use Rattle.fuse_forms.specs.declared.finding.Finding.TheVariants as finding
@@ -42,12 +42,12 @@ dump_report t how file = way_lines how ++ warning_lines t file.fuses ++ checked_
 
 -- ---- refusals
 
--- why bytes are no dump of a device: the binary form has another number of fuses, or of bytes; they are no fuse file; the fuse
--- that a longer file names is 1; or this fuse has another level than the one that the device fixes
+-- why bytes are no dump of a device: the binary form has another number of fuses, or of bytes; they aren't read as a fuse file;
+-- the fuse that a longer file names is 1; or this fuse has another level than the one that the device fixes
 pub data DumpRefusal : Type 0 where
   WrongCount : (count : ℕ) → DumpRefusal
   WrongLength : (read wanted : ℕ) → DumpRefusal
-  NoFile : (refusal : FileRefusal) → DumpRefusal
+  Unread : (fault : JedecFault) → DumpRefusal
   SpareFuse : DumpRefusal
   WrongMode : (fuse : ℕ) → DumpRefusal
 
@@ -64,6 +64,6 @@ spare_fuse_line = codes "error SpareFuse 5892\n"
 abbrev pub dump_refusal_line : (bytes : List ℕ) → DumpRefusal → List ℕ
 dump_refusal_line bytes (WrongCount count) = wrong_count_line count
 dump_refusal_line bytes (WrongLength read wanted) = wrong_length_line read wanted
-dump_refusal_line bytes (NoFile refusal) = refusal_line bytes refusal
+dump_refusal_line bytes (Unread fault) = fault_line bytes fault
 dump_refusal_line bytes SpareFuse = spare_fuse_line
 dump_refusal_line bytes (WrongMode fuse) = wrong_mode_line fuse

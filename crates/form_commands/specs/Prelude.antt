@@ -12,12 +12,13 @@ pub use Rattle.fuse_forms.specs.declared.finding.Finding.{Finding}
 pub use Rattle.fuse_forms.specs.declared.forms.Form.{Form}
 pub use Rattle.fuse_reports.specs.Checking.{checked_line}
 pub use Rattle.fuse_reports.specs.Ending.{Ending, ends, limit, too_long_line}
-pub use Rattle.fuse_reports.specs.FaultText.{two_sums}
-pub use Rattle.fuse_reports.specs.FuseFiles.{FileRefusal, IsBadFile, IsFileOf, IsGoodFile, IsRefusedAs, IsRefusedFile, refusal_line, wrong_mode_line}
+pub use Rattle.fuse_reports.specs.FaultText.{fault_line, two_sums}
+pub use Rattle.fuse_reports.specs.FuseFiles.{IsFileOf, IsGoodFile, IsRefusedFile, IsUnread, wrong_mode_line}
 pub use Rattle.fuse_reports.specs.View.{ending_seen}
 pub use Rattle.jedec_file.specs.FileText.{four_hex}
 pub use Rattle.jedec_file.specs.FuseFile.{FuseFile}
 unfoldable pub use Rattle.jedec_file.specs.FuseFile.{file_of}
+pub use Rattle.jedec_file.specs.declared.jedec_fault.JedecFault.{JedecFault}
 pub use Rattle.jedec_reader.specs.Contents.{contents}
 pub use Rattle.pld_base.specs.Bits.{is_on}
 pub use Rattle.pld_base.specs.DeviceNames.{device_text}

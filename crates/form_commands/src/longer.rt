@@ -1,8 +1,8 @@
 //! Dumps of a GAL22V10 that are fuse files of an ATF22V10C, which has one fuse more.
 
 ghost use Rattle.std.specs.Prelude.{true, false, ◌≡◌, ℕ, Bool, IfOk, IfSome, List, MatchOption, length};
-ghost use Rattle.form_commands.specs.Dumps.{IsDumped, IsRepairedTo, longer_by};
-ghost use Rattle.form_commands.specs.Prelude.{IsBadFile, IsRepairedFile, atf22v10c, contents, gal22v10, is_on, table_of};
+ghost use Rattle.form_commands.specs.Dumps.{IsDumped, IsRepairedTo, IsUnreadable, longer_by};
+ghost use Rattle.form_commands.specs.Prelude.{IsRepairedFile, atf22v10c, contents, gal22v10, is_on, table_of};
 
 use crate::dump::{Dump, Way};
 use crate::dump_lines::spare_fuse_line;
@@ -69,9 +69,9 @@ fn shorter_dump(alloc: Global, found: RepairedFile) -> Result<Dump, OutOfMemory>
     }
 }
 
-/// What bytes that are no fuse file of a GAL22V10 amount to as one with a fuse more; `None` if they aren't one either.
+/// What bytes that aren't read as a fuse file of a GAL22V10 amount to as one with a fuse more; `None` if they aren't one either.
 pub fn longer_dump(alloc: Global, mends: bool, bytes: &[u8]) -> Result<Option<Dump>, OutOfMemory>
-    requires { IsBadFile gal22v10 bytes.now }
+    requires { IsUnreadable gal22v10 bytes.now }
     ensures { IfOk result (λ found. IfSome found (IsDumped gal22v10 mends bytes.now)) }
 {
     let found = repaired_as::<Brand>(alloc, DeviceName::ATF22V10C, mends, bytes)?;

@@ -26,6 +26,7 @@ fn file_ending<'a, D: Device>(
     file: &FuseFile,
     how: &Way,
 ) -> Result<Ending<'a>, OutOfMemory>
+    requires { table_of D.table.name ≡ D.table }
     ensures { (mends : Bool) (bytes : List ℕ)
         → IsDump D.table mends bytes how.now (contents D.table file.now)
         → IfOk result (λ e. ReadEnds D.table mends output.now bytes (ending_seen e)) }
@@ -63,7 +64,7 @@ fn ending_for<'a, D: Device>(
     }
 }
 
-/// The same for each name.
+/// The same for each name; a chip with modes is in the mode that the fuses say.
 pub fn read_ending<'a>(
     alloc: Global,
     device: DeviceName,

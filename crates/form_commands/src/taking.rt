@@ -1,14 +1,15 @@
 //! The fuse file that a dump says, in whatever form.
 
 ghost use Rattle.std.specs.Prelude.{true, false, ◌≡◌, ◌≤◌, IfOk, length};
-ghost use Rattle.form_commands.specs.Dumps.{IsDumped};
-ghost use Rattle.form_commands.specs.Prelude.{IsRefusedFile, gal22v10, is_binary, limit, table_of};
+ghost use Rattle.form_commands.specs.Dumps.{IsDumped, IsUnreadFile};
+ghost use Rattle.form_commands.specs.Prelude.{gal22v10, is_binary, limit, table_of};
 
 use crate::dump::{Dump, Way, in_mode};
 use crate::dump_lines::{wrong_count_line, wrong_length_line};
 use crate::longer::longer_dump;
 use fuse_forms::{BinaryRead, binary_file, is_binary, repaired};
-use fuse_reports::{Taken, take_file};
+use fuse_reports::fault_line;
+use jedec_reader::read;
 use pld_base::{DeviceName, OutOfMemory};
 use pld_device::{Device, Loaded};
 use std::alloc::Global;
@@ -20,7 +21,8 @@ fn binary_dump<D: Device>(
     mends: bool,
     bytes: &[u8],
 ) -> Result<Dump, OutOfMemory>
-    requires { is_binary bytes.now ≡ true }
+    requires own { table_of D.table.name ≡ D.table }
+    requires binary { is_binary bytes.now ≡ true }
     ensures { IfOk result (IsDumped D.table mends bytes.now) }
 {
     let read = binary_file::<D>(alloc, device, bytes)?;
@@ -41,7 +43,7 @@ fn longer_or_refused(
     line: Vec<u8>,
 ) -> Result<Dump, OutOfMemory>
     requires text { is_binary bytes.now ≡ false }
-    requires refused { IsRefusedFile gal22v10 bytes.now line.items }
+    requires unread { IsUnreadFile gal22v10 bytes.now line.items }
     ensures { IfOk result (IsDumped gal22v10 mends bytes.now) }
 {
     let longer = longer_dump(alloc, mends, bytes)?;
@@ -61,7 +63,7 @@ fn unrepaired_dump<D: Device>(
 ) -> Result<Dump, OutOfMemory>
     requires own { table_of D.table.name ≡ D.table }
     requires text { is_binary bytes.now ≡ false }
-    requires refused { IsRefusedFile D.table bytes.now line.items }
+    requires unread { IsUnreadFile D.table bytes.now line.items }
     ensures { IfOk result (IsDumped D.table mends bytes.now) }
 {
     match device.name() {
@@ -70,8 +72,8 @@ fn unrepaired_dump<D: Device>(
     }
 }
 
-/// What bytes amount to that aren't a fuse file as they are, for which this is the line.
-fn refused_dump<D: Device>(
+/// What bytes amount to that aren't read as a fuse file, for which this is the line.
+fn unread_dump<D: Device>(
     alloc: Global,
     device: &Loaded<D>,
     mends: bool,
@@ -80,7 +82,7 @@ fn refused_dump<D: Device>(
 ) -> Result<Dump, OutOfMemory>
     requires own { table_of D.table.name ≡ D.table }
     requires text { is_binary bytes.now ≡ false }
-    requires refused { IsRefusedFile D.table bytes.now line.items }
+    requires unread { IsUnreadFile D.table bytes.now line.items }
     ensures { IfOk result (IsDumped D.table mends bytes.now) }
 {
     let repaired = repaired::<D>(alloc, device, bytes, mends)?;
@@ -102,13 +104,12 @@ fn text_dump<D: Device>(
     requires within { length bytes.now ≤ limit }
     ensures { IfOk result (IsDumped D.table mends bytes.now) }
 {
-    let taken = take_file::<D>(alloc, device, bytes)?;
-    match taken {
-        Taken::File(file) => Ok(Dump::File {
-            file,
-            how: Way::AsFile,
-        }),
-        Taken::Refused(line) => refused_dump::<D>(alloc, device, mends, bytes, line),
+    match read::<D>(alloc, device, bytes) {
+        Ok(file) => in_mode::<D>(alloc, device, file, Way::AsFile),
+        Err(fault) => {
+            let line = fault_line(alloc, bytes, &fault)?;
+            unread_dump::<D>(alloc, device, mends, bytes, line)
+        }
     }
 }
 

@@ -1,17 +1,20 @@
 //! `write DEVICE IN OUT FORM [sign TEXT] [secured]`.
 
 ghost use Rattle.std.specs.Prelude.{◌≡◌, ◌≤◌, ℕ, IfOk, List, length};
-ghost use Rattle.form_commands.specs.Prelude.{IsFileOf, contents, ending_seen, limit, table_of};
+ghost use Rattle.devices.specs.Models.{table_at};
+ghost use Rattle.file_models.specs.FileModels.{file_table};
+ghost use Rattle.form_commands.specs.Prelude.{IsFileOf, contents, ending_seen, limit};
 ghost use Rattle.form_commands.specs.Writing.{IsWanted, WriteEnds, wanted_seen};
 
 use crate::form_lines::{no_form_line, no_signature_line, wrote_line};
 use crate::target::Target;
 use crate::wanted::Wanted;
-use devices::loaded;
+use devices::loaded_at;
+use file_models::model_of;
 use fuse_forms::{in_form, signature_of, signed_file};
 use fuse_reports::{Ending, Output, Taken, take_file};
 use jedec_reader::FuseFile;
-use pld_base::{DeviceName, OutOfMemory};
+use pld_base::{DeviceName, Model, OutOfMemory};
 use pld_device::{Device, Loaded};
 use std::alloc::Global;
 use std::marker::Brand;
@@ -65,20 +68,20 @@ fn signed_ending<'a, D: Device>(
     form_ending::<D>(alloc, device, wanted, output, &file)
 }
 
-/// How `write` ends with bytes as a fuse file of the device of this name.
+/// How `write` ends with bytes as a fuse file of the device of this model.
 fn ending_for<'a, D: Device>(
     alloc: Global,
-    name: DeviceName,
+    model: Model,
     wanted: Wanted<'a>,
     output: Target<'a>,
     bytes: &[u8],
 ) -> Result<Ending<'a>, OutOfMemory>
-    requires table { table_of name ≡ D.table }
+    requires table { table_at model ≡ D.table }
     requires within { length bytes.now ≤ limit }
     ensures { IfOk result (λ e.
         WriteEnds D.table (wanted_seen wanted.entry) output.entry.name.now bytes.now (ending_seen e)) }
 {
-    let device = loaded::<D>(name);
+    let device = loaded_at::<D>(model);
     let taken = take_file::<D>(alloc, &device, bytes)?;
     match taken {
         Taken::File(file) => signed_ending::<D>(alloc, &device, wanted, output.name, &file),
@@ -86,7 +89,7 @@ fn ending_for<'a, D: Device>(
     }
 }
 
-/// The same for each name.
+/// The same for each name, in the mode that the fuses say.
 pub fn write_ending<'a>(
     alloc: Global,
     device: DeviceName,
@@ -95,8 +98,9 @@ pub fn write_ending<'a>(
     bytes: &[u8],
 ) -> Result<Ending<'a>, OutOfMemory>
     requires { length bytes.now ≤ limit }
-    ensures { IfOk result (λ e. WriteEnds (table_of device) (wanted_seen wanted.entry)
+    ensures { IfOk result (λ e. WriteEnds (file_table device bytes.now) (wanted_seen wanted.entry)
         output.now bytes.now (ending_seen e)) }
 {
-    ending_for::<Brand>(alloc, device, wanted, Target { name: output }, bytes)
+    let model = model_of(alloc, device, bytes)?;
+    ending_for::<Brand>(alloc, model, wanted, Target { name: output }, bytes)
 }

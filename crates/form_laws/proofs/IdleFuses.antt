@@ -3,11 +3,13 @@ use Rattle.std.proofs.Common.{◌≡◌, ℕ, zero, suc, ◌+◌, ◌-◌, ◌*�
 use Rattle.std.proofs.lemmas.Bool.{and_parts}
 use Rattle.std.proofs.lemmas.Bool.Decides.{nat_tests}
 use Rattle.std.specs.List.{list_all}
-use Rattle.devices.specs.DeviceLaws.{table_sound}
-use Rattle.devices.specs.Devices.{table_of}
-use Rattle.pld_base.proofs.EachDevice.{each_device}
+use Rattle.devices.specs.Devices.{table_in}
+use Rattle.devices.specs.Models.{mode_by, model_sound, table_at}
+use Rattle.devices.specs.V8Tables.{Mode}
 use Rattle.pld_base.specs.Bits.{is_on, same_level}
 use Rattle.pld_base.specs.declared.device_name.DeviceName.{DeviceName}
+use Rattle.pld_base.specs.declared.device_name.DeviceName.TheVariants as device
+use Rattle.pld_base.specs.declared.model.Model.{Model}
 use Rattle.pld_device.specs.Laws.{IsDevice}
 use Rattle.pld_device.specs.Macrocells.{device_logic}
 use Rattle.pld_device.specs.Registers.{says}
@@ -98,16 +100,21 @@ module _ (text : List ℕ) (first : ℕ) (fuses : List Bool) where
         switches = λ row. switch_same t.row_switches row four.1;
       })
 
--- ---- by device
+-- ---- by model
 
 abbrev is_idle_if_any : Table → Option ℕ → Bool
 is_idle_if_any t None = true
 is_idle_if_any t (Some first) = is_idle t first
 
-each_idle : (name : DeviceName) → is_idle_if_any (table_of name) (signature_of name) ≡ true
-each_idle = each_device (λ name. is_idle_if_any (table_of name) (signature_of name)) refl
+-- no mode has a control fuse in the signature
+each_idle : (name : DeviceName) (mode : Mode) → is_idle_if_any (table_in name mode) (signature_of name) ≡ true
+each_idle device.GAL16V8 mode = refl
+each_idle device.GAL20V8 mode = refl
+each_idle name mode = refl
 
-pub signed_behaves : (device : DeviceName) (first : ℕ) (text : List ℕ) (fuses : List Bool) → signature_of device ≡ Some first → length fuses ≡ (table_of device).fuses
-    → device_logic (table_of device) (signed text first fuses) ≡ device_logic (table_of device) fuses
-signed_behaves device first text fuses is size =
-    signed_logic text first fuses (table_of device) (table_sound device) (subst (λ (o : Option ℕ). is_idle_if_any (table_of device) o ≡ true) is (each_idle device)) size
+pub signed_behaves : (model : Model) (first : ℕ) (text : List ℕ) (fuses : List Bool) → signature_of model.name ≡ Some first → length fuses ≡ (table_at model).fuses
+    → device_logic (table_at model) (signed text first fuses) ≡ device_logic (table_at model) fuses
+signed_behaves model first text fuses is size =
+    let t = table_at model in
+    let idle = each_idle model.name (mode_by model.syn model.ac0 model.set) in
+    signed_logic text first fuses t (model_sound model) (subst (λ (o : Option ℕ). is_idle_if_any t o ≡ true) is idle) size

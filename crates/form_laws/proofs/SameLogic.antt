@@ -18,7 +18,7 @@ use Rattle.pld_device.specs.declared.carry.Carry.{Carry}
 use Rattle.pld_device.specs.declared.carry.Carry.TheVariants as carry
 use Rattle.pld_device.specs.declared.cell.Cell.{Cell}
 use Rattle.pld_device.specs.declared.enable.Enable.{Enable}
-use Rattle.pld_device.specs.declared.enable.Enable.TheVariants.{PinLow, Row}
+use Rattle.pld_device.specs.declared.enable.Enable.TheVariants.{Driven, PinLow, Released, Row}
 
 -- ---- slices
 
@@ -95,6 +95,8 @@ module _ (t : Table) (laws : IsDevice t) (some : 0 < t.rows) (a b : List Bool) (
         by_enable : (e : Enable) → (cell_at t c).enable ≡ e → enabled_by t a at e ≡ enabled_by t b at e
         by_enable (Row row) is = row_same row (enable_in c row is)
         by_enable (PinLow pin) is = refl
+        by_enable Driven is = refl
+        by_enable Released is = refl
 
     level_same : (c : ℕ) → pin_level t a at c ≡ pin_level t b at c
     level_same c = rw (stores_same c, agree.inverted c, or_same c) refl

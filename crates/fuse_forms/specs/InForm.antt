@@ -37,10 +37,12 @@ IsInForm t form.Bin file bytes = IsBinary file.fuses bytes
 
 -- the first fuse of a device's signature
 abbrev pub signature_of : DeviceName → Option ℕ
+signature_of device.GAL16V8 = Some 2056
 signature_of device.GAL16V8C = Some 2056
 signature_of device.GAL16V8R4 = Some 2056
 signature_of device.GAL16V8R6 = Some 2056
 signature_of device.GAL16V8R8 = Some 2056
+signature_of device.GAL20V8 = Some 2568
 signature_of device.GAL22V10 = Some 5828
 signature_of device.ATF22V10C = Some 5828
 signature_of device.GAL18V10 = Some 3476

@@ -144,10 +144,12 @@ pub fn signature_of(device: DeviceName) -> Option<usize>
     ensures { result ≡ signature_of device }
 {
     match device {
-        DeviceName::GAL16V8C
+        DeviceName::GAL16V8
+        | DeviceName::GAL16V8C
         | DeviceName::GAL16V8R4
         | DeviceName::GAL16V8R6
         | DeviceName::GAL16V8R8 => Some(2056),
+        DeviceName::GAL20V8 => Some(2568),
         DeviceName::GAL22V10 | DeviceName::ATF22V10C => Some(5828),
         DeviceName::GAL18V10 => Some(3476),
         _ => None,

@@ -10,3 +10,6 @@ own_table t name is = subst (λ (u : Table). table_of u.name ≡ u) is (ap table
 
 pub dump_of-requires-clause-own : goal.dump_of-requires-clause-own
 dump_of-requires-clause-own g c = own_table g.D.Device.table c.args.name c.requires.table
+
+pub file_ending-requires : goal.file_ending-requires
+file_ending-requires g c = own_table g.D.Device.table c.args.name c.requires.table
