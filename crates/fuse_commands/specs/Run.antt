@@ -1,6 +1,6 @@
 -- A run of the program as a whole (this project's rule).
 use Rattle.std.specs.Prelude.{◌≡◌, ℕ, ◌⊎◌, List, Option, Some, None}
-use Rattle.fuse_commands.specs.Prelude.{Asked, Ending, HasRisen, HasStayed, Heard, Map, Puts, SameBut, SameFiles, TakesFront, Tells, bytes_at, ends, file_fault, memory_line, table_of, too_long_line}
+use Rattle.fuse_commands.specs.Prelude.{Asked, Ending, HasRisen, HasStayed, Heard, Map, Puts, SameBut, SameFiles, TakesFront, Tells, bytes_at, ends, file_fault, memory_line, file_table, table_of, too_long_line}
 use Rattle.fuse_commands.specs.Sources.{HasLongFile, IsInput, second_of}
 use Rattle.fuse_commands.specs.Usage.{other_ending}
 use Rattle.fuse_commands.specs.Words.{Command, Task, CompareFiles, GradeFile, PortFile, ReadDump, VectorFile, WriteForm, command_of}
@@ -15,12 +15,12 @@ use Rattle.vector_report.specs.Vectoring.{VectorsEnd}
 
 -- a task ends so, with the bytes of its files
 abbrev pub Ends : Task → (first second : List ℕ) → Ending → Type 0
-Ends (GradeFile device) first second e = GradeEnds (table_of device) first e
-Ends (VectorFile device most output) first second e = VectorsEnd (table_of device) most first output e
+Ends (GradeFile device) first second e = GradeEnds (file_table device first) first e
+Ends (VectorFile device most output) first second e = VectorsEnd (file_table device first) most first output e
 Ends (PortFile from to output) first second e = PortEnds from to output first e
 Ends (CompareFiles from to) first second e = CompareEnds from to first second e
 Ends (ReadDump device mends output) first second e = ReadEnds (table_of device) mends output first e
-Ends (WriteForm device wanted output) first second e = WriteEnds (table_of device) wanted output first e
+Ends (WriteForm device wanted output) first second e = WriteEnds (file_table device first) wanted output first e
 
 -- ---- whatever the task
 

@@ -19,7 +19,7 @@ use pld_base::OutOfMemory;
 use std::alloc::Global;
 use vector_report::vectors_ending;
 
-/// How a task ends with the bytes of its files, of which the second are none where it reads one.
+/// How a task ends with the bytes of its files, of which the second are empty if it reads one.
 fn ending<'a>(
     alloc: Global,
     task: Task<'a>,

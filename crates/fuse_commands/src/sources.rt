@@ -45,7 +45,7 @@ fn read_source<'a, F: Files>(
     }
 }
 
-/// The bytes of the files of a command, or why one of them was not read. The second are none where it reads one.
+/// The bytes of the files of a command, or why one of them was not read. The second are empty if it reads one.
 pub fn read_files<'a, F: Files>(
     alloc: Global,
     command: Command<'a>,

@@ -1,6 +1,6 @@
 //! The rows: words, what is reported of their run, and the files that they name.
 
-use crate::runs::run_found;
+use crate::runs::runs_found;
 use crate::texts::{lines_of, number_of};
 use std::alloc::{AllocError, Global};
 use test_rows::{Report, Section, unescaped};
@@ -34,12 +34,13 @@ fn is_run_tried(alloc: Global, text: &str, number: usize, report: &mut Report<'_
     ) else {
         return false;
     };
-    report.row(number, &told, &run_found(alloc, words, &input, &second));
+    report.row(number, &told, &runs_found(alloc, words, &input, &second));
     true
 }
 
 /// Tries the blocks of a section. Each is the words, the status, the lines of the report, and `out` with what is under `out` if
-/// it was written, each line with its end as `|`; and below what is under `in`, and after `----` what is under `second`.
+/// it was written, each line with its end as `|`; and below what is under `in`, and after `----` what is under `second`. Of several
+/// runs, parted by `;`, each has its status and its report, and `out` isn't shown: a later run looks into it.
 pub fn try_section(
     alloc: Global,
     section: &Section<'_>,

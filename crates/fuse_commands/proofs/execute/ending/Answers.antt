@@ -9,3 +9,6 @@ returns-in-Read c = rw c.in-Read.is c.read_ending.ensures
 
 pub returns-in-Write : goal.returns-in-Write
 returns-in-Write c = rw c.in-Write.is c.write_ending.ensures
+
+pub returns-in-Port : goal.returns-in-Port
+returns-in-Port c = rw c.in-Port.is c.port_ending.ensures
