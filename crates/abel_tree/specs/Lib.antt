@@ -1,5 +1,6 @@
 pub mod Assigned
 pub mod Entries
+pub mod ExpressionUses
 pub mod Extensions
 pub mod FirstRefusal
 pub mod Ranges
