@@ -4,8 +4,9 @@ source, and how two fuse files of it differ. None of it is the program's own cod
 import re
 from collections import namedtuple
 
-# A cell: the row that enables it, None where a pin does while it is low; its data rows; "c" combinational, "r" a register, "rc" either.
-Cell = namedtuple("Cell", "enable data kinds")
+# A cell: the row that enables it, None where a pin does while it is low; its data rows; "c" combinational, "r" a register, "rc" either;
+# and whether it always drives its pin or never, None where that is for its enable.
+Cell = namedtuple("Cell", "enable data kinds always", defaults=[None])
 
 
 class Device:
@@ -13,15 +14,16 @@ class Device:
 
     Of the cells in their order, `polarity` and `kind` are the fuses that say by 0 that a cell inverts and that it is a register;
     `before` says that a register takes the complement in place of its pin. A row is off while the fuse from `switches` on is 0;
-    `fixed` has the fuses of one level. `enabling` is the pin that enables registers, `unread` one that no source may read.
+    `fixed` has the fuses of one level. `enabling` is the pin that enables registers, `unread` one that no source may read. `mode` is that
+    of a chip that has some, with the pins whose AC1 is 0.
     """
 
     def __init__(self, pins, fuses, pairs, cells, clock=0, enabling=None, reset=None, preset=None, polarity=(), kind=(), before=False,
-                 switches=None, fixed=(), unread=None):
+                 switches=None, fixed=(), unread=None, mode=None):
         self.pins, self.ground, self.fuses, self.pairs, self.cells = pins, pins // 2, fuses, pairs, cells
         self.width, self.clock, self.enabling, self.reset, self.preset = 2 * len(pairs), clock, enabling, reset, preset
         self.polarity, self.kind, self.before = dict(zip(cells, polarity)), dict(zip(cells, kind)), before
-        self.switches, self.fixed, self.unread = switches, dict(fixed), unread
+        self.switches, self.fixed, self.unread, self.mode = switches, dict(fixed), unread, mode
         ends = [cell.data.stop for cell in cells.values()] + [row + 1 for row in (reset, preset) if row is not None]
         self.rows = max(ends)
         # the fuses that a design chooses one by one
@@ -76,6 +78,38 @@ def gal16v8(mode):
     return pal(mode, more=146, polarity=range(2048, 2056), before=True, switches=2128, fixed={**kinds, 2192: int(mode == "L8"), 2193: 1})
 
 
+# Of a chip with modes: its pins, the first cell's pin, the pin that enables registers, and its columns in simple, complex and registered mode.
+CHIPS = {
+    "GAL16V8": (20, 19, 11, {"simple": [2, 1, 3, 19, 4, 18, 5, 17, 6, 14, 7, 13, 8, 12, 9, 11], "complex": L8, "registered": R}),
+    "GAL20V8": (24, 22, 13, {"simple": [2, 1, 3, 23, 4, 22, 5, 21, 6, 20, 7, 17, 8, 16, 9, 15, 10, 14, 11, 13], "complex": L8_24,
+                             "registered": R_24}),
+}
+
+
+def in_mode(name, mode, zeros=()):
+    """A chip in a mode, in which AC1 of these cells is 0: XOR, AC1, PTD, SYN and AC0."""
+    pins, top, enabling, pairs = CHIPS[name]
+    places, first = range(top, top - 8, -1), 128 * len(pairs[mode])
+    cells = blocks(places, 8, zeros if mode == "registered" else ())
+    if mode == "simple":
+        cells = {pin: Cell(None, range(8 * place, 8 * place + 8), "c", pin in zeros) for place, pin in enumerate(places)}
+    kinds = {first + 72 + place: int(pin not in zeros) for place, pin in enumerate(places)}
+    clocked = {"clock": 1, "enabling": enabling} if mode == "registered" else {}
+    return Device(pins, first + 146, pairs[mode], cells, **clocked, polarity=range(first, first + 8), before=True, switches=first + 80,
+                  fixed={**kinds, first + 144: int(mode != "registered"), first + 145: int(mode != "simple")}, mode=(mode, frozenset(zeros)))
+
+
+def device_of(name, fuses):
+    """The device that a file of this name is for: of a chip with modes, in the mode that its fuses say."""
+    if name not in CHIPS:
+        return DEVICES[name]
+    top, first = CHIPS[name][1], DEVICES[name].fuses - 146
+    syn, ac0 = fuses[first + 144 : first + 146]
+    mode = ("complex" if ac0 else "simple") if syn else "registered"
+    zeros = [pin for place, pin in enumerate(range(top, top - 8, -1)) if not fuses[first + 72 + place]]
+    return in_mode(name, mode, () if mode == "complex" else zeros)
+
+
 def gal22v10(more=0, **controls):
     """The GAL22V10, or what has its cells: S0 and S1."""
     cells = either(range(23, 13, -1), [8, 10, 12, 14, 16, 16, 14, 12, 10, 8])
@@ -94,6 +128,7 @@ DEVICES |= {
                        range(3456, 3476, 2), range(3457, 3476, 2)),
     "ATF22V10C": gal22v10(1, fixed={5892: 0}, unread=4),
 }
+DEVICES |= {name: in_mode(name, "complex") for name in CHIPS}
 
 
 class Loop(Exception):
@@ -108,7 +143,7 @@ class Chip:
     """A device with its fuses, a list of 0 and 1."""
 
     def __init__(self, name, fuses):
-        self.name, self.fuses, self.device = name, fuses, DEVICES[name]
+        self.name, self.fuses, self.device = name, fuses, device_of(name, fuses)
         device = self.device
         self.pins, self.ground, self.pairs, self.clock = device.pins, device.ground, device.pairs, device.clock
         self.reset, self.preset = device.reset, device.preset
@@ -137,6 +172,10 @@ class Chip:
         """The row that enables a cell; None where a pin does."""
         return self.device.cells[pin].enable
 
+    def always(self, pin):
+        """Whether a cell always drives its pin, or never; None where that is for its enable."""
+        return self.device.cells[pin].always
+
     def data(self, pin):
         """The data rows of a cell."""
         return self.device.cells[pin].data
@@ -157,7 +196,7 @@ class Chip:
 
     def never_drives(self, pin):
         row = self.enable(pin)
-        return row is not None and self.rows[row] is None
+        return self.always(pin) is False or row is not None and self.rows[row] is None
 
     def cells_read(self, pin, rows):
         return {other for row in rows for other, _ in self.rows[row] or [] if other in self.cells}
@@ -269,6 +308,8 @@ class Rest:
 
     def drives(self, pin):
         row = self.chip.enable(pin)
+        if self.chip.always(pin) is not None:
+            return self.all * self.chip.always(pin)
         return self.turned(self.level(self.chip.device.enabling), True) if row is None else self.once(("drives", pin), self.is_true, row)
 
     def sum(self, pin):
@@ -348,9 +389,25 @@ def differ(a, b):
 # ---- drawn fuses
 
 
-def controls(rng, name, fuses):
-    """Draws the control fuses; all switches are on, and those that the device fixes have their levels."""
+def drawn_mode(rng, name):
+    """A device; one with modes in a random one."""
     device = DEVICES[name]
+    if not device.mode:
+        return device
+    mode = rng.choice(["simple", "complex", "registered"])
+    return in_mode(name, mode, [pin for pin in device.cells if mode != "complex" and rng.random() < 0.5])
+
+
+def replacing(pal, name):
+    """A chip with modes in the place of a PAL."""
+    registers = [pin for pin, cell in DEVICES[pal].cells.items() if cell.kinds == "r"]
+    return in_mode(name, "registered" if registers else "complex", registers)
+
+
+def controls(rng, name, fuses, device=None):
+    """Draws the mode, if there are some and the device isn't given, and the control fuses; all switches are on, and those that the device
+    fixes have their levels."""
+    device = device or drawn_mode(rng, name)
     for fuse in device.controls:
         fuses[fuse] = rng.randrange(2)
     if device.switches is not None:

@@ -2,7 +2,7 @@
 
 from chips import DEVICES
 
-# Of each device: pins that are inputs alone and that a source may read, and pins of cells.
+# Of each device: pins that are inputs alone and that a source may read, and pins of cells; of a chip with modes those of complex mode.
 PINS = {name: ([pin for pin in device.inputs() if pin != device.unread], sorted(device.cells)) for name, device in DEVICES.items()}
 OPERATORS = ["&", "&", "#", "#", "$", "!$", "+", "-", "==", "!=", "<", "<=", ">", ">="]
 SCRAPS = ["(", ")", "[", "]", "{", "}", ";", "=", ":=", "?=", "..", ".D", ".OE", "'", '"', "//", "@IF", "@REPEAT 3",
@@ -23,9 +23,10 @@ class Source:
         self.before = []
 
     def is_register(self, name):
-        """Whether the name is that of a register. Of the cells that may be either those on even pins are."""
-        kinds = DEVICES[self.device].cells[int(name[1:])].kinds if name[0] == "o" else "c"
-        return kinds == "r" or kinds == "rc" and int(name[1:]) % 2 == 0
+        """Whether the name is that of a register. Of the cells that may be either, as all are of a chip with modes, those on even pins are."""
+        device = DEVICES[self.device]
+        kinds = device.cells[int(name[1:])].kinds if name[0] == "o" else "c"
+        return kinds == "r" or name[0] == "o" and (kinds == "rc" or device.mode is not None) and int(name[1:]) % 2 == 0
 
     def is_read(self, name):
         """Whether the name may be read where no loop is wanted: a register, or one that is assigned before."""
